@@ -9,9 +9,6 @@ use Rattle.ink_check.specs.declared.link.Link.TheVariants.{Nothing}
 
 -- ---- a slot more
 
-pub with_nothing : (links : List Link) (slots : List ℕ) → spread links (slots ++ 0 ∷ []) ≡ spread links slots ++ Nothing ∷ []
-with_nothing links slots = map-append (link_in links) slots (0 ∷ [])
-
 module _ (links : List Link) (l : Link) where
   abbrev is_slot : ℕ → Type 0
   is_slot slot = slot ≤ length links

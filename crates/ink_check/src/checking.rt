@@ -27,7 +27,7 @@ use std::alloc::Global;
 /// Accepts a story that was read.
 ///
 /// `BadPath` at the first content, in reading order, whose path does not lead where it has to; `OutOfMemory` at the root for
-/// a refused request for memory, which every story asks for: for the list of its places.
+/// a refused request for memory, which every story makes: for the numbers of its content.
 pub fn check(alloc: Global, raw: RawStory) -> Result<Story, ReadRefusal>
     ensures ok { IfOk result (λ s. accepted (tree raw) ≡ Ok (story_tree s)) }
     ensures err { IfErr result (λ r. (r ≡ here OutOfMemory) ⊎ (accepted (tree raw) ≡ Err r)) }

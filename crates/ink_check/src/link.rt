@@ -17,7 +17,7 @@ pub(crate) enum Link {
     Counts(Spot, NodeId),
     /// A value, and where it leads.
     Pushes(Spot, Shared<Path>),
-    /// There is none, but the variable of this number.
+    /// No path, but a variable, by its number.
     Variable(usize),
 }
 

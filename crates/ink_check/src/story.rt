@@ -56,7 +56,8 @@ impl Story {
     }
 
     /// The container whose visits a content asks for: a count, or a choice that is offered once only; none for other content.
-    /// A choice lands inside that container, unless it is empty. Takes no memory.
+    /// By a name a choice lands on the first content of that container, where it has any; by an index on the container itself.
+    /// Takes no memory.
     pub fn counted(&self, node: NodeId) -> Option<NodeId>
         ensures { option_map (nodes.node_place (story_tree self.now)) result
             ≡ counted_container (story_tree self.now) (nodes.node_place (story_tree self.now) node) }

@@ -1,8 +1,9 @@
 -- Lists of choices, seen one after another.
-use Rattle.std.proofs.Common.{◌≡◌, ◌≢◌, ◌∙◌, ℕ, zero, suc, ◌+◌, ◌<◌, ◌≤◌, Bool, true, false, not, ◌||◌, cond, if◌then◌else◌, List, [], ◌∷◌, ◌++◌, length, map, get_or, take, drop, Option, Some, None, Ok, Err, option_map, ap, sym, refl, append_assoc, add-one, arith, inl, inr}
+use Rattle.std.proofs.Common.{◌≡◌, ◌≢◌, ◌∙◌, ℕ, zero, suc, ◌+◌, ◌<◌, ◌≤◌, Bool, true, false, not, ◌||◌, cond, if◌then◌else◌, List, [], ◌∷◌, ◌++◌, length, map, get_or, slice_get, take, drop, Option, Some, None, Ok, Err, option_map, ap, sym, refl, append_assoc, add-one, arith, inl, inr}
 use Rattle.std.specs.List.{filter, remove}
 use Rattle.std.proofs.lemmas.Bool.{cases_Bool, le-ltb, lt-ltb, not-false, not-true}
 use Rattle.std.proofs.lemmas.List.{drop_more, take_more}
+use Rattle.std.proofs.lemmas.Option.{slice_get-get_or}
 use Rattle.ink_choice.specs.Words.{Adds, FindsIndex, Takes}
 use Rattle.ink_model.specs.Choices.{added, behind, none_visible, shown, shown_choice, taken, taken_of, visible}
 use Rattle.ink_model.specs.Configuration.{ChoiceOf}
@@ -138,7 +139,18 @@ module _ {P : Type 0} where
   pub not_added : (c : ChoiceOf P) (cs new : List (ChoiceOf P)) → length cs < MAX_CHOICES → new ≡ cs → Adds (added c cs) cs new (Err OutOfMemory)
   not_added c cs new h is = rw (lt-ltb (length cs) MAX_CHOICES h) (refl, is)
 
-  -- a call that is refused memory
-  pub took_nothing : (r : Option (ChoiceOf P × List (ChoiceOf P))) (cs new : List (ChoiceOf P)) → new ≡ cs → Takes r cs new (Err OutOfMemory)
-  took_nothing None cs new h = (refl, h)
-  took_nothing (Some r) cs new h = (refl, h)
+  -- a call that is refused memory for the one that is to be taken
+  pub took_nothing : (n i : ℕ) (cs new : List (ChoiceOf P)) (any : Bool) → any ≡ none_visible cs → FindsIndex (λ c. any || not c.hidden) n cs (Some i)
+      → new ≡ cs → Takes (taken n cs) cs new (Err OutOfMemory)
+  took_nothing n i [] new any same found h = absurd (omega (arith, found.0))
+  took_nothing n i (c ∷ cs) new any same found h =
+      let taken_is : taken n (c ∷ cs) ≡ Some (get_or (c ∷ cs) i c, remove (c ∷ cs) i) = ap (λ b. taken_of (λ c. b || not c.hidden) n (c ∷ cs)) (sym same) ∙ found.1 c in
+      rw taken_is (refl, h)
+
+  -- the one at the index is taken
+  pub taken_at : (n i : ℕ) (cs : List (ChoiceOf P)) (any : Bool) → any ≡ none_visible cs → FindsIndex (λ c. any || not c.hidden) n cs (Some i)
+      → option_map (λ r. r.0) (taken n cs) ≡ slice_get cs i
+  taken_at n i [] any same found = absurd (omega (arith, found.0))
+  taken_at n i (c ∷ cs) any same found =
+      ap (λ b. option_map (λ r. r.0) (taken_of (λ c. b || not c.hidden) n (c ∷ cs))) (sym same) ∙ ap (option_map (λ r. r.0)) (found.1 c)
+      ∙ sym (slice_get-get_or (c ∷ cs) i c found.0)

@@ -1,7 +1,6 @@
 -- What is put back of choices, and that there is room for it.
-use Rattle.std.proofs.Common.{◌≡◌, ◌∙◌, ◌≤◌, ◌<◌, ℕ, zero, suc, List, [], ◌∷◌, ◌++◌, Option, Some, None, false, is_some, ap, arith, drop, get_or, length, subst, sym}
+use Rattle.std.proofs.Common.{◌≡◌, ◌∙◌, ◌≤◌, ◌<◌, ℕ, zero, suc, List, [], ◌∷◌, ◌++◌, Option, Some, None, false, is_some, ap, arith, get_or, length, subst, sym}
 use Rattle.std.specs.List.{insert, remove}
-use Rattle.std.proofs.lemmas.List.{drop_all, take_all}
 use Rattle.ink_model.specs.Configuration.{ChoiceOf}
 use Rattle.ink_trail.proofs.Ending.{but_last-snoc}
 use Rattle.ink_trail.proofs.Staying.{stays-more, stays-now, stays-with}
@@ -40,10 +39,6 @@ module _ {P : Type 0} where
   held-unmarked r (Some u) cs none h = absurd (cc)
 
 -- ---- one change
-
--- past the end of a list
-pub insert_past : {A : Type 0} → (xs : List A) (i : ℕ) (x : A) → length xs ≤ i → insert xs i x ≡ xs ++ x ∷ []
-insert_past xs i x h = ap (λ ys. ys ++ x ∷ drop i xs) (take_all i xs h) ∙ ap (λ ys. xs ++ x ∷ ys) (drop_all i xs h)
 
 -- what was taken out at an index
 pub taken_back : {A : Type 0} → (xs : List A) (i : ℕ) (x : A) → i < length xs → x ≡ get_or xs i x → insert (remove xs i) i x ≡ xs

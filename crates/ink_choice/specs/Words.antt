@@ -33,14 +33,15 @@ module _ {P : Type 0} where
   Finds (Err g) vs (Ok found) = ⊥
   Finds (Err g) vs (Err f) = f ≡ g
 
-  -- A call takes what the rule says out of a list, or leaves the list as it is; it may be refused memory, and leaves it so too.
+  -- A call takes what the rule says out of a list, or leaves the list as it is; for what it takes it may be refused memory, and
+  -- leaves the list so too.
   abbrev pub Takes : Option (ChoiceOf P × List (ChoiceOf P)) → List (ChoiceOf P) → List (ChoiceOf P) → Result (Option (ChoiceOf P)) Fault → Type 0
   Takes (Some r) old new (Ok (Some c)) = (c ≡ r.0) × (new ≡ r.1)
   Takes (Some r) old new (Ok None) = ⊥
   Takes None old new (Ok (Some c)) = ⊥
   Takes None old new (Ok None) = new ≡ old
   Takes (Some r) old new (Err f) = (f ≡ OutOfMemory) × (new ≡ old)
-  Takes None old new (Err f) = (f ≡ OutOfMemory) × (new ≡ old)
+  Takes None old new (Err f) = ⊥
 
   -- the index of what is to be taken
   abbrev pub FindsIndex : (ChoiceOf P → Bool) → ℕ → List (ChoiceOf P) → Option ℕ → Type 0

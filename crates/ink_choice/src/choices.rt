@@ -1,6 +1,6 @@
 //! The choices that are offered.
 
-ghost use Rattle.std.specs.Prelude.{◌≡◌, ◌≢◌, ◌≤◌, ◌<◌, ◌+◌, ◌++◌, ◌||◌, [], None, Some, drop, false, is_some, not, length, map, option_map, remove, slice_get, slice_index_or, take, true, unwrap_or, IfOk, OnOk, OnErr};
+ghost use Rattle.std.specs.Prelude.{◌≡◌, ◌≢◌, ◌≤◌, ◌<◌, ◌+◌, ◌++◌, ◌||◌, ◌⊎◌, [], None, Some, drop, false, is_some, not, length, map, option_map, remove, slice_get, slice_index_or, take, true, unwrap_or, IfOk, OnOk, OnErr};
 ghost use Rattle.ink_model.specs.declared.limits.TheConstants.{MAX_CHOICES};
 ghost use Rattle.ink_choice.specs.Undo.{choices_back, choices_spare, choices_stood};
 ghost use Rattle.ink_choice.specs.Words.{Adds, FindsIndex, Takes};
@@ -128,11 +128,12 @@ impl<P: Copy> Choices<P> {
 
     /// Takes a choice out of the list, which is one change of a cell: the n-th visible one, counted from 0, or where none is visible
     /// the n-th. None where there is no such choice, and then nothing has changed. While a mark stands it hands out a copy, and then
-    /// alone there is an error, `OutOfMemory` for a refused request for memory; nothing has changed then (docs/CHOICES.md, "Taking a
-    /// choice").
+    /// alone there is an error, `OutOfMemory` for a refused request for memory, which is made only for a copy that asks for some, and
+    /// where there is no room to note one change more; nothing has changed then (docs/CHOICES.md, "Taking a choice").
     pub fn take(&mut self, number: usize) -> Result<Option<Choice<P>>, Fault>
         ensures items { Takes (rules.taken number self.old.items) self.old.items self.new.items result }
         ensures memory { OnErr result (is_some (choices_stood self.old) ≡ true) }
+        ensures asks { OnErr result ((choices_spare self.old < 1) ⊎ (rules.option_asks (option_map (λ r. r.0) (rules.taken number self.old.items)) ≡ true)) }
         ensures trail { TrailsOrKeeps choices_back 1 self.old.items self.old.trail self.new.items self.new.trail result }
         ensures stood { choices_stood self.new ≡ choices_stood self.old }
         ensures spare { choices_spare self.old ≤ choices_spare self.new + 1 }
@@ -153,6 +154,7 @@ impl<P: Copy> Choices<P> {
         ensures choice { IfOk result (λ choice. choice ≡ slice_index_or self.old.items index choice) }
         ensures items { OnOk result (self.new.items ≡ remove self.old.items index) }
         ensures memory { OnErr result (is_some (choices_stood self.old) ≡ true) }
+        ensures asks { OnErr result ((choices_spare self.old < 1) ⊎ (rules.option_asks (slice_get self.old.items index) ≡ true)) }
         ensures trail { TrailsOrKeeps choices_back 1 self.old.items self.old.trail self.new.items self.new.trail result }
         ensures stood { choices_stood self.new ≡ choices_stood self.old }
         ensures spare { choices_spare self.old ≤ choices_spare self.new + 1 }
@@ -171,6 +173,7 @@ impl<P: Copy> Choices<P> {
         requires { index < length self.old.items }
         ensures choice { IfOk result (λ choice. choice ≡ slice_index_or self.old.items index choice) }
         ensures items { OnOk result (self.new.items ≡ remove self.old.items index) }
+        ensures asks { OnErr result ((choices_spare self.old < 1) ⊎ (rules.option_asks (slice_get self.old.items index) ≡ true)) }
         ensures trail { TrailsOrKeeps choices_back 1 self.old.items self.old.trail self.new.items self.new.trail result }
         ensures stood { choices_stood self.new ≡ choices_stood self.old }
         ensures spare { choices_spare self.old ≤ choices_spare self.new + 1 }

@@ -19,13 +19,14 @@ use std::alloc::{AllocError, Global};
 
 /// What a choice point of these flags makes: it pops the condition, the choice-only text and the start text, each text with the
 /// tags directly below it, where its flags have them. No choice is made where the condition is false, nor where the choice is
-/// offered once only and its target was visited; then all is popped all the same. A choice keeps a copy of the thread that runs.
+/// offered once only and the container that its path leads to was visited; then all is popped all the same. A choice keeps a copy
+/// of the thread that runs.
 ///
 /// `StackEmpty` where a value is missing; `BadOperands` for a condition that is neither true nor false, and for a value that is no
 /// text in the place of one, in the order in which they are popped; `TooDeep` where the text of a choice that is made is longer
-/// than a text may be; `OutOfMemory` for a refused request for memory, which is made only for a choice: for a text that is not
-/// empty, for tags, and for a thread with temporaries or more than one frame, and while the stack has a mark. Each value that is
-/// popped is a change of a cell of the stack. On an error nothing has changed.
+/// than a text may be; `OutOfMemory` for a refused request for memory. One is made for a choice with a text that is not empty, with
+/// tags, or in a thread with temporaries or more than one frame, and while the stack has a mark for room to note what is popped.
+/// Each value that is popped is a change of a cell of the stack. On an error nothing has changed.
 #[inline(always)]
 pub fn make<P: Copy>(
     alloc: Global,

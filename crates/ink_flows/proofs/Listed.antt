@@ -1,6 +1,6 @@
 -- Rows, where there is one at least.
 use Rattle.std.proofs.Common.{◌≡◌, ap, refl, ℕ, List, [], ◌∷◌, ◌++◌, length, map, Bool, false, IsTrue, Option, String, Global, string_bytes}
-use Rattle.ink_model.specs.Flows.{AsideOf, current_name, one_flow}
+use Rattle.ink_model.specs.Flows.{AsideOf}
 use Rattle.ink_model.specs.Named.{names}
 use Rattle.ink_flows.specs.Words.{listed, rows_of}
 use Rattle.ink_flows.specs.declared.flow.Flow.{Flow}
@@ -8,10 +8,6 @@ use Rattle.ink_flows.specs.declared.flow.Flow.{Flow}
 pub listed_more : (es : List (String Global × Option Flow)) (b : Bool) → b ≡ false → (length es ≡ 0 → IsTrue b) → listed (rows_of es) ≡ rows_of es
 listed_more [] b e h = let never = h refl in absurd (cc)
 listed_more (x ∷ es) b e h = refl
-
-pub listed_first : (old new : List (String Global × Option Flow)) (b : Bool) → (IsTrue b → length old ≡ 0) → IsTrue b → rows_of new ≡ one_flow → (listed (rows_of new) ≡ listed (rows_of old)) × (rows_of new ≡ listed (rows_of old))
-listed_first [] new b empty is e = (ap listed e, e)
-listed_first (x ∷ old) new b empty is e = let never = empty is in absurd (cc)
 
 pub names_keys : (es : List (String Global × Option Flow)) → map string_bytes (map (λ e. e.0) es) ≡ names (rows_of es)
 names_keys [] = refl

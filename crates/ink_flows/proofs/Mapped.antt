@@ -1,7 +1,7 @@
 -- Rows of flows, by what each flow stands for.
-use Rattle.std.proofs.Common.{◌≡◌, ◌∙◌, ap, refl, sym, ℕ, suc, List, [], ◌∷◌, ◌++◌, length, Bool, true, false, bytes_eq, is_none, is_some, unwrap_or, option_and_then, if◌then◌else◌, Option, Some, None}
+use Rattle.std.proofs.Common.{◌≡◌, ◌∙◌, ap, refl, sym, ℕ, suc, List, [], ◌∷◌, ◌++◌, length, Bool, true, false, bytes_eq, is_none, is_some, if◌then◌else◌, Option, Some, None}
 use Rattle.std.specs.Option.{option_map}
-use Rattle.ink_model.specs.Flows.{AsideOf, begins_with_default, current_name, filled, flow_named, holes}
+use Rattle.ink_model.specs.Flows.{AsideOf, current_name, filled, holes}
 use Rattle.ink_model.specs.Named.{at, each, names, put, without}
 
 module _ {F G : Type 0} (g : F → G) where
@@ -62,10 +62,6 @@ module _ {F G : Type 0} (g : F → G) where
   pub current_seen : (rows : AsideOf F) → current_name (seen rows) ≡ current_name rows
   current_seen [] = refl
   current_seen (r ∷ rows) = ap (λ b. if b then r.0 else current_name (seen rows)) (hole_seen r.1) ∙ ap (λ n. if is_none r.1 then r.0 else n) (current_seen rows)
-
-  pub begins_seen : (rows : AsideOf F) → begins_with_default (seen rows) ≡ begins_with_default rows
-  begins_seen [] = refl
-  begins_seen (r ∷ rows) = refl
 
   -- at as many names nothing stands
   pub holes_seen : (rows : AsideOf F) → holes (seen rows) ≡ holes rows

@@ -40,8 +40,8 @@ fn has_gap(name: &str) -> bool
         .any(|byte| *byte == b' ' || *byte == b'\n')
 }
 
-/// All flows by name, in order of making. The current one stands elsewhere, and nothing at its name. A contract sees the first
-/// flow also where it is the only one, for which no memory is taken.
+/// The names of all flows, in order of making; at each name but the current one's, the flow. A contract sees the first flow also
+/// where it is the only one, for which no memory is taken.
 #[derive(Drop)]
 pub struct Aside {
     rows: IndexMap<String, Option<Flow>>,

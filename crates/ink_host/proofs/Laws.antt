@@ -192,14 +192,3 @@ module _ {P T W : Type 0} (turn_log : T → List Called) (watch_log : W → List
         functions = functions ∙ uncalled (logs turn_log a.functions);
         watchers = untold (each (λ n w. watch_log w) a.watchers);
       }
-
-  -- A call that happened was made: no function can be left as it was.
-  pub not-uncalled : (a b : DeskView P T W) (name : List ℕ) (t : T) (arguments : List Value) (gave : Option Given) (n : ℕ)
-      → at name a.functions ≡ Some (bound.Turn t) → b.functions ≡ a.functions → Grew turn_log watch_log a (Call name arguments gave n ∷ []) b → ⊥
-  not-uncalled a b name t arguments gave n h same g =
-      let es : List Event = Call name arguments gave n ∷ [] in
-      let kind : Option (Bound P T) → Option (Bound P (List Called)) = option_map (by_log turn_log) in
-      let was : at name (logs turn_log a.functions) ≡ Some (bound.Turn (turn_log t)) = at-each (λ n b. by_log turn_log b) name a.functions ∙ ap kind h in
-      let now : at name (logs turn_log a.functions) ≡ option_map (called es name) (at name (logs turn_log a.functions)) =
-      ap (at name) (ap (logs turn_log) (sym same) ∙ g.functions) ∙ at-each (called es) name (logs turn_log a.functions) in
-      more (turn_log t) name arguments gave n (sym was ∙ now ∙ ap (option_map (called es name)) was)

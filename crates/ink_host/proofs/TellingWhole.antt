@@ -9,15 +9,12 @@ use Rattle.ink_host.specs.declared.objects.Called.{Called}
 use Rattle.ink_model.specs.declared.host.Change.{Change}
 use Rattle.ink_host.specs.Desk.{Rows, DeskView, Grew, called, called_by, each, grown, logs, shown}
 use Rattle.ink_host.specs.Telling.{Watching, log_of, round, standing}
-use Rattle.ink_model.specs.Told.{ToldAs, saws}
+use Rattle.ink_model.specs.Told.{ToldAs}
 use Rattle.ink_host.proofs.TellingLoops.{logs-round, logs-standing, saws-call, tells-numbered}
 
 pub no_items : {X : Type 0} (xs : List X) → length xs ≡ 0 → xs ≡ []
 no_items [] h = refl
 no_items (x ∷ xs) h = absurd (omega arith)
-
-abbrev pub tells-same : (n : ℕ) (cs ds : List Change) (a b : Bool) (es : List Event) → cs ≡ ds → a ≡ b → ToldAs n cs a es → ToldAs n ds b es
-tells-same n cs ds a b es p q t = record { answers = t.answers; one_each = t.one_each ∙ ap length p; events = t.events ∙ ap (λ xs. saws n xs t.answers) p; all_told = sym q ∙ t.all_told }
 
 called-none : {P : Type 0} (es : List Event) → ((n : List ℕ) → called_by n es ≡ []) → (rows : Rows (Bound P (List Called))) → rows ≡ each (called es) rows
 called-none {P} es none [] = refl

@@ -12,7 +12,7 @@ use Rattle.ink_model.specs.declared.fault.ReadRefusal.{ReadRefusal}
 use Rattle.ink_model.specs.declared.place.Part.{Part}
 use Rattle.ink_model.specs.declared.place.Part.TheVariants.{Index, Name}
 use Rattle.ink_json.specs.Reading.{takes_memory, Fails, IsFirst, is_whole, faults_named}
-use Rattle.ink_json.specs.Size.{size, items_size, members_size}
+use Rattle.ink_json.specs.Size.{size, items_size}
 use Rattle.ink_json.proofs.Conditions.{both, not_above}
 
 -- ---- sizes
@@ -24,10 +24,6 @@ size_positive (number n) = omega arith
 size_positive (string s) = omega arith
 size_positive (array ds) = omega arith
 size_positive (object ms) = omega arith
-
-entry_size : (done : List Entry) (e : Entry) (more : List Entry) → size (json_data e.1) ≤ members_size (members_data (done ++ e ∷ more))
-entry_size [] e more = omega arith
-entry_size (f ∷ done) e more = omega (arith, entry_size done e more)
 
 pub last_within : (d last : Data) (ds : Items) → own_after d ds ≡ last → size last ≤ items_size (item d ds)
 last_within d last no_items e = omega (arith, ap size e)

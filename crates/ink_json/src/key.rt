@@ -1,7 +1,8 @@
-//! The order of places.
+//! Parts that are lent, and their order.
 
-ghost use Rattle.std.specs.Prelude.{◌≡◌, IfOk};
+ghost use Rattle.std.specs.Prelude.{◌≡◌, ℕ, IfOk, IsOk};
 ghost use Rattle.ink_json.specs.Order.{part_order, key_part};
+ghost use Rattle.ink_model.specs.declared.place.Part.TheVariants.{Index};
 
 use ink_model::{Part, Text};
 use std::alloc::{AllocError, Global};
@@ -24,9 +25,10 @@ pub fn key_of(part: &Part) -> Key<'_>
     }
 }
 
-/// A part of one's own that is the same. The one error is a refused request for memory.
+/// A part of one's own that is the same. The one error is a refused request for memory, which is made only for a name.
 pub fn part_of(alloc: Global, key: Key<'_>) -> Result<Part, AllocError>
-    ensures { IfOk result (λ part. part ≡ key_part key.entry) }
+    ensures part { IfOk result (λ part. part ≡ key_part key.entry) }
+    ensures index { (i : ℕ) → key_part key.entry ≡ Index i → IsOk result }
 {
     match key {
         Key::Index(index) => Ok(Part::Index(index)),

@@ -178,9 +178,6 @@ module _ (Holds : List Mark → Type 0) (grow : (k ms : List Mark) → Holds k �
   writing_holds : (r : Result Page Fault) (f : Fields) → PageHolds r → EffectHolds (writing r f)
   writing_holds r f k = page_fault_holds r _ k (λ page h. h)
 
-  writing_text_holds : (has : Bool) (r : Result Page Fault) (f : Fields) → PageHolds r → EffectHolds (writing_text has r f)
-  writing_text_holds has r f k = page_fault_holds r _ k (λ page h. h)
-
   popping_holds : (f : Fields) (so : Value → Fields → Effect) → ((v : Value) (left : List Value) → EffectHolds (so v (record f { stack = left }))) → EffectHolds (popping f so)
   popping_holds f so h = else_holds StackEmpty (popped f.stack) _ (λ r. h r.0 r.1)
 

@@ -49,8 +49,8 @@ content_target s p (Some (leaf l)) = leaf_target s p l
 unfoldable pub written_target : StoryTree → List Part → Option (List Part)
 written_target s p = content_target s p (at s p)
 
--- The container whose visits a leaf asks for: a count does, and a choice that is offered once only. Where a choice lands is
--- another place: inside that container, or in it where it is empty.
+-- The container whose visits a leaf asks for: a count does, and a choice that is offered once only. By a name a choice lands
+-- on the first content of that container, where it has any; by an index on the container itself.
 abbrev pub leaf_counted : StoryTree → List Part → Leaf → Option (List Part)
 leaf_counted s p (leaves.Count text) = leads s p text
 leaf_counted s p (leaves.Choice text flags) = if is_once_only flags then leads s p text else None

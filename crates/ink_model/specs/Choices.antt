@@ -85,7 +85,7 @@ choice_text o = trimmed_text (o.start.text ++ o.choice_only.text)
 abbrev pub choice_tags : Operands → List (List ℕ)
 choice_tags o = o.start.tags ++ o.choice_only.tags
 
--- A choice is made, unless its condition is false, or it is offered once only and its target was visited.
+-- A choice is made, unless its condition is false, or it is offered once only and the container that its path leads to was visited.
 abbrev pub is_offered : ℕ → Bool → Bool → Bool
 is_offered flags visited condition = condition && not (is_once_only flags && visited)
 
@@ -129,10 +129,6 @@ module _ {P : Type 0} where
   abbrev pub option_asks : Option (ChoiceOf P) → Bool
   option_asks None = false
   option_asks (Some c) = choice_asks c
-
-  abbrev pub make_asks : Result (Option (ChoiceOf P) × List Value) Fault → Bool
-  make_asks (Ok r) = option_asks r.0
-  make_asks (Err f) = false
 
   -- ---- lists of choices
 

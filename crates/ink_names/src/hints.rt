@@ -1,6 +1,6 @@
 //! Where names are looked for first.
 
-ghost use Rattle.std.specs.Prelude.{◌≡◌, ◌<◌, ℕ, List, [], ◌∷◌, ◌++◌, get_or, length, IfOk, OnOk};
+ghost use Rattle.std.specs.Prelude.{◌≡◌, ◌≤◌, ◌<◌, ◌+◌, ◌*◌, ℕ, List, [], ◌∷◌, ◌++◌, get_or, length, max, IfOk, OnOk, OnErr};
 ghost use Rattle.ink_names.specs.Hints.{Marks, hash, mixed, slot};
 ghost use Rattle.ink_names.specs.Names.{names_of};
 
@@ -11,9 +11,9 @@ use std::marker::Model;
 /// without a division.
 const FEWEST: usize = 512;
 
-/// By a few bytes of a name, one more than the number of the name that was noted with these last; 0 where none was. So a name with
-/// 0 there is no one's, and each other is looked at. However names are chosen, they are found by order at the worst. There are
-/// twice as many slots as names, or more.
+/// A slot is chosen by a few bytes of a name. It holds one more than the number of the name noted there last, or 0. A name whose slot
+/// holds 0 is not there; the name that any other slot leads to is looked at, and where it is another, the name is found by order,
+/// however names are chosen. There are at least twice as many slots as names.
 #[derive(Drop)]
 pub(crate) struct Hints {
     slots: Vec<u32>,
@@ -37,14 +37,17 @@ impl Hints {
         }
     }
 
-    /// Makes slots for one name more than these, where there are too few, and notes them again. The one error is a refused request
-    /// for memory, and leaves all as it was.
+    /// Makes slots for one name more than these, where there are too few, and notes them again: twice as many as before, and 512 at
+    /// least. The one error is a refused request for memory, and leaves all as it was.
     pub(crate) fn make_slots(
         &mut self,
         alloc: Global,
         names: &Vec<String>,
     ) -> Result<(), AllocError>
         ensures slots { OnOk result (0 < length self.new) }
+        ensures enough { OnOk result (2 * length names.now.items ≤ length self.old → 2 * (length names.now.items + 1) ≤ length self.new) }
+        ensures most { length self.new ≤ max (2 * length self.old) 512 }
+        ensures err { OnErr result (self.new ≡ self.old) }
         ensures marks { Marks self.old (names_of names.now.items) → Marks self.new (names_of names.now.items) }
     {
         if names.len() < self.slots.len() / 2 {
@@ -58,7 +61,7 @@ impl Hints {
     // So many slots, with each of these names noted.
     fn of(alloc: Global, names: &Vec<String>, count: usize) -> Result<Hints, AllocError>
         requires { 0 < count }
-        ensures slots { IfOk result (λ hints. 0 < length hints) }
+        ensures slots { IfOk result (λ hints. length hints ≡ count) }
         ensures marks { IfOk result (λ hints. Marks hints (names_of names.now.items)) }
     {
         let mut hints = Hints {

@@ -18,7 +18,7 @@ pub struct Names {
 }
 
 impl Model for Names {
-    ghost use Rattle.std.specs.Prelude.{ℕ, List};
+    ghost use Rattle.std.specs.Prelude.{◌≤◌, ◌*◌, ℕ, List, length};
     ghost use Rattle.ink_names.specs.Hints.{Marks};
     ghost use Rattle.ink_names.specs.Names.{Differ, Finds, names_of};
 
@@ -26,7 +26,7 @@ impl Model for Names {
 
     ghost view = { λ n. names_of n.list.items };
 
-    ghost invariant = { λ n. Differ (names_of n.list.items) × Finds n.numbers (names_of n.list.items) × Marks n.hints (names_of n.list.items) };
+    ghost invariant = { λ n. Differ (names_of n.list.items) × Finds n.numbers (names_of n.list.items) × Marks n.hints (names_of n.list.items) × (2 * length n.list.items ≤ length n.hints) };
 }
 
 impl Names {

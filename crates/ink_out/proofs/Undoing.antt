@@ -141,11 +141,6 @@ pub goes-as : (r s : ℕ) (u v : Option (Undo OutputPair)) (p q : Page) → v �
 goes-as r s u v p q undo same more h =
     subst (λ x. GoesBack s (trail_of v) x) (sym same) (subst (λ (w : Option (Undo OutputPair)). GoesBack s (trail_of w) p) (sym undo) (goes-more r s (trail_of u) p more h))
 
--- while no mark stands
-pub goes-unmarked : (r : ℕ) (u : Option (Undo OutputPair)) (p : Page) → is_some u ≡ false → Held r p → GoesBack r (trail_of u) p
-goes-unmarked r None p none h = h
-goes-unmarked r (Some u) p none h = absurd (cc)
-
 -- ---- a call that failed
 
 pub or_keeps : {A F : Type 0} (r : Result A F) (P : F → Type 0) (n : ℕ) (was is : Page) (old new : TrailView OutputPair) → IsErrAnd r P → is ≡ was → KeepsTrail old new → TrailsOrKeeps output_back n was old is new r

@@ -41,9 +41,6 @@ none_so None h = refl
 none_so (Some x) h = absurd (true≢false (sym h))
 
 module _ (s : StoryTree) (cur : List ℕ) (whole : Rows FlowHere) where
-  pub gathers_none : (rows : AsideOf Flow) → rows ≡ [] → Gathers s cur whole rows None whole
-  gathers_none rows none = record { taken = []; joined = refl; rows_are = ap (aside_of s) none; current_is = refl; each = tt; names = refl }
-
   -- a name stands in the rows exactly where it stands among those that were taken
   stands_so : (name : List ℕ) (rows : AsideOf Flow) (taken : Rows FlowHere) → aside_of s rows ≡ aside_but cur taken → is_none (at name rows) ≡ is_none (at name taken)
   stands_so name rows taken same =

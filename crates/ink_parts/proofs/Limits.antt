@@ -59,9 +59,6 @@ pub record Collects (s : StoryTree) (whole made rest : Values) : Type 0 where
   pub joined : made ++ rest ≡ whole
   pub each : AllByRecursion (RowFits s) made
 
-pub collects_none : (s : StoryTree) (rows : Values) → Collects s rows [] rows
-collects_none s rows = record { joined = refl; each = tt }
-
 put_behind : (made : Values) (e : List ℕ × Value) → is_some (stored e.0 made) ≡ false → store e.0 e.1 made ≡ made ++ e ∷ []
 put_behind [] e h = refl
 put_behind (m ∷ ms) e h = by (bytes_eq e.0 m.0) h (put_behind ms e)

@@ -1,6 +1,6 @@
 -- A list of what is made, element by element.
-use Rattle.std.proofs.Common.{◌≡◌, ◌∙◌, sym, ap, refl, ℕ, ◌+◌, ◌<◌, ◌≤◌, length, List, [], ◌∷◌, ◌++◌, drop, get_or, map, subst, Option, Some, None}
-use Rattle.std.proofs.lemmas.List.{drop_more, drop_all, append-nil}
+use Rattle.std.proofs.Common.{◌≡◌, ◌∙◌, sym, ap, ◌+◌, List, [], ◌∷◌, ◌++◌, map, subst, Option, Some, None}
+use Rattle.std.proofs.lemmas.List.{append-nil}
 use Rattle.std.specs.List.{AllByRecursion}
 use Rattle.ink_parts.specs.Building.{Builds}
 
@@ -23,9 +23,6 @@ module _ {A B : Type 0} (f : A → B) (fits : B → Type 0) where
     pub enough : AllByRecursion fits rest → AllByRecursion fits whole
     pub needed : AllByRecursion fits whole → AllByRecursion fits rest
 
-  pub making_none : (xs : List B) → Making xs [] xs
-  making_none xs = record { joined = refl; enough = λ e. e; needed = λ e. e }
-
   cut : (made : List A) (a : A) (x : B) (rest : List B) → f a ≡ x → map f (made ++ a ∷ []) ++ rest ≡ map f made ++ x ∷ rest
   cut [] a x rest e = ap (λ y. y ∷ rest) e
   cut (m ∷ ms) a x rest e = ap (λ ys. f m ∷ ys) (cut ms a x rest e)
@@ -37,19 +34,8 @@ module _ {A B : Type 0} (f : A → B) (fits : B → Type 0) where
     needed = λ e. (m.needed e).1;
   }
 
-  pub making_more : (whole : List B) (made : List A) (a : A) (i : ℕ) (d : B) → i < length whole → f a ≡ get_or whole i d → fits (get_or whole i d)
-      → Making whole made (drop i whole) → Making whole (made ++ a ∷ []) (drop (i + 1) whole)
-  making_more whole made a i d lt is h m = one_more whole made a (get_or whole i d) (drop (i + 1) whole) is h (rw (drop_more whole i d lt) at m)
-
   refused : (whole : List B) (made : List A) (x : B) (rest : List B) → (fits x → ⊥) → Making whole made (x ∷ rest) → AllByRecursion fits whole → ⊥
   refused whole made x rest never m e = never (m.needed e).0
 
-  pub making_refused : (whole : List B) (made : List A) (i : ℕ) (d : B) → i < length whole → (fits (get_or whole i d) → ⊥)
-      → Making whole made (drop i whole) → AllByRecursion fits whole → ⊥
-  making_refused whole made i d lt never m = refused whole made (get_or whole i d) (drop (i + 1) whole) never (rw (drop_more whole i d lt) at m)
-
   done : (whole : List B) (made : List A) → Making whole made [] → (map f made ≡ whole) × AllByRecursion fits whole
   done whole made m = (sym (append-nil (map f made)) ∙ m.joined, m.enough tt)
-
-  pub making_done : (whole : List B) (made : List A) (i : ℕ) → length whole ≤ i → Making whole made (drop i whole) → (map f made ≡ whole) × AllByRecursion fits whole
-  making_done whole made i le m = done whole made (rw (drop_all i whole le) at m)

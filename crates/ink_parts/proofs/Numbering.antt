@@ -174,9 +174,6 @@ module _ (s : StoryTree) (flag : ℕ → Bool) (least : ℕ) (whole : List (List
     pub counts : AreCounts slots
     pub ended : (length slots ≡ 0) ⊎ EndsIn slots
 
-  pub numbers_none : Numbers [] whole
-  numbers_none = record { joined = refl; each = tt; rise = refl; few = omega arith; counts = tt; ended = inl refl }
-
   each_last : (xs : List (List Part × ℕ)) (r : List Part × ℕ) → AllByRecursion (RowCounts s flag least) xs → RowCounts s flag least r
       → AllByRecursion (RowCounts s flag least) (xs ++ r ∷ [])
   each_last [] r h k = (k, tt)
@@ -210,12 +207,6 @@ module _ (s : StoryTree) (flag : ℕ → Bool) (least : ℕ) (whole : List (List
       → AreCounts new → Numbers old (drop i whole) → Numbers new (drop (i + 1) whole)
   numbers_more old new n c i d lt order own is fits rows len counts h =
       one_more old new n c (get_or whole i d) (drop (i + 1) whole) order own is fits rows len counts (subst (Numbers old) (drop_more whole i d lt) h)
-
-  pub row_refused : (slots : List (Option ℕ)) (i : ℕ) (d : List Part × ℕ) → i < length whole → (RowCounts s flag least (get_or whole i d) → ⊥)
-      → Numbers slots (drop i whole) → RowsCount s flag least whole → ⊥
-  row_refused slots i d lt never h k =
-      let left = subst (Numbers slots) (drop_more whole i d lt) h in
-      never (each_in (rows_at s (rows_from 0 slots)) (get_or whole i d) (drop (i + 1) whole) (subst (AllByRecursion (RowCounts s flag least)) (sym left.joined) k.each))
 
   falls : (slots : List (Option ℕ)) (n c : ℕ) (r : List Part × ℕ) (rest : List (List Part × ℕ)) → NumbersInOrder s → n < length (places s) → n < length slots
       → row_at s (n, c) ≡ r → Numbers slots (r ∷ rest) → rows_rise place_order whole ≡ true → ⊥

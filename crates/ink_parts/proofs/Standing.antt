@@ -5,14 +5,13 @@ use Rattle.std.proofs.lemmas.Bool.Decides.{nat_tests}
 use Rattle.std.proofs.lemmas.List.{length-reverse, length-append, length-map, reverse-append, reverse-reverse}
 use Rattle.std.specs.List.{AllByRecursion, list_all}
 use Rattle.ink_model.specs.Frames.{FrameOf, ThreadOf, map_frame, map_thread}
-use Rattle.ink_model.specs.Rows.{name_order, rows_rise}
 use Rattle.ink_model.specs.Store.{Values}
 use Rattle.ink_model.specs.Tree.{StoryTree}
 use Rattle.ink_model.specs.declared.frame.FrameKind.{FrameKind}
-use Rattle.ink_model.specs.declared.limits.TheConstants.{MAX_FRAMES, MAX_SECTIONS}
+use Rattle.ink_model.specs.declared.limits.TheConstants.{MAX_FRAMES}
 use Rattle.ink_model.specs.declared.place.Part.{Part}
 use Rattle.ink_parts.specs.Building.{Builds, FrameBuilds, ThreadBuilds}
-use Rattle.ink_model.specs.Save.Sound.{AnyPlace, FrameStands, RowFits, SomePlace}
+use Rattle.ink_model.specs.Save.Sound.{AnyPlace, FrameStands, SomePlace}
 use Rattle.ink_stack.proofs.Reversing.{map-reverse}
 use Rattle.ink_stack.proofs.BaseTests.{base_is, based, based_from, based_to}
 use Rattle.ink_stack.specs.Saving.{base_first, is_call, thread_from, thread_with}
@@ -29,27 +28,6 @@ same_list (x ∷ xs) = ap (λ ys. x ∷ ys) (same_list xs)
 abbrev pub frame_with : {P : Type 0} → FrameKind → Option P → Values → Bool → Bool → ℕ → FrameOf P
 frame_with kind place temps evaluating fresh opened =
     record { kind = kind; place = place; temps = temps; evaluating = evaluating; fresh = fresh; depth = opened; enter = None }
-
-pub frame_built : (s : StoryTree) (kind : FrameKind) (at : Option (List Part)) (rows : Values) (evaluating fresh : Bool) (opened : ℕ) (place : Option Spot) (temps : Values)
-    → opened ≤ MAX_SECTIONS → (option_map (place_of s) place ≡ at) × AnyPlace s at → (map (λ r. r) temps ≡ rows) × AllByRecursion (RowFits s) rows
-    → (made : Option (FrameOf Spot)) → made ≡ (if rows_rise name_order temps then Some (frame_with kind place temps evaluating fresh opened) else None)
-    → Builds (map_frame (place_of s)) (FrameBuilds s) (frame_with kind at rows evaluating fresh opened) made
-frame_built s kind at rows evaluating fresh opened place temps few here each made is =
-    let same : temps ≡ rows = sym (same_list temps) ∙ each.0 in
-    subst (λ o. Builds (map_frame (place_of s)) (FrameBuilds s) (frame_with kind at rows evaluating fresh opened) o)
-    (sym (is ∙ ap (λ b. if b then Some (frame_with kind place temps evaluating fresh opened) else None) (ap (rows_rise name_order) same)))
-    (by (rows_rise name_order rows) refl same)
-  where
-    by : (b : Bool) → rows_rise name_order rows ≡ b → temps ≡ rows
-        → Builds (map_frame (place_of s)) (FrameBuilds s) (frame_with kind at rows evaluating fresh opened) (if b then Some (frame_with kind place temps evaluating fresh opened) else None)
-    by true e same = (
-      ap (λ p. frame_with kind p temps evaluating fresh opened) here.0 ∙ ap (λ vs. frame_with kind at vs evaluating fresh opened) same,
-      (record { rise = e; each = each.1; depth = few }, here.1),
-    )
-    by false e same = λ f. absurd (true_is (sym f.0.rise ∙ e))
-      where
-        true_is : true ≡ false → ⊥
-        true_is e = cc
 
 -- ---- a list that is seen from its end
 

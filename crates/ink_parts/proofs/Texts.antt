@@ -33,15 +33,6 @@ abbrev pub all_tokens : {A : Type 0} → (A → Data) → List A → List Token
 all_tokens f xs = flat_map data_tokens (map f xs)
 
 module _ {A : Type 0} (f : A → Data) where
-  pub items_as : (a b : Written) (xs ys : List A) → xs ≡ ys → Added a b (all_tokens f xs) → Added a b (all_tokens f ys)
-  items_as a b xs ys same h = subst (λ zs. Added a b (all_tokens f zs)) same h
-
-  -- one more, which comes last
-  pub item_more : {E : Type 0} (xs : List A) (x : A) (r : Result (Unit {0}) E) (a b c : Written) → Added a b (all_tokens f xs) → OnOk r (Added b c (data_tokens (f x)))
-      → OnOk r (Added a c (all_tokens f (xs ++ x ∷ [])))
-  item_more xs x r a b c before last =
-      subst (λ ts. OnOk r (Added a c ts)) (sym (more_items f xs x)) (finally r a b c (all_tokens f xs) (data_tokens (f x)) before last)
-
   -- the bottom one first
   pub pile_whole : {E : Type 0} (below : List A) (top : A) (r : Result (Unit {0}) E) (a b c d e : Written) → Added a b (token.begin_array ∷ []) → Added b c (all_tokens f below)
       → Added c d (data_tokens (f top)) → OnOk r (Added d e (token.end_array ∷ [])) → OnOk r (Added a e (data_tokens (list_data f (reverse (top ∷ reverse below)))))

@@ -1,12 +1,11 @@
 -- What is restored, whole.
 use Rattle.std.proofs.Common.{◌≡◌, ◌∙◌, sym, ap, refl, subst, ℕ, length, List, [], ◌∷◌, ◌≤◌, Bool, true, false, true≢false, ◌&&◌, bytes_eq, nat_le, if◌then◌else◌, Option, Some, None, is_none, option_map, IfSome, arith}
-use Rattle.std.proofs.lemmas.Bool.{and_from}
 use Rattle.std.proofs.lemmas.List.{length-map}
 use Rattle.std.specs.List.{AllByRecursion}
 use Rattle.ink_flows.specs.Words.{aside_of, flow_of}
 use Rattle.ink_flows.specs.declared.flow.Flow.{Flow}
 use Rattle.ink_model.specs.Configuration.{Configuration, FlowOf, settled, unnumbered_flow}
-use Rattle.ink_model.specs.Flows.{Aside, AsideOf, Game, alone, begins_with_default, holes, one_flow}
+use Rattle.ink_model.specs.Flows.{Aside, AsideOf, Game, alone, holes, one_flow}
 use Rattle.ink_model.specs.Named.{Rows, at, once}
 use Rattle.ink_model.specs.Output.{empty_page}
 use Rattle.ink_model.specs.Save.Reads.{Rests, Stands}
@@ -20,9 +19,9 @@ use Rattle.ink_parts.specs.Gathered.{AllStand, CurrentSound, FlowsFit, NamedSoun
 use Rattle.ink_parts.specs.Parts.{Restores, restored_as, shared_as}
 use Rattle.ink_parts.specs.declared.restoring.AllFlows.{AllFlows}
 use Rattle.ink_parts.specs.declared.restoring.SharedParts.{SharedParts}
-use Rattle.ink_flows.proofs.Mapped.{begins_seen, holes_seen}
+use Rattle.ink_flows.proofs.Mapped.{holes_seen}
 use Rattle.ink_parts.proofs.Joining.{begins_but, once_but, one_hole, same_names}
-use Rattle.ink_parts.proofs.Standing.{both, is_within, within}
+use Rattle.ink_parts.proofs.Standing.{both, within}
 
 abbrev FlowHere : Type 0
 FlowHere = FlowOf (List Part)
@@ -112,22 +111,8 @@ module _ (s : StoryTree) (cur : List ℕ) (xs : Rows FlowHere) where
       let names : once xs ≡ true = sym (once_but cur xs) ∙ h.1.names in
       record { each = each_sound s cur xs (now_sound (at cur xs) refl h.0) names h.1.each; names = names }
 
-  pub stand_begin : AllStand s Found → (first_is_default xs && nat_le (length xs) MAX_FLOWS) ≡ true
-  stand_begin h =
-      and_from (first_is_default xs) (nat_le (length xs) MAX_FLOWS) (sym (begins_but cur xs) ∙ h.1.first)
-      (is_within (length xs) MAX_FLOWS (subst (λ n. n ≤ MAX_FLOWS) (length-map xs _) h.1.few))
-
-  -- too many, or another first
-  pub begin_refused : (first_is_default xs && nat_le (length xs) MAX_FLOWS) ≡ false → AllStand s Found → ⊥
-  begin_refused e h = absurd (true≢false (sym (stand_begin h) ∙ e))
-
   pub gather_refused : (FlowsFit s xs → ⊥) → AllStand s Found → ⊥
   gather_refused never h = never (stand_fit h)
-
-  -- what they begin with
-  pub rows_begin : (rows : AsideOf Flow) → aside_of s rows ≡ aside_but cur xs → (first_is_default xs && nat_le (length xs) MAX_FLOWS) ≡ true → begins_with_default rows ≡ true
-  rows_begin rows same e =
-      sym (begins_seen (flow_of s) rows) ∙ ap begins_with_default same ∙ begins_but cur xs ∙ (both (first_is_default xs) (nat_le (length xs) MAX_FLOWS) e).0
 
   -- nothing stands at one name, where the current one is among them
   pub rows_current : (rows : AsideOf Flow) (current : Option Flow) → (◌≡◌ {A = Aside × Option FlowHere} (aside_of s rows, option_map (flow_of s) current) (aside_but cur xs, at cur xs)) × FlowsFit s xs

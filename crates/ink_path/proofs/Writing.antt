@@ -1,7 +1,8 @@
 -- Components joined by dots, one more at a time.
-use Rattle.std.proofs.Common.{◌≡◌, ℕ, zero, suc, ◌+◌, ◌<◌, ◌≤◌, List, [], ◌∷◌, ◌++◌, length, map, take, get_or, cond, ap, ◌∙◌, sym, refl, arith, append_assoc, append-nil}
-use Rattle.std.proofs.lemmas.List.{take_more, map-append, length-take-le}
+use Rattle.std.proofs.Common.{◌≡◌, ◌≢◌, ℕ, zero, suc, ◌+◌, ◌<◌, ◌≤◌, List, [], ◌∷◌, ◌++◌, length, map, take, get_or, cond, if◌then◌else◌, Bool, true, false, ap, subst, ◌∙◌, sym, refl, arith, append_assoc, append-nil, decimal, ◌^◌}
+use Rattle.std.proofs.lemmas.List.{take_more, map-append, length-map, length-take-le}
 use Rattle.std.proofs.lemmas.Bool.{lt-ltb}
+use Rattle.std.proofs.lemmas.Fmt.{decimal_nonempty}
 use Rattle.ink_model.specs.Path.{part_text}
 use Rattle.ink_model.specs.Bytes.{joined}
 use Rattle.ink_model.specs.declared.place.Part.{Part}
@@ -39,3 +40,36 @@ pub part_written : (ps : List Part) (i : ℕ) (p : Part) (old now dot new : List
     → now ≡ old ++ joined 46 (map part_text (take i ps)) → dot ≡ now ++ dot_before i → new ≡ dot ++ part_text p → new ≡ old ++ joined 46 (map part_text (take (i + 1) ps))
 part_written ps zero p old now dot new h e n d w = first_written ps zero p old now new h e (omega arith) n (w ∙ ap (λ l. l ++ part_text p) (d ∙ append-nil now))
 part_written ps (suc i) p old now dot new h e n d w = next_written ps (suc i) p old now dot new h e (omega arith) n (d ∙ ap (λ b. now ++ cond b (46 ∷ []) []) (lt-ltb 0 (suc i) (omega arith))) w
+
+-- ---- whether anything is written
+
+filled_behind : (x : List ℕ) (y : ℕ) (z : List ℕ) → x ++ y ∷ z ≢ []
+filled_behind [] y z e = absurd (cc)
+filled_behind (c ∷ cs) y z e = absurd (cc)
+
+several_joined : (xs : List (List ℕ)) → 1 < length xs → joined 46 xs ≢ []
+several_joined [] h = absurd (omega arith)
+several_joined (x ∷ []) h = absurd (omega arith)
+several_joined (x ∷ y ∷ xs) h = filled_behind x 46 (joined 46 (y ∷ xs))
+
+-- a dot is written
+pub dots_written : (ps : List Part) (i : ℕ) → i < length ps → 0 < i → joined 46 (map part_text ps) ≢ []
+dots_written ps i h some = several_joined (map part_text ps) (omega (arith, length-map ps part_text))
+
+-- text of a component is written
+pub texts_written : (ps : List Part) (i : ℕ) (p : Part) → i < length ps → p ≡ get_or ps i p → part_text p ≢ [] → joined 46 (map part_text ps) ≢ []
+texts_written (q ∷ []) zero p h is some = subst (λ r. part_text r ≢ []) is some
+texts_written (q ∷ r ∷ qs) i p h is some = filled_behind (part_text q) 46 (joined 46 (map part_text (r ∷ qs)))
+texts_written [] i p h is some = absurd (omega arith)
+texts_written (q ∷ []) (suc i) p h is some = absurd (omega arith)
+
+pub relative_written : (relative : Bool) (text : List ℕ) → relative ≡ true → (if relative then 46 ∷ [] else []) ++ text ≢ []
+relative_written true text h e = absurd (cc)
+relative_written false text h e = absurd (cc)
+
+pub text_written : (relative : Bool) (text : List ℕ) → text ≢ [] → (if relative then 46 ∷ [] else []) ++ text ≢ []
+text_written true text some = filled_behind [] 46 text
+text_written false text some = some
+
+pub index_written : (n : ℕ) → n < 2 ^ 64 → decimal n ≢ []
+index_written n wide e = omega (arith, decimal_nonempty n wide, ap length e)

@@ -1,6 +1,6 @@
 //! Paths as they are written (docs/STORY_FORMAT.md, "Paths").
 
-ghost use Rattle.std.specs.Prelude.{◌≡◌, ◌⊎◌, ◌<◌, length, None, Some, IsSome, is_some, true, ◌++◌, map, IfOk, IfErr, OnOk, string_bytes};
+ghost use Rattle.std.specs.Prelude.{◌≡◌, ◌≢◌, ◌⊎◌, ◌<◌, length, None, Some, IsSome, is_some, true, [], ◌++◌, decimal, map, IfOk, IfErr, OnErr, OnOk, string_bytes};
 ghost use Rattle.std.specs.List.{list_all};
 ghost use Rattle.ink_model.specs.Bytes.{joined, pieces, is_digit, is_dot};
 ghost use Rattle.ink_model.specs.Grammar.{here};
@@ -32,9 +32,10 @@ pub fn read_path(alloc: Global, text: &str) -> Result<Path, ReadRefusal>
 }
 
 /// Writes a path as it is spelled: its components joined by dots, and a dot in front of a relative one. A path that was
-/// read reads the same from what is written. The one error is a refused request for memory.
+/// read reads the same from what is written. The one error is a refused request for memory, which an empty text never makes.
 pub fn print_path(alloc: Global, path: &Path) -> Result<Text, AllocError>
     ensures text { IfOk result (λ text. text ≡ rules.path_text path.now) }
+    ensures memory { OnErr result (rules.path_text path.now ≢ []) }
     ensures reads_back { ReadsBack path.now }
 {
     let mut text = String::new(alloc);
@@ -154,9 +155,10 @@ fn component(alloc: Global, text: &str) -> Result<Part, AllocError>
 
 // ---- writing
 
-// The components, joined by dots.
+// The components, joined by dots. The one error is a refused request for memory, which is never made where nothing is written.
 fn push_parts(alloc: Global, text: &mut String, parts: &[Part]) -> Result<(), AllocError>
-    ensures { OnOk result (string_bytes text.new ≡ string_bytes text.old ++ joined 46 (map rules.part_text parts.now)) }
+    ensures text { OnOk result (string_bytes text.new ≡ string_bytes text.old ++ joined 46 (map rules.part_text parts.now)) }
+    ensures memory { OnErr result (joined 46 (map rules.part_text parts.now) ≢ []) }
 {
     for (index, part) in parts.iter().enumerate() {
         push_dot(text, index)?;
@@ -167,7 +169,8 @@ fn push_parts(alloc: Global, text: &mut String, parts: &[Part]) -> Result<(), Al
 
 // The dot in front of a component, which the first has not.
 fn push_dot(text: &mut String, index: usize) -> Result<(), AllocError>
-    ensures { OnOk result (string_bytes text.new ≡ string_bytes text.old ++ dot_before index) }
+    ensures text { OnOk result (string_bytes text.new ≡ string_bytes text.old ++ dot_before index) }
+    ensures memory { OnErr result (0 < index) }
 {
     if index > 0 {
         text.push('.')?;
@@ -176,13 +179,20 @@ fn push_dot(text: &mut String, index: usize) -> Result<(), AllocError>
 }
 
 fn push_part(alloc: Global, text: &mut String, part: &Part) -> Result<(), AllocError>
-    ensures { OnOk result (string_bytes text.new ≡ string_bytes text.old ++ rules.part_text part.now) }
+    ensures text { OnOk result (string_bytes text.new ≡ string_bytes text.old ++ rules.part_text part.now) }
+    ensures memory { OnErr result (rules.part_text part.now ≢ []) }
 {
     match part {
-        Part::Index(index) => {
-            let digits = index.to_string(alloc)?;
-            text.push_str(digits.as_str())
-        }
+        Part::Index(index) => push_index(alloc, text, *index),
         Part::Name(name) => text.push_str(name.as_str()),
     }
+}
+
+// The digits of an index.
+fn push_index(alloc: Global, text: &mut String, index: u32) -> Result<(), AllocError>
+    ensures text { OnOk result (string_bytes text.new ≡ string_bytes text.old ++ decimal index) }
+    ensures memory { OnErr result (decimal index ≢ []) }
+{
+    let digits = index.to_string(alloc)?;
+    text.push_str(digits.as_str())
 }

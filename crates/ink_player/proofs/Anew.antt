@@ -37,7 +37,7 @@ module _ {P F O : Type 0} (turn_log : F → List Called) (state : O → Watching
       → TellsWatchers {E = Unit {0}} turn_log state p.desk changes changes (Ok all) d1
       → reply ≡ reply_told all (Acts d1.events) d1.events → b ≡ fault_told all None → d ≡ record d1 { events = [] }
       → (es : List Event) × BeginsAnew changes (step.game_of (story_of p) m) es (state_of p) reply (state_of (with_parts p m d b))
-      × DealtOnce turn_log state (told_from (desk_of p) (state_of p) (globals_of (state_of (with_parts p m d b)).condition)) (desk_of p) es d
+      × DealtOnce turn_log state (told_from (desk_of p) (state_of p) (globals_of (state_of (with_parts p m d b)).condition)) (desk_of p) es reply d
   begun-anew d1 d b all reply none tells replies broken taken =
       let leaves = told-state p m d d1 b None all after refl broken taken refl in
       let done = told-done turn_log state changes (condition_by p.broken before) (Ready after) (step.aside_of (story_of p) (step.aside_in m)) (desk_of p) d1 d all reply (state_of (with_parts p m d b))

@@ -14,10 +14,10 @@ use Rattle.ink_host.specs.declared.objects.Called.{Called}
 use Rattle.ink_protocol.specs.Buffered.{Buffered}
 use Rattle.ink_protocol.specs.Input.{Takes}
 use Rattle.ink_protocol.specs.Lines.{TakesLine, GivesLine}
-use Rattle.ink_player.specs.Playing.{IsStoryLine, PlaysOn, EndsEarly, PlayFails, PlayEnds, Plays, play_fault, DealtBy, DealtFor, OpenFails, Opens}
+use Rattle.ink_player.specs.Playing.{IsStoryLine, PlaysOn, EndsEarly, PlayFails, PlayEnds, Plays, play_fault, OpenFails, Opens}
 use Rattle.ink_player.specs.Serving.{RunEnds, Runs}
 use Rattle.ink_protocol.specs.Spelled.{HasRoom}
-use Rattle.ink_player.specs.Words.{PlayerView, state_of, story_of}
+use Rattle.ink_player.specs.Words.{DealtAnew, PlayerView, state_of, story_of}
 use Rattle.ink_player.specs.declared.end.PlayEnd.{PlayEnd}
 use Rattle.ink_player.specs.declared.end.PlayFault.{PlayFault}
 use Rattle.ink_player.specs.declared.end.PlayFault.TheVariants as play
@@ -58,12 +58,6 @@ early bytes bound = record { nothing = refl; bound = bound }
 pub opens_as : {P F O : Type 0} (text line : List ℕ) (r : Result (PlayerView P F O) (PlayEnd P F O)) → text ≡ line → Opens text r → Opens line r
 opens_as text line r e p = subst (λ l. Opens l r) e p
 
-fails_early : (host : Bindings) (left : Option (List ℕ)) (bytes line input : List ℕ) (f : PlayFault) → IsStoryLine left bytes line input → length bytes ≤ MAX_STORY + 1 → OpenFails line f → PlayFails host [] left bytes [] f
-fails_early host left bytes line input (play.Story r) l bound p = (early bytes bound, refl, inl (line, input, l, p))
-fails_early host left bytes line input (play.Start f) l bound p =
-    (early bytes bound, refl, record { tree = p.0; story = record { line = line; input = input; story_line = l; reads = p.1 }; globals = p.2.0; why = p.2.1 })
-fails_early host left bytes line input (play.Run f) l bound p = absurd p
-
 -- a story that ended at its newline, or at the reader's end
 abbrev pub TakesStory : Option (List ℕ) → Option (List ℕ) → Buffered → Buffered → List ℕ → Type 0
 TakesStory a b o n line = TakesLine a b o n (MAX_STORY + 1) (line ++ 10 ∷ []) line × (length line ≤ MAX_STORY)
@@ -78,52 +72,36 @@ all_is a b o n line t = record {
   whole = inr (ap (λ l. line ++ l) t.2 ∙ append-nil line, refl, t.3);
 }
 
--- ---- the desk, where no player was opened
-
-module _ {P F O : Type 0} (turn_log : F → List Called) (state : O → Watching) where
-  left_for : (a b : Option (List ℕ)) (o n : Buffered) (f : RunFault) (d : DeskView P F O) → GivesLine a b o n MAX_STORY (Err f)
-      → DealtFor turn_log state d [] (play_fault f) d
-  left_for a b o n fault.Read d g = inl (refl, (refl, refl))
-  left_for a b o n fault.Write d g = absurd g
-  left_for a b o n fault.TooLong d g = (refl, refl)
-  left_for a b o n fault.OutOfMemory d g = (refl, refl)
-
-  pub left_alone : (a b : Option (List ℕ)) (o n : Buffered) (f : RunFault) (pf : PlayFault) (d : DeskView P F O)
-      → GivesLine a b o n MAX_STORY (Err f) → pf ≡ play_fault f → DealtFor turn_log state d [] pf d
-  left_alone a b o n f pf d g k = subst (λ x. DealtFor turn_log state d [] x d) (sym k) (left_for a b o n f d g)
-
-  left_by : (line : List ℕ) (d e : DeskView P F O) (f : PlayFault) → OpenFails line f → e ≡ d → DealtFor turn_log state d [] f e
-  left_by line d e (play.Story r) p same = (same, refl)
-  left_by line d e (play.Start f) p same = (same, refl)
-  left_by line d e (play.Run f) p same = absurd p
-
-  pub left_unopened : (line : List ℕ) (d : DeskView P F O) (x : PlayEnd P F O) → Opens line (Err x) → x.desk ≡ d
-      → DealtBy turn_log state d [] (Err x)
-  left_unopened line d x p same = left_by line d x.desk x.fault p same
-
-module _ {P F O : Type 0} (host : Bindings) where
+module _ {P F O : Type 0} (turn_log : F → List Called) (state : O → Watching) (host : Bindings) (old : DeskView P F O) where
   -- ---- ends before a session
 
+  fails_early : (left : Option (List ℕ)) (bytes line input : List ℕ) (f : PlayFault) (new : DeskView P F O) → IsStoryLine left bytes line input → length bytes ≤ MAX_STORY + 1
+      → OpenFails line f → new ≡ old → PlayFails turn_log state host old [] left bytes [] f new
+  fails_early left bytes line input (play.Story r) new l bound p same = (early bytes bound, (same, refl), inl (line, input, l, p))
+  fails_early left bytes line input (play.Start f) new l bound p same =
+      (early bytes bound, (same, refl), record { tree = p.0; story = record { line = line; input = input; story_line = l; reads = p.1 }; globals = p.2.0; why = p.2.1 })
+  fails_early left bytes line input (play.Run f) new l bound p same = absurd p
+
   plays_early : (a b h : Option (List ℕ)) (o n : Buffered) (taken : List ℕ) (r : Result (DeskView P F O) (PlayEnd P F O)) → o ≡ fresh → Takes a b o n taken → length (taken ++ n.unread) ≤ MAX_STORY + 1
-      → PlayEnds host [] b (taken ++ n.unread) [] r → Plays host [] a b h h r
+      → PlayEnds turn_log state host old [] b (taken ++ n.unread) [] r → Plays turn_log state host old [] a b h h r
   plays_early a b h o n taken r e t bound p = record {
     bytes = t.got;
     consumed = t.consumed;
     bound = omega (arith, bound, ap length (got_is a b o n taken e t));
     written = [];
     appended = Appends-nil h;
-    ends = subst (λ l. PlayEnds host [] b l [] r) (sym (got_is a b o n taken e t)) p;
+    ends = subst (λ l. PlayEnds turn_log state host old [] b l [] r) (sym (got_is a b o n taken e t)) p;
   }
 
-  no_story_for : (a b h : Option (List ℕ)) (o n : Buffered) (f : RunFault) (d : DeskView P F O) → o ≡ fresh → GivesLine a b o n MAX_STORY (Err f)
-      → Plays host [] a b h h (Err (record { fault = play_fault f; desk = d }))
-  no_story_for a b h o n fault.Read d e g =
+  no_story_for : (a b h : Option (List ℕ)) (o n : Buffered) (f : RunFault) → o ≡ fresh → GivesLine a b o n MAX_STORY (Err f)
+      → Plays turn_log state host old [] a b h h (Err (record { fault = play_fault f; desk = old }))
+  no_story_for a b h o n fault.Read e g =
       let t = g.0.takes in
       let bound = story_bound a b o n g.0.part g.0.part e t in
       plays_early a b h o n g.0.part _ e t.takes bound
-      (inl (early _ bound, refl, refl, ap (λ l. has_newline (g.0.part ++ l)) g.1 ∙ ap has_newline (append-nil g.0.part) ∙ t.plain))
-  no_story_for a b h o n fault.Write d e g = absurd g
-  no_story_for a b h o n fault.TooLong d e g =
+      (inl (early _ bound, (refl, refl), refl, ap (λ l. has_newline (g.0.part ++ l)) g.1 ∙ ap has_newline (append-nil g.0.part) ∙ t.plain))
+  no_story_for a b h o n fault.Write e g = absurd g
+  no_story_for a b h o n fault.TooLong e g =
       let t = g.0.takes in
       let bound = story_bound a b o n g.0.part g.0.part e t in
       let long = elim g.1 as (λ _. (has_newline (g.0.part ++ n.unread) ≡ false) × (MAX_STORY < length (g.0.part ++ n.unread))) [
@@ -133,46 +111,53 @@ module _ {P F O : Type 0} (host : Bindings) where
         | inr q ↦
             let no : ⊥ = omega (arith, q.0, q.1, count_is a b o n g.0.part e t.takes) in absurd no
       ] in
-      plays_early a b h o n g.0.part _ e t.takes bound (early _ bound, refl, inr (inr (refl, long.0, long.1)))
-  no_story_for a b h o n fault.OutOfMemory d e g =
+      plays_early a b h o n g.0.part _ e t.takes bound (early _ bound, (refl, refl), inr (inr (refl, long.0, long.1)))
+  no_story_for a b h o n fault.OutOfMemory e g =
       let none : length o.unread ≡ 0 = ap (λ z. length z.unread) e in
       let bound : length (g.part ++ n.unread) ≤ MAX_STORY + 1 = omega (arith, g.takes.room, none, length-append g.part n.unread) in
       let w = subst (λ m. HasRoom MAX_STORY m (g.part ++ n.unread) (g.part ++ n.unread)) (ap (λ z. z.spare) e) (has_room a b o n MAX_STORY (omega (arith, none)) g) in
-      plays_early a b h o n g.part _ e g.takes.takes bound (early _ bound, refl, inr (inl (refl, w)))
+      plays_early a b h o n g.part _ e g.takes.takes bound (early _ bound, (refl, refl), inr (inl (refl, w)))
 
-  pub no_story : (a b h : Option (List ℕ)) (o n : Buffered) (f : RunFault) (pf : PlayFault) (d : DeskView P F O) → o ≡ fresh → GivesLine a b o n MAX_STORY (Err f) → pf ≡ play_fault f
-      → Plays host [] a b h h (Err (record { fault = pf; desk = d }))
-  no_story a b h o n f pf d e g k =
-      subst (λ x. Plays host [] a b h h (Err (record { fault = x; desk = d }))) (sym k) (no_story_for a b h o n f d e g)
+  pub no_story : (a b h : Option (List ℕ)) (o n : Buffered) (f : RunFault) (pf : PlayFault) → o ≡ fresh → GivesLine a b o n MAX_STORY (Err f) → pf ≡ play_fault f
+      → Plays turn_log state host old [] a b h h (Err (record { fault = pf; desk = old }))
+  no_story a b h o n f pf e g k =
+      subst (λ x. Plays turn_log state host old [] a b h h (Err (record { fault = x; desk = old }))) (sym k) (no_story_for a b h o n f e g)
 
-  pub unopened : (a b h : Option (List ℕ)) (o n : Buffered) (line : List ℕ) (x : PlayEnd P F O) → o ≡ fresh → TakesStory a b o n line → Opens line (Err x) → Plays host [] a b h h (Err x)
-  unopened a b h o n line x e t p =
+  pub unopened : (a b h : Option (List ℕ)) (o n : Buffered) (line : List ℕ) (x : PlayEnd P F O) → o ≡ fresh → TakesStory a b o n line → Opens line (Err x) → x.desk ≡ old
+      → Plays turn_log state host old [] a b h h (Err x)
+  unopened a b h o n line x e t p same =
       let bound = story_bound a b o n (line ++ 10 ∷ []) line e t.0 in
       plays_early a b h o n (line ++ 10 ∷ []) (Err x) e t.0.takes bound
-      (fails_early host b _ line n.unread x.fault (record { plain = t.0.plain; within = t.1; whole = inl (append_assoc line (10 ∷ []) n.unread) }) bound p)
+      (fails_early b _ line n.unread x.fault x.desk (record { plain = t.0.plain; within = t.1; whole = inl (append_assoc line (10 ∷ []) n.unread) }) bound p same)
 
-  pub unopened_last : (a b h : Option (List ℕ)) (o n : Buffered) (line : List ℕ) (x : PlayEnd P F O) → o ≡ fresh → TakesAll a b o n line → Opens line (Err x) → Plays host [] a b h h (Err x)
-  unopened_last a b h o n line x e t p =
+  pub unopened_last : (a b h : Option (List ℕ)) (o n : Buffered) (line : List ℕ) (x : PlayEnd P F O) → o ≡ fresh → TakesAll a b o n line → Opens line (Err x) → x.desk ≡ old
+      → Plays turn_log state host old [] a b h h (Err x)
+  unopened_last a b h o n line x e t p same =
       let bound = story_bound a b o n line line e t.0 in
-      plays_early a b h o n line (Err x) e t.0.takes bound (fails_early host b _ line [] x.fault (all_is a b o n line t) bound p)
+      plays_early a b h o n line (Err x) e t.0.takes bound (fails_early b _ line [] x.fault x.desk (all_is a b o n line t) bound p same)
 
   -- ---- a session after the story
 
   -- there is nothing after it
-  pub plays_last : (a b h : Option (List ℕ)) (o n : Buffered) (line : List ℕ) (p : PlayerView P F O) (d : DeskView P F O) → o ≡ fresh → TakesAll a b o n line → Opens line (Ok p) → Plays host [] a b h h (Ok d)
-  plays_last a b h o n line p d e t opens =
-      plays_early a b h o n line (Ok d) e t.0.takes (story_bound a b o n line line e t.0) (record {
-        tree = story_of p;
-        story = record { line = line; input = []; story_line = all_is a b o n line t; reads = opens.0 };
-        first = opens.1.0;
-        opens = opens.1.1;
-        new = opened opens.1.0;
-        ends = record { at_end = t.3; within = none_within _; each = tt; session = (refl, refl, refl) };
-      })
+  pub plays_last : (a b h : Option (List ℕ)) (o n : Buffered) (line : List ℕ) (p : PlayerView P F O) (d : DeskView P F O) → o ≡ fresh → TakesAll a b o n line → Opens line (Ok p) → DealtAnew turn_log state old [] d
+      → Plays turn_log state host old [] a b h h (Ok d)
+  plays_last a b h o n line p d e t opens dealt =
+      plays_early a b h o n line (Ok d) e t.0.takes (story_bound a b o n line line e t.0) (
+        record {
+          tree = story_of p;
+          story = record { line = line; input = []; story_line = all_is a b o n line t; reads = opens.0 };
+          first = opens.1.0;
+          opens = opens.1.1;
+          new = opened opens.1.0;
+          ends = record { at_end = t.3; within = none_within _; each = tt; session = (refl, refl, refl) };
+        },
+        dealt,
+      )
 
   plays_from : (a b c h j : Option (List ℕ)) (o n : Buffered) (line : List ℕ) (p : PlayerView P F O) (es : List Event) (new : State) (r : Result (Unit {0}) RunFault) (x : Result (DeskView P F O) (PlayEnd P F O))
       → o ≡ fresh → TakesStory a b o n line → Opens line (Ok p) → Runs (story_of p) host es n.spare n.unread b c h j (state_of p) new r
-      → ((bytes written : List ℕ) → PlaysOn host es c bytes written r → PlayEnds host es c bytes written x) → Plays host es a c h j x
+      → ((bytes written : List ℕ) → PlaysOn host es c bytes written r → PlayEnds turn_log state host old es c bytes written x)
+      → Plays turn_log state host old es a c h j x
   plays_from a b c h j o n line p es new r x e t opens q into =
       let got = t.0.takes.got in
       let bytes : got ++ q.bytes ≡ line ++ 10 ∷ (n.unread ++ q.bytes) =
@@ -202,10 +187,13 @@ module _ {P F O : Type 0} (host : Bindings) where
       }
 
   pub plays_on : (a b c h j : Option (List ℕ)) (o n : Buffered) (line : List ℕ) (p : PlayerView P F O) (es : List Event) (new : State) (d : DeskView P F O)
-      → o ≡ fresh → TakesStory a b o n line → Opens line (Ok p) → Runs (story_of p) host es n.spare n.unread b c h j (state_of p) new (Ok tt) → Plays host es a c h j (Ok d)
-  plays_on a b c h j o n line p es new d e t opens q = plays_from a b c h j o n line p es new (Ok tt) (Ok d) e t opens q (λ bytes written y. y)
+      → o ≡ fresh → TakesStory a b o n line → Opens line (Ok p) → Runs (story_of p) host es n.spare n.unread b c h j (state_of p) new (Ok tt)
+      → DealtAnew turn_log state old es d → Plays turn_log state host old es a c h j (Ok d)
+  plays_on a b c h j o n line p es new d e t opens q dealt =
+      plays_from a b c h j o n line p es new (Ok tt) (Ok d) e t opens q (λ bytes written y. (y, dealt))
 
   pub plays_short : (a b c h j : Option (List ℕ)) (o n : Buffered) (line : List ℕ) (p : PlayerView P F O) (es : List Event) (new : State) (f : RunFault) (d : DeskView P F O)
-      → o ≡ fresh → TakesStory a b o n line → Opens line (Ok p) → Runs (story_of p) host es n.spare n.unread b c h j (state_of p) new (Err f) → Plays host es a c h j (Err (record { fault = play.Run f; desk = d }))
-  plays_short a b c h j o n line p es new f d e t opens q =
-      plays_from a b c h j o n line p es new (Err f) (Err (record { fault = play.Run f; desk = d })) e t opens q (λ bytes written y. inr y)
+      → o ≡ fresh → TakesStory a b o n line → Opens line (Ok p) → Runs (story_of p) host es n.spare n.unread b c h j (state_of p) new (Err f)
+      → DealtAnew turn_log state old es d → Plays turn_log state host old es a c h j (Err (record { fault = play.Run f; desk = d }))
+  plays_short a b c h j o n line p es new f d e t opens q dealt =
+      plays_from a b c h j o n line p es new (Err f) (Err (record { fault = play.Run f; desk = d })) e t opens q (λ bytes written y. inr (y, dealt))

@@ -30,7 +30,7 @@ module _ (s : StoryTree) (h : Bindings) (old : State) where
     restart-refused f is k = elim k [
       | inl fails ↦
           inl (subst (λ r. RestartsAs h r [] old (Refuses refusal.OutOfMemory) old) (sym fails) (subst (λ e. FailsToRestart e globals [] old (Refuses refusal.OutOfMemory) old) (sym is) (refl, (refl, refl))))
-      | inr short ↦ inr (short.1, refl, (refl, refl))
+      | inr short ↦ inr (short.1.0, refl, (refl, refl))
     ]
 
     broken_by : (f : Fault) (reply : Reply) (new : State) → f ≢ OutOfMemory → BreaksBy f globals [] [] (record old { aside = one_flow }) reply new → FailsToRestart f globals [] old reply new

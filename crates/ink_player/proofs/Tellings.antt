@@ -1,14 +1,13 @@
 -- What a command comes to that may call or tell the objects of a host.
-use Rattle.std.proofs.Common.{◌≡◌, ◌≢◌, ◌⊎◌, ◌∙◌, ap, sym, refl, subst, inl, inr, cond, ℕ, ℤ, List, [], ◌∷◌, ◌++◌, map, filter, length, Bool, true, false, bytes_eq, ◌&&◌, ◌||◌, if◌then◌else◌, Option, Some, None, IfSome, is_some, Result, Ok, Err, IfOk, OnOk, OnErr, is_ok, MatchBool}
+use Rattle.std.proofs.Common.{◌≡◌, ◌≢◌, ◌⊎◌, ◌∙◌, ap, sym, refl, subst, inl, inr, cond, ℕ, ℤ, List, [], ◌∷◌, ◌++◌, map, filter, Bool, true, false, bytes_eq, ◌&&◌, ◌||◌, if◌then◌else◌, Option, Some, None, IfSome, is_some, Result, Ok, Err, IfOk, OnOk, OnErr, is_ok, MatchBool, append-nil}
 use Rattle.ink_host.specs.Desk.{DeskView, Grew, Resting, Rows, at, bound_by, each, put, watches, without}
 use Rattle.ink_host.specs.declared.objects.Called.{Called}
-use Rattle.ink_host.specs.Telling.{AreRounds, IsRound, Round, Stand, Watching, log_of, rests, round, rounds}
+use Rattle.ink_host.specs.Telling.{AreRounds, IsRound, Round, Watching, log_of, rests, round, rounds}
 use Rattle.ink_host.proofs.Laws.{bound-same, grew-grew, grew-none, watches-same}
-use Rattle.ink_host.proofs.TellingLoops.{stand-round}
 use Rattle.ink_look.specs.Ends.{EndsWith}
 use Rattle.ink_model.specs.Answer.{Reply, Acts, Breaks, Counts, Refuses, Tells, reply_of_visits}
 use Rattle.ink_model.specs.Configuration.{Configuration, can_go_on, settled, with_globals}
-use Rattle.ink_model.specs.Events.{Made, calls}
+use Rattle.ink_model.specs.Events.{Made, calls, later}
 use Rattle.ink_model.specs.Flows.{Aside}
 use Rattle.ink_model.specs.Host.{Bindings, value_given}
 use Rattle.ink_model.specs.Choices.{has_any}
@@ -31,7 +30,7 @@ use Rattle.ink_model.specs.declared.passage.Passage.{Passage}
 use Rattle.ink_model.specs.declared.value.Value.{Value}
 use Rattle.ink_player.specs.Extents.{EndsBy, FallsShortBy, GoesFrom, GoesOn, RunsBy}
 use Rattle.ink_player.specs.Visits.{FindsVisits, TellsVisits}
-use Rattle.ink_player.specs.Words.{Dealt, DealtOnce, PlayerView, TellsOnce, TellsWatchers, aside_seen, bindings, condition_by, desk_of, fault_told, is_empty, state_of, story_of, told_from}
+use Rattle.ink_player.specs.Words.{Dealt, DealtByRun, DealtOnce, PlayerView, TellsOnce, TellsWatchers, all_told, aside_seen, bindings, condition_by, desk_of, fault_told, is_empty, state_of, story_of, told_from}
 use Rattle.ink_player.specs.declared.passages.Extent.{Extent}
 use Rattle.ink_step.specs.declared.machine.Machine.{Machine}
 use Rattle.ink_step.specs.Words.{aside_in, aside_of, config_of}
@@ -84,6 +83,15 @@ pub condition-told : (all : Bool) (c : Configuration) → condition_by (fault_to
 condition-told true c = refl
 condition-told false c = refl
 
+-- and its answer says so
+done-told : (all : Bool) (reply : Reply) (es : List Event) → all_told reply ≡ Some true → all_told (reply_told all reply es) ≡ Some all
+done-told true reply es h = h
+done-told false reply es h = refl
+
+pub other-fault : (f : Fault) (es : List Event) → f ≢ OutOfMemory → all_told (Breaks f es) ≡ None
+other-fault OutOfMemory es other = absurd (other refl)
+other-fault f es other = refl
+
 -- ---- commands over a state
 
 abbrev pub at_stamp : Condition → Aside → ℕ → State
@@ -131,22 +139,7 @@ rounds-rounds : (rs qs : List Round) (rows : Rows Watching) → rounds (rs ++ qs
 rounds-rounds [] qs rows = refl
 rounds-rounds (r ∷ rs) qs rows = rounds-rounds rs qs (round r.next r.changes r.changes r.answers rows)
 
-stand-rounds : (rs : List Round) (rows : Rows Watching) → Stand (λ n. true) true rows → Stand (λ n. true) true (rounds rs rows)
-stand-rounds [] rows h = h
-stand-rounds (r ∷ rs) rows h = stand-rounds rs (round r.next r.changes r.changes r.answers rows) (stand-round r.next r.changes r.changes r.answers rows h)
-
 module _ {O : Type 0} (state : O → Watching) where
-  rest-stand : (rows : Rows O) → Resting (rests state) rows → Stand (λ n. true) true (states state rows)
-  rest-stand [] h = tt
-  rest-stand (r ∷ rows) h = (λ is. h.0, rest-stand rows h.1)
-
-  stand-rest : (rows : Rows O) → Stand (λ n. true) true (states state rows) → Resting (rests state) rows
-  stand-rest [] h = tt
-  stand-rest (r ∷ rows) h = (h.0 refl, stand-rest rows h.1)
-
-  rounds-rest : (rs : List Round) (old new : Rows O) → AreRounds state rs old new → Resting (rests state) old → Resting (rests state) new
-  rounds-rest rs old new is h = stand-rest new (subst (λ rows. Stand (λ n. true) true rows) (sym is) (stand-rounds rs (states state old) (rest-stand old h)))
-
   -- one of them is at rest, and the others without it
   pub rest-at : (name : List ℕ) (rows : Rows O) → Resting (rests state) rows → IfSome (at name rows) (λ w. rests state w ≡ true)
   rest-at name [] h = tt
@@ -173,11 +166,24 @@ module _ {O : Type 0} (state : O → Watching) where
       by false more = (h.0, more)
 
   -- one round, of changes that were to be told, between desks of which one is as another
-  round-as : (cs ds : List Change) (a a' b b' : Rows O) (n : ℕ) (answers : List Bool) → cs ≡ ds → a' ≡ a → b' ≡ b
-      → length answers ≡ length cs → IsRound state n cs cs answers a' b' → TellsOnce state ds a b
-  round-as cs ds a a' b b' n answers e k l one is =
-      subst (λ xs. TellsOnce state xs a b) e
-      (subst (λ r. TellsOnce state cs r b) k (subst (λ r. TellsOnce state cs a' r) l (inr (n, answers, one, is))))
+  round-as : (cs ds : List Change) (a a' b b' : Rows O) (n k : ℕ) (all : Bool) (o : Option Bool) (saw : List Event) → cs ≡ ds → a' ≡ a → b' ≡ b → n ≡ k → o ≡ Some all
+      → TellsOnce state n cs (Some all) saw a' b' → TellsOnce state k ds o saw a b
+  round-as cs ds a a' b b' n k all o saw changes before after stamp found told =
+      subst (λ x. TellsOnce state k ds x saw a b) (sym found)
+      (subst (λ x. TellsOnce state x ds (Some all) saw a b) stamp
+      (subst (λ x. TellsOnce state n x (Some all) saw a b) changes
+      (subst (λ x. TellsOnce state n cs (Some all) saw x b) before
+      (subst (λ x. TellsOnce state n cs (Some all) saw a' x) after told))))
+
+  -- a fault told nobody; that may be one for want of memory
+  quiet-fault : (n : ℕ) (cs : List Change) (a b : Rows O) (f : Fault) (es : List Event) → states state b ≡ states state a
+      → TellsOnce state n cs (all_told (Breaks f es)) [] a b ⊎ ((Breaks f es ≡ Breaks OutOfMemory es) × TellsOnce state n cs None [] a b)
+  quiet-fault n cs a b OutOfMemory es same = inr (refl, (refl, same))
+  quiet-fault n cs a b f es same = inl (refl, same)
+
+  once-rounds : (n : ℕ) (cs : List Change) (o : Option Bool) (saw : List Event) (a b : Rows O) → TellsOnce state n cs o saw a b → (rs : List Round) × AreRounds state rs a b
+  once-rounds n cs (Some all) saw a b h = (record { next = n; changes = cs; answers = h.0.answers; one_each = h.0.one_each } ∷ [], h.1)
+  once-rounds n cs None saw a b h = ([], h.1)
 
 -- ---- between a player and its host
 
@@ -198,11 +204,21 @@ module _ {P F O : Type 0} (turn_log : F → List Called) (state : O → Watching
   pub dealt-none : (a : DeskView P F O) → Dealt turn_log state a [] a
   dealt-none a = (grown-none a, ([], refl))
 
-  pub once-none : (cs : List Change) (a : DeskView P F O) → DealtOnce turn_log state cs a [] a
-  once-none cs a = (grown-none a, inl refl)
+  -- nobody was told, whatever there was to tell
+  abbrev Untold : DeskView P F O → DeskView P F O → Type 0
+  Untold a b = Grew turn_log (log_of state) a [] (record b { events = a.events ++ [] }) × TellsOnce state a.next [] None [] a.watchers b.watchers
 
-  pub once-quiet : (cs : List Change) (a b : DeskView P F O) → b ≡ record a { events = [] } → DealtOnce turn_log state cs a [] b
-  once-quiet cs a b is = (grown-to a a b [] (grew-none turn_log (log_of state) a) is, inl (ap (λ d. states state d.watchers) is))
+  pub once-none : (a : DeskView P F O) → Untold a a
+  once-none a = (grown-none a, (refl, refl))
+
+  pub once-quiet : (cs : List Change) (a b : DeskView P F O) (reply : Reply) → all_told reply ≡ None → b ≡ record a { events = [] } → DealtOnce turn_log state cs a [] reply b
+  once-quiet cs a b reply quiet is = (
+    grown-to a a b [] (grew-none turn_log (log_of state) a) is,
+    subst (λ o. TellsOnce state a.next cs o [] a.watchers b.watchers) (sym quiet) (refl, ap (λ d. states state d.watchers) is),
+  )
+
+  pub run-none : (cs : List Change) (a : DeskView P F O) (r : Refusal) → DealtByRun turn_log state cs a [] (Refuses r) a
+  run-none cs a r = record { grew = grown-none a; made = []; saw = []; events = refl; tells = inl (refl, refl) }
 
   -- first these events, then those
   pub dealt-dealt : (a b c : DeskView P F O) (es fs : List Event)
@@ -221,15 +237,18 @@ module _ {P F O : Type 0} (turn_log : F → List Called) (state : O → Watching
   dealt-kept a b e = subst (λ x. Dealt turn_log state a [] x) (sym e) (dealt-none a)
 
   -- what one command does
-  pub dealt-once : (cs : List Change) (a b : DeskView P F O) (es : List Event) → DealtOnce turn_log state cs a es b → Dealt turn_log state a es b
-  dealt-once cs a b es h = elim h.1 [
-    | inl same ↦ (h.0, ([], same))
-    | inr r ↦ (h.0, (record { next = r.0; changes = cs; answers = r.1; one_each = r.2 } ∷ [], r.3))
-  ]
+  pub dealt-once : (cs : List Change) (a b : DeskView P F O) (es : List Event) (reply : Reply) → DealtOnce turn_log state cs a es reply b → Dealt turn_log state a es b
+  dealt-once cs a b es reply h = (h.0, once-rounds state a.next cs (all_told reply) es a.watchers b.watchers h.1)
 
-  -- those at rest are at rest afterwards
-  pub dealt-rest : (a b : DeskView P F O) (es : List Event) → Dealt turn_log state a es b → Resting (rests state) a.watchers → Resting (rests state) b.watchers
-  dealt-rest a b es h = rounds-rest state h.1.0 a.watchers b.watchers h.1.1
+  pub dealt-run : (cs : List Change) (a b : DeskView P F O) (es : List Event) (reply : Reply) → DealtByRun turn_log state cs a es reply b → Dealt turn_log state a es b
+  dealt-run cs a b es reply h =
+      let n = later a.next (calls a.next h.made) in (
+        h.grew,
+        elim h.tells [
+          | inl told ↦ once-rounds state n cs (all_told reply) h.saw a.watchers b.watchers told
+          | inr untold ↦ once-rounds state n cs None h.saw a.watchers b.watchers untold.1
+        ],
+      )
 
   -- between desks that are the same
   pub dealt-as : (a a' b b' : DeskView P F O) (es : List Event) → a' ≡ a → b' ≡ b → Dealt turn_log state a' es b' → Dealt turn_log state a es b
@@ -281,7 +300,7 @@ module _ {P F O : Type 0} (turn_log : F → List Called) (state : O → Watching
 
     abbrev Comes : Reply → State → DeskView P F O → Type 0
     Comes reply new d = (es : List Event) × GoesOn x tree host es (state_of p) reply new
-        × DealtOnce turn_log state (told_from (desk_of p) (state_of p) (globals_of new.condition)) (desk_of p) es d
+        × DealtByRun turn_log state (told_from (desk_of p) (state_of p) (globals_of new.condition)) (desk_of p) es reply d
 
     abbrev Ran : Result Passage Fault → Type 0
     Ran result = RunsBy passage passage_asks x tree host.functions before made after result
@@ -339,10 +358,14 @@ module _ {P F O : Type 0} (turn_log : F → List Called) (state : O → Watching
               }),
             ),
           ),
-          (
-            grown-to (desk_of p) d2 d es both is,
-            round-as state _ _ (desk_of p).watchers d1.watchers d.watchers d2.watchers d1.next t.1.answers changes watching (sym (ap (λ x. x.watchers) is)) t.1.one_each t.2,
-          ),
+          record {
+            grew = grown-to (desk_of p) d2 d es both is;
+            made = made;
+            saw = t.0;
+            events = refl;
+            tells = inl (round-as state _ _ (desk_of p).watchers d1.watchers d.watchers d2.watchers d1.next (later (desk_of p).next first) all (all_told reply) t.0 changes watching (sym (ap (λ x. x.watchers) is)) called.next
+                (ap all_told replies ∙ done-told all (telling_of passed d2.events) d2.events refl) (t.1, t.2));
+          },
         )
 
     -- a fault broke the player, and nobody was told
@@ -351,13 +374,21 @@ module _ {P F O : Type 0} (turn_log : F → List Called) (state : O → Watching
         → Comes reply (state_of q) (desk_of q)
     breaks f q reply replies is runs =
         let events : d1.events ≡ first = called.events ∙ ap (λ l. l ++ first) none in
-        let by = runs (refl, replies ∙ ap (λ l. Breaks f l) events, ap (λ x. state_of x) is ∙ keeps (Broken f after.shared.globals) d1.next ∙ ap (at_stamp (Broken f after.shared.globals) aside) called.next) in (
+        let answer : reply ≡ Breaks f first = replies ∙ ap (λ l. Breaks f l) events in
+        let n = later (desk_of p).next first in
+        let quiet = λ (cs : List Change) (rows : Rows O) (same : states state rows ≡ states state (desk_of p).watchers).
+        subst (λ r. TellsOnce state n cs (all_told r) [] (desk_of p).watchers rows ⊎ ((r ≡ Breaks OutOfMemory first) × TellsOnce state n cs None [] (desk_of p).watchers rows)) (sym answer)
+        (quiet-fault state n cs (desk_of p).watchers rows f first same) in
+        let by = runs (refl, answer, ap (λ x. state_of x) is ∙ keeps (Broken f after.shared.globals) d1.next ∙ ap (at_stamp (Broken f after.shared.globals) aside) called.next) in (
           first,
           goes-where tree host p.broken before aside (desk_of p).next x first reply (state_of q) true free goes (made, by),
-          (
-            grown-to (desk_of p) d1 (desk_of q) first called (ap (λ x. desk_of x) is),
-            inl (ap (λ x. states state (desk_of x).watchers) is ∙ ap (states state) watching),
-          ),
+          record {
+            grew = grown-to (desk_of p) d1 (desk_of q) first called (ap (λ x. desk_of x) is);
+            made = made;
+            saw = [];
+            events = sym (append-nil first);
+            tells = quiet _ (desk_of q).watchers (ap (λ x. states state (desk_of x).watchers) is ∙ ap (states state) watching);
+          },
         )
 
     -- what a broken player comes to, where its run ends so
@@ -402,7 +433,7 @@ module _ {P F O : Type 0} (turn_log : F → List Called) (state : O → Watching
   pub told-done : (cs : List Change) (c0 done : Condition) (a : Aside) (d0 d1 d : DeskView P F O) (all : Bool) (reply : Reply) (new : State) → d0.events ≡ []
       → (saw : List Event) × (t : ToldAs d0.next cs all saw) × IsRound state d0.next cs cs t.answers d0.watchers d1.watchers × Grew turn_log (log_of state) d0 saw d1
       → reply ≡ reply_told all (Acts d1.events) d1.events → new ≡ at_stamp (condition_told all done) a d1.next → d ≡ record d1 { events = [] }
-      → (ds : List Change) → cs ≡ ds → (es : List Event) × TellsDone cs done Acts [] es (at_stamp c0 a d0.next) reply new × DealtOnce turn_log state ds d0 es d
+      → (ds : List Change) → cs ≡ ds → (es : List Event) × TellsDone cs done Acts [] es (at_stamp c0 a d0.next) reply new × DealtOnce turn_log state ds d0 es reply d
   told-done cs c0 done a d0 d1 d all reply new none t replies leaves is ds same =
       let events : d1.events ≡ t.0 = t.3.events ∙ ap (λ l. l ++ t.0) none in (
         t.0,
@@ -416,15 +447,16 @@ module _ {P F O : Type 0} (turn_log : F → List Called) (state : O → Watching
         },
         (
           grown-to d0 d1 d t.0 t.3 is,
-          round-as state cs ds d0.watchers d0.watchers d.watchers d1.watchers d0.next t.1.answers same refl (sym (ap (λ x. x.watchers) is)) t.1.one_each t.2,
+          round-as state cs ds d0.watchers d0.watchers d.watchers d1.watchers d0.next d0.next all (all_told reply) t.0 same refl (sym (ap (λ x. x.watchers) is)) refl
+              (ap all_told replies ∙ done-told all (Acts d1.events) d1.events refl) (t.1, t.2),
         ),
       )
 
   -- nothing has changed, for want of memory
-  pub tells-kept : {X : List Event → Type 0} (cs ds : List Change) (c0 : Condition) (a : Aside) (d0 d1 : DeskView P F O) → cs ≢ [] → d1 ≡ d0
-      → (es : List Event) × (X es ⊎ ((cs ≢ []) × (es ≡ []) × FailsAllocation (at_stamp c0 a d0.next) (Refuses refusal.OutOfMemory) (at_stamp c0 a d1.next))) × DealtOnce turn_log state ds d0 es d1
-  tells-kept cs ds c0 a d0 d1 some same =
-      ([], inr (some, refl, (refl, ap (λ d. at_stamp c0 a d.next) same)), subst (λ x. DealtOnce turn_log state ds d0 [] x) (sym same) (once-none ds d0))
+  pub tells-kept : {X : List Event → Type 0} (cs : List Change) (c0 : Condition) (a : Aside) (d0 d1 : DeskView P F O) → cs ≢ [] → d1 ≡ d0
+      → (es : List Event) × (X es ⊎ ((cs ≢ []) × (es ≡ []) × FailsAllocation (at_stamp c0 a d0.next) (Refuses refusal.OutOfMemory) (at_stamp c0 a d1.next))) × DealtOnce turn_log state cs d0 es (Refuses refusal.OutOfMemory) d1
+  tells-kept cs c0 a d0 d1 some same =
+      ([], inr (some, refl, (refl, ap (λ d. at_stamp c0 a d.next) same)), subst (λ x. Untold d0 x) (sym same) (once-none d0))
 
 -- ---- a global that is set
 

@@ -76,23 +76,32 @@ pub record IsUnopened (left : Option (List ℕ)) (bytes : List ℕ) (f : Fault) 
   pub globals : Values
   pub why : FailsToOpen tree f globals
 
-abbrev pub PlayFails : Bindings → List Event → Option (List ℕ) → List ℕ → List ℕ → PlayFault → Type 0
-PlayFails h es left bytes written (play.Story r) = EndsEarly bytes written × (es ≡ []) × IsStoryRefused left bytes r
-PlayFails h es left bytes written (play.Start f) = EndsEarly bytes written × (es ≡ []) × IsUnopened left bytes f
-PlayFails h es left bytes written (play.Run f) = (EndsEarly bytes written × (es ≡ []) × (f ≡ fault.Read) × (has_newline bytes ≡ false)) ⊎ PlaysOn h es left bytes written (Err f)
+-- no player was opened: nothing happened, and the desk is as it was
+abbrev pub LeftAlone : {P F O : Type 0} → DeskView P F O → List Event → DeskView P F O → Type 0
+LeftAlone old es new = (new ≡ old) × (es ≡ [])
 
-abbrev pub PlayEnds : {P F O : Type 0} → Bindings → List Event → Option (List ℕ) → List ℕ → List ℕ → Result (DeskView P F O) (PlayEnd P F O) → Type 0
-PlayEnds h es left bytes written (Ok desk) = PlaysOn h es left bytes written (Ok tt)
-PlayEnds h es left bytes written (Err e) = PlayFails h es left bytes written e.fault
+module _ {P F O : Type 0} (turn_log : F → List Called) (state : O → Watching) (h : Bindings) (old : DeskView P F O) where
+  -- Why a play failed, and what became of its desk: a story that is refused or cannot be opened leaves it alone, and so does a
+  -- reader that fails within the story; else a player had it.
+  abbrev pub PlayFails : List Event → Option (List ℕ) → List ℕ → List ℕ → PlayFault → DeskView P F O → Type 0
+  PlayFails es left bytes written (play.Story r) new = EndsEarly bytes written × LeftAlone old es new × IsStoryRefused left bytes r
+  PlayFails es left bytes written (play.Start f) new = EndsEarly bytes written × LeftAlone old es new × IsUnopened left bytes f
+  PlayFails es left bytes written (play.Run f) new =
+      (EndsEarly bytes written × LeftAlone old es new × (f ≡ fault.Read) × (has_newline bytes ≡ false))
+      ⊎ (PlaysOn h es left bytes written (Err f) × DealtAnew turn_log state old es new)
 
--- Which bytes were read, not more than one beyond those that an input may have, what was written, and how it ended.
-pub record Plays {P F O : Type 0} (h : Bindings) (es : List Event) (left left' held held' : Option (List ℕ)) (result : Result (DeskView P F O) (PlayEnd P F O)) : Type 0 where
-  pub bytes : List ℕ
-  pub consumed : Consumes left left' bytes
-  pub bound : length bytes ≤ MAX_INPUT + 1
-  pub written : List ℕ
-  pub appended : Appends held held' written
-  pub ends : PlayEnds h es left' bytes written result
+  abbrev pub PlayEnds : List Event → Option (List ℕ) → List ℕ → List ℕ → Result (DeskView P F O) (PlayEnd P F O) → Type 0
+  PlayEnds es left bytes written (Ok new) = PlaysOn h es left bytes written (Ok tt) × DealtAnew turn_log state old es new
+  PlayEnds es left bytes written (Err e) = PlayFails es left bytes written e.fault e.desk
+
+  -- Which bytes were read, not more than one beyond those that an input may have, what was written, and how it ended.
+  pub record Plays (es : List Event) (left left' held held' : Option (List ℕ)) (result : Result (DeskView P F O) (PlayEnd P F O)) : Type 0 where
+    pub bytes : List ℕ
+    pub consumed : Consumes left left' bytes
+    pub bound : length bytes ≤ MAX_INPUT + 1
+    pub written : List ℕ
+    pub appended : Appends held held' written
+    pub ends : PlayEnds es left' bytes written result
 
 -- ---- parts of it
 
@@ -123,18 +132,3 @@ module _ {P F O : Type 0} where
   abbrev pub OpensDesk : DeskView P F O → Result (PlayerView P F O) (PlayEnd P F O) → Type 0
   OpensDesk desk (Ok p) = desk_of p ≡ anew desk
   OpensDesk desk (Err e) = e.desk ≡ desk
-
-  -- no player was opened: nothing happened, and the desk is as it was
-  abbrev pub LeftAlone : DeskView P F O → List Event → DeskView P F O → Type 0
-  LeftAlone old es new = (new ≡ old) × (es ≡ [])
-
-  -- What happened to a desk by how a play ended: a story that is refused or cannot be opened leaves it alone, and so does a reader
-  -- that fails within the story; else a player had it.
-  abbrev pub DealtFor : (F → List Called) → (O → Watching) → DeskView P F O → List Event → PlayFault → DeskView P F O → Type 0
-  DealtFor turn_log state old es (play.Story r) new = LeftAlone old es new
-  DealtFor turn_log state old es (play.Start f) new = LeftAlone old es new
-  DealtFor turn_log state old es (play.Run f) new = ((f ≡ fault.Read) × LeftAlone old es new) ⊎ DealtAnew turn_log state old es new
-
-  abbrev pub DealtBy : (F → List Called) → (O → Watching) → DeskView P F O → List Event → Result (DeskView P F O) (PlayEnd P F O) → Type 0
-  DealtBy turn_log state old es (Ok desk) = DealtAnew turn_log state old es desk
-  DealtBy turn_log state old es (Err e) = DealtFor turn_log state old es e.fault e.desk

@@ -1,11 +1,13 @@
 -- What a player stands for, and what happens between it and the objects of its host.
-use Rattle.std.specs.Prelude.{◌≡◌, ◌≢◌, ◌⊎◌, ℕ, List, [], ◌∷◌, ◌++◌, length, Bool, true, false, Option, None, Some, Result, Ok, Err}
+use Rattle.std.specs.Prelude.{◌≡◌, ◌≢◌, ◌⊎◌, ℕ, List, [], ◌∷◌, ◌++◌, Bool, true, false, Option, None, Some, Result, Ok, Err}
 use Rattle.ink_check.specs.Words.{story_tree}
 use Rattle.ink_check.specs.declared.story.Story.{Story}
 use Rattle.ink_host.specs.Desk.{DeskView, Grew, Rows, bound_by, each, watches}
 use Rattle.ink_host.specs.Telling.{AreRounds, IsRound, Round, Watching, log_of}
 use Rattle.ink_host.specs.declared.objects.Called.{Called}
+use Rattle.ink_model.specs.Answer.{Reply, Tells, Acts, Breaks}
 use Rattle.ink_model.specs.Configuration.{Configuration}
+use Rattle.ink_model.specs.Events.{Made, calls, later}
 use Rattle.ink_model.specs.Flows.{Aside}
 use Rattle.ink_model.specs.Host.{Bindings}
 use Rattle.ink_model.specs.Save.Sound.{AsideFits}
@@ -54,10 +56,18 @@ pub record Stands (s : StoryTree) (events : List Event) (broken : Option Fault) 
   pub fits : ConditionFits s (condition_by broken (config_of s m))
   pub aside : AsideFits s (aside_of s (aside_in m))
 
--- nothing was done to watchers, or there was one round, with all these changes
-abbrev pub TellsOnce : {O : Type 0} → (O → Watching) → List Change → Rows O → Rows O → Type 0
-TellsOnce state cs old new = (each (λ n w. state w) new ≡ each (λ n w. state w) old)
-    ⊎ ((n : ℕ) × (answers : List Bool) × (length answers ≡ length cs) × IsRound state n cs cs answers old new)
+-- Whether all watchers found memory, by the answer of a command that told them; nothing where that says that it told nobody.
+abbrev pub all_told : Reply → Option Bool
+all_told (Tells passage) = Some true
+all_told (Acts events) = Some true
+all_told (Breaks OutOfMemory events) = Some false
+all_told reply = None
+
+-- One round told the watchers these changes, with stamps from n on, and these events came of it; all: no watcher was without
+-- memory. Or nothing was done to them.
+abbrev pub TellsOnce : {O : Type 0} → (O → Watching) → ℕ → List Change → Option Bool → List Event → Rows O → Rows O → Type 0
+TellsOnce state n cs (Some all) saw old new = (t : ToldAs n cs all saw) × IsRound state n cs cs t.answers old new
+TellsOnce state n cs None saw old new = (saw ≡ []) × (each (λ m w. state w) new ≡ each (λ m w. state w) old)
 
 module _ {P F O : Type 0} where
   abbrev pub story_of : PlayerView P F O → StoryTree
@@ -94,10 +104,20 @@ module _ {P F O : Type 0} where
   abbrev pub told_from : DeskView P F O → State → Values → List Change
   told_from d s now = told (watches d.watchers) (globals_of s.condition) now
 
-  -- The objects on a desk were called and told just these events by one command, and those were taken. The watchers were told
-  -- nothing; or these changes, in one round.
-  abbrev pub DealtOnce : (F → List Called) → (O → Watching) → List Change → DeskView P F O → List Event → DeskView P F O → Type 0
-  DealtOnce turn_log state cs old es new = Grew turn_log (log_of state) old es (record new { events = old.events ++ es }) × TellsOnce state cs old.watchers new.watchers
+  -- Just these events happened to the objects on a desk by one command that runs nothing, and those were taken. By its answer there
+  -- was one round, which told all these changes, to watchers of which all found memory, or not all; or nothing was done to them.
+  abbrev pub DealtOnce : (F → List Called) → (O → Watching) → List Change → DeskView P F O → List Event → Reply → DeskView P F O → Type 0
+  DealtOnce turn_log state cs old es reply new = Grew turn_log (log_of state) old es (record new { events = old.events ++ es })
+      × TellsOnce state old.next cs (all_told reply) es old.watchers new.watchers
+
+  -- The same of a command that runs: its calls were made first. Where it found no memory itself, nothing was done to watchers.
+  pub record DealtByRun (turn_log : F → List Called) (state : O → Watching) (cs : List Change) (old : DeskView P F O) (es : List Event) (reply : Reply) (new : DeskView P F O) : Type 0 where
+    pub grew : Grew turn_log (log_of state) old es (record new { events = old.events ++ es })
+    pub made : List Made
+    pub saw : List Event
+    pub events : es ≡ calls old.next made ++ saw
+    pub tells : let n = later old.next (calls old.next made) in TellsOnce state n cs (all_told reply) saw old.watchers new.watchers
+        ⊎ ((reply ≡ Breaks OutOfMemory es) × TellsOnce state n cs None saw old.watchers new.watchers)
 
   -- The watchers were told these changes, those of them that are watched: all of them, or all but those for which a watcher found
   -- no memory. Or memory was refused for telling, with something to tell, and nothing has changed.

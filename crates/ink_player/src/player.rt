@@ -23,7 +23,7 @@ ghost use Rattle.ink_sound.specs.Kept.{ConditionFits, StateFits};
 ghost use Rattle.ink_protocol.specs.Plain.{IsPlain};
 ghost use Rattle.ink_protocol.specs.Replies.{IsTextOf, reply_of_json, reply_of_text};
 ghost use Rattle.ink_player.specs.Extents.{GoesOn};
-ghost use Rattle.ink_player.specs.Words.{DealtOnce, anew, bindings, desk_of, fault_told, state_of, story_of, told_from};
+ghost use Rattle.ink_player.specs.Words.{DealtByRun, DealtOnce, anew, bindings, desk_of, fault_told, state_of, story_of, told_from};
 ghost use Rattle.ink_step.specs.Marks.{stood_of, unmarked};
 ghost use Rattle.ink_step.specs.Words.{config_of, game_of};
 ghost use Rattle.serde_json.specs.Data.{Data};
@@ -149,7 +149,7 @@ impl<P: PureFn, F: TurnFn, O: Watcher> Player<P, F, O> {
     /// events, also after a fault, which tells no watcher (docs/HOST.md).
     pub fn continue_line(&mut self) -> Result<Passage, Halt>
         ensures does { (es : List Happening) × Continue (story_of self.old) (bindings P.meaning (desk_of self.old)) es (state_of self.old) (reply_of result) (state_of self.new)
-            × DealtOnce F.log O.state (told_from (desk_of self.old) (state_of self.old) (globals_of (state_of self.new).condition)) (desk_of self.old) es (desk_of self.new) }
+            × DealtByRun F.log O.state (told_from (desk_of self.old) (state_of self.old) (globals_of (state_of self.new).condition)) (desk_of self.old) es (reply_of result) (desk_of self.new) }
         ensures rest { Resting (rests O.state) (desk_of self.old).watchers → Resting (rests O.state) (desk_of self.new).watchers }
         ensures story { story_of self.new ≡ story_of self.old }
     {
@@ -163,7 +163,7 @@ impl<P: PureFn, F: TurnFn, O: Watcher> Player<P, F, O> {
     /// fault, which tells no watcher (docs/HOST.md).
     pub fn through(&mut self) -> Result<Passage, Halt>
         ensures does { (es : List Happening) × Through (story_of self.old) (bindings P.meaning (desk_of self.old)) es (state_of self.old) (reply_of result) (state_of self.new)
-            × DealtOnce F.log O.state (told_from (desk_of self.old) (state_of self.old) (globals_of (state_of self.new).condition)) (desk_of self.old) es (desk_of self.new) }
+            × DealtByRun F.log O.state (told_from (desk_of self.old) (state_of self.old) (globals_of (state_of self.new).condition)) (desk_of self.old) es (reply_of result) (desk_of self.new) }
         ensures rest { Resting (rests O.state) (desk_of self.old).watchers → Resting (rests O.state) (desk_of self.new).watchers }
         ensures story { story_of self.new ≡ story_of self.old }
     {
@@ -173,7 +173,7 @@ impl<P: PureFn, F: TurnFn, O: Watcher> Player<P, F, O> {
     /// Goes on as far as is asked, and answers the passage.
     fn go_on(&mut self, extent: Extent) -> Result<Passage, Halt>
         ensures does { (es : List Happening) × GoesOn extent (story_of self.old) (bindings P.meaning (desk_of self.old)) es (state_of self.old) (reply_of result) (state_of self.new)
-            × DealtOnce F.log O.state (told_from (desk_of self.old) (state_of self.old) (globals_of (state_of self.new).condition)) (desk_of self.old) es (desk_of self.new) }
+            × DealtByRun F.log O.state (told_from (desk_of self.old) (state_of self.old) (globals_of (state_of self.new).condition)) (desk_of self.old) es (reply_of result) (desk_of self.new) }
         ensures rest { Resting (rests O.state) (desk_of self.old).watchers → Resting (rests O.state) (desk_of self.new).watchers }
         ensures story { story_of self.new ≡ story_of self.old }
     {
@@ -205,7 +205,7 @@ impl<P: PureFn, F: TurnFn, O: Watcher> Player<P, F, O> {
     /// the global has its value, and the player is broken by the fault `OutOfMemory`.
     pub fn set(&mut self, name: &str, value: Given) -> Result<Seq<Event>, Halt>
         ensures does { (es : List Happening) × Set (bindings P.meaning (desk_of self.old)) es name.now (Some value) (state_of self.old) (reply_of_events result) (state_of self.new)
-            × DealtOnce F.log O.state (told_from (desk_of self.old) (state_of self.old) ((name.now, host.value_given value) ∷ [])) (desk_of self.old) es (desk_of self.new) }
+            × DealtOnce F.log O.state (told_from (desk_of self.old) (state_of self.old) ((name.now, host.value_given value) ∷ [])) (desk_of self.old) es (reply_of_events result) (desk_of self.new) }
         ensures rest { Resting (rests O.state) (desk_of self.old).watchers → Resting (rests O.state) (desk_of self.new).watchers }
         ensures story { story_of self.new ≡ story_of self.old }
     {
@@ -228,7 +228,7 @@ impl<P: PureFn, F: TurnFn, O: Watcher> Player<P, F, O> {
         requires given { (g : Gift) × (settable g ≡ true) × (value ≡ host.value_given g) }
         ensures does { let c = config_of (story_of self.old) self.old.machine in let h = bindings P.meaning (desk_of self.old) in
             (es : List Happening) × TellsOrKeeps (told h.watches c.shared.globals ((name.now, value) ∷ [])) (Ready (with_globals (store name.now value c.shared.globals) c)) es (state_of self.old) (reply_of_events result) (state_of self.new)
-            × DealtOnce F.log O.state (told h.watches c.shared.globals ((name.now, value) ∷ [])) (desk_of self.old) es (desk_of self.new) }
+            × DealtOnce F.log O.state (told h.watches c.shared.globals ((name.now, value) ∷ [])) (desk_of self.old) es (reply_of_events result) (desk_of self.new) }
         ensures rest { Resting (rests O.state) (desk_of self.old).watchers → Resting (rests O.state) (desk_of self.new).watchers }
         ensures story { story_of self.new ≡ story_of self.old }
     {
@@ -353,7 +353,7 @@ impl<P: PureFn, F: TurnFn, O: Watcher> Player<P, F, O> {
     /// where it was loaded.
     pub fn load(&mut self, json: &Json) -> Result<Seq<Event>, Halt>
         ensures does { (es : List Happening) × Load (story_of self.old) (bindings P.meaning (desk_of self.old)) es (Some (view json.now)) (state_of self.old) (reply_of_events result) (state_of self.new)
-            × DealtOnce F.log O.state (told_from (desk_of self.old) (state_of self.old) (globals_of (state_of self.new).condition)) (desk_of self.old) es (desk_of self.new) }
+            × DealtOnce F.log O.state (told_from (desk_of self.old) (state_of self.old) (globals_of (state_of self.new).condition)) (desk_of self.old) es (reply_of_events result) (desk_of self.new) }
         ensures rest { Resting (rests O.state) (desk_of self.old).watchers → Resting (rests O.state) (desk_of self.new).watchers }
         ensures story { story_of self.new ≡ story_of self.old }
         ensures stands { IfOk result (λ events. ReadsAsState (story_of self.new) (view json.now) (state_of self.new)) }
@@ -372,7 +372,7 @@ impl<P: PureFn, F: TurnFn, O: Watcher> Player<P, F, O> {
     /// memory the story has begun anew, all others are told, and the player is broken by the fault `OutOfMemory`.
     pub fn restart(&mut self) -> Result<Seq<Event>, Halt>
         ensures does { (es : List Happening) × Restart (story_of self.old) (bindings P.meaning (desk_of self.old)) es (state_of self.old) (reply_of_events result) (state_of self.new)
-            × DealtOnce F.log O.state (told_from (desk_of self.old) (state_of self.old) (globals_of (state_of self.new).condition)) (desk_of self.old) es (desk_of self.new) }
+            × DealtOnce F.log O.state (told_from (desk_of self.old) (state_of self.old) (globals_of (state_of self.new).condition)) (desk_of self.old) es (reply_of_events result) (desk_of self.new) }
         ensures rest { Resting (rests O.state) (desk_of self.old).watchers → Resting (rests O.state) (desk_of self.new).watchers }
         ensures story { story_of self.new ≡ story_of self.old }
     {
@@ -394,7 +394,7 @@ impl<P: PureFn, F: TurnFn, O: Watcher> Player<P, F, O> {
         requires unmarked { stood_of machine ≡ unmarked }
         ensures does { let s = story_of self.old in let was = config_of s self.old.machine in let c = config_of s machine in let h = bindings P.meaning (desk_of self.old) in
             (es : List Happening) × BeginsAnew (told h.watches was.shared.globals c.shared.globals) (game_of s machine) es (state_of self.old) (reply_of_events result) (state_of self.new)
-            × DealtOnce F.log O.state (told_from (desk_of self.old) (state_of self.old) (globals_of (state_of self.new).condition)) (desk_of self.old) es (desk_of self.new) }
+            × DealtOnce F.log O.state (told_from (desk_of self.old) (state_of self.old) (globals_of (state_of self.new).condition)) (desk_of self.old) es (reply_of_events result) (desk_of self.new) }
         ensures rest { Resting (rests O.state) (desk_of self.old).watchers → Resting (rests O.state) (desk_of self.new).watchers }
         ensures story { story_of self.new ≡ story_of self.old }
     {

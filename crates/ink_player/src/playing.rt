@@ -7,7 +7,7 @@ ghost use Rattle.ink_host.specs.Telling.{rests};
 ghost use Rattle.ink_model.specs.Acceptance as rules;
 ghost use Rattle.ink_model.specs.declared.host.Event.{Event};
 ghost use Rattle.ink_player.specs.Ends.{play_reads_fail, play_writes_fail};
-ghost use Rattle.ink_player.specs.Playing.{DealtBy, IsRefused, Opens, OpensDesk, Plays, desk_left, play_fault};
+ghost use Rattle.ink_player.specs.Playing.{IsRefused, Opens, OpensDesk, Plays, desk_left, play_fault};
 ghost use Rattle.ink_player.specs.Words.{bindings};
 ghost use Rattle.ink_protocol.specs.Ends.{Reports};
 
@@ -34,8 +34,7 @@ pub fn play<R: Read, W: Write, P: PureFn, F: TurnFn, O: Watcher>(
     writer: &mut W,
     desk: Desk<P, F, O>,
 ) -> Result<Desk<P, F, O>, PlayEnd<P, F, O>>
-    ensures plays { (es : List Event) × Plays (bindings P.meaning desk) es (R.remaining reader.old) (R.remaining reader.new) (W.contents writer.old) (W.contents writer.new) result
-        × DealtBy F.log O.state desk es result }
+    ensures plays { (es : List Event) × Plays F.log O.state (bindings P.meaning desk) desk es (R.remaining reader.old) (R.remaining reader.new) (W.contents writer.old) (W.contents writer.new) result }
     ensures rest { Resting (rests O.state) desk.watchers → Resting (rests O.state) (desk_left result).watchers }
 {
     let mut source = Lent::over(reader);
@@ -52,8 +51,7 @@ pub fn serve_story<S: Source, T: Sink, P: PureFn, F: TurnFn, O: Watcher>(
     sink: &mut T,
     desk: Desk<P, F, O>,
 ) -> Result<Desk<P, F, O>, PlayEnd<P, F, O>>
-    ensures plays { (es : List Event) × Plays (bindings P.meaning desk) es (S.remaining source.old) (S.remaining source.new) (T.contents sink.old) (T.contents sink.new) result
-        × DealtBy F.log O.state desk es result }
+    ensures plays { (es : List Event) × Plays F.log O.state (bindings P.meaning desk) desk es (S.remaining source.old) (S.remaining source.new) (T.contents sink.old) (T.contents sink.new) result }
     ensures rest { Resting (rests O.state) desk.watchers → Resting (rests O.state) (desk_left result).watchers }
     ensures source { Reports (play_reads_fail result) (S.failures source.old) (S.failures source.new) (S.name source.old) (S.name source.new) }
     ensures sink { Reports (play_writes_fail result) (T.failures sink.old) (T.failures sink.new) (T.name sink.old) (T.name sink.new) }

@@ -15,8 +15,9 @@ pub enum Line {
 }
 
 /// The next line, of at most so many bytes, in the memory of a buffer whose bytes go. No more is read than tells that it is
-/// longer. Errors: `Read`, where the source failed; `TooLong`, where the line is longer, or all bytes were taken that may be and
-/// more are there, whatever memory there is; `OutOfMemory`, where memory was refused for a byte that the line may have.
+/// longer. Errors: `Read`, where the source failed; `TooLong`, once what was read shows that the line is longer, or that all bytes
+/// were taken that may be and more are there, whatever memory there is; `OutOfMemory`, where memory was refused for a byte that
+/// the line may have.
 pub fn next_line<S: Source>(
     buffer: Vec<u8>,
     ahead: &mut Ahead,

@@ -1,5 +1,5 @@
 -- Looking for a flow, and for what is last.
-use Rattle.std.proofs.Common.{◌≡◌, ◌∙◌, ℕ, suc, ◌+◌, ◌-◌, ◌<◌, ◌≤◌, List, [], ◌∷◌, length, drop, get_or, true, false, Option, Some, None, option_map, Bor, if◌then◌else◌, ap, refl, sym, arith}
+use Rattle.std.proofs.Common.{◌≡◌, ◌∙◌, ℕ, suc, ◌+◌, ◌-◌, ◌<◌, ◌≤◌, List, [], ◌∷◌, length, drop, get_or, false, Option, Some, None, option_map, Bor, if◌then◌else◌, ap, refl, sym, arith}
 use Rattle.std.specs.List.{slice_get}
 use Rattle.std.specs.Option.{option_copied}
 use Rattle.std.proofs.lemmas.List.{at_drop_more, at_drop_all}
@@ -21,11 +21,6 @@ last_is vs r h = view_of_ref r ∙ ap (option_map view) h ∙ last_got vs
 -- of the flows that are left
 abbrev pub left : List ℕ → List Value → Option Data
 left name vs = flow_named name (items_view vs)
-
-pub left_found : (name : List ℕ) (vs : List Value) (i : ℕ) (d : Value) (whole : Option Data) → i < length vs → is_named name (view (get_or vs i d)) ≡ true → left name (drop i vs) ≡ whole
-    → Some (view (get_or vs i d)) ≡ whole
-left_found name vs i d whole lt e h =
-    sym (ap (λ b. if b then Some (view (get_or vs i d)) else left name (drop (i + 1) vs)) e) ∙ sym (at_drop_more (left name) vs i d lt) ∙ h
 
 pub left_more : (name : List ℕ) (vs : List Value) (i : ℕ) (d : Value) (whole : Option Data) → i < length vs → is_named name (view (get_or vs i d)) ≡ false → left name (drop i vs) ≡ whole
     → left name (drop (i + 1) vs) ≡ whole

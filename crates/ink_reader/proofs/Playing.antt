@@ -22,8 +22,8 @@ use Rattle.ink_page.specs.Showing.{said}
 use Rattle.ink_page.specs.declared.page.Look.{Look}
 use Rattle.ink_protocol.specs.Ends.{WritesText}
 use Rattle.ink_protocol.specs.declared.fault.RunFault.{RunFault}
-use Rattle.ink_player.specs.Words.{DealtOnce, PlayerView, bindings, desk_of, state_of, story_of, told_from}
-use Rattle.ink_player.proofs.Tellings.{bindings-same, dealt-dealt, dealt-kept, dealt-none, dealt-once}
+use Rattle.ink_player.specs.Words.{DealtByRun, DealtOnce, PlayerView, bindings, desk_of, state_of, story_of, told_from}
+use Rattle.ink_player.proofs.Tellings.{bindings-same, dealt-dealt, dealt-kept, dealt-none, dealt-once, dealt-run}
 use Rattle.ink_reader.specs.Course.{saving_told, unsaved_told}
 use Rattle.ink_reader.specs.Deeds.{AreDone, AreShelved, Asks, Deed, Fetches, Gave, Gives, Goes, IsDone, IsShelved, Keeps, Played, Says, answer_shown, deed_shown, deeds_shown, reply_shown}
 use Rattle.ink_reader.specs.Kept as shelf
@@ -73,14 +73,24 @@ pub last-written : {T E : Type 0} (held held' : Option (List ℕ)) (text : List 
 last-written held held' text r h = subst (λ w. OnOk r (Appends held held' w)) (sym (append-nil text)) h
 
 module _ {P F O : Type 0} {meaning : P → List Value → Option Given} {turn_log : F → List Called} {state : O → Watching} where
-  -- a command of which watchers may be told, one that leaves the desk as it was, and one that changes nothing
+  -- a command of which watchers may be told, without a run or with one, one that leaves the desk as it was, and one that changes nothing
   pub gave-once : {old new : PlayerView P F O} {k : Command} {reply : Reply} (es : List Event) → Does (story_of old) (bindings meaning (desk_of old)) es (Some k) (state_of old) reply (state_of new)
-      → DealtOnce turn_log state (told_from (desk_of old) (state_of old) (globals_of (state_of new).condition)) (desk_of old) es (desk_of new) → story_of new ≡ story_of old
+      → DealtOnce turn_log state (told_from (desk_of old) (state_of old) (globals_of (state_of new).condition)) (desk_of old) es reply (desk_of new) → story_of new ≡ story_of old
       → Gave meaning turn_log state old k reply new
-  gave-once {old} {new} es does dealt story = record {
+  gave-once {old} {new} {k} {reply} es does dealt story = record {
     events = es;
     does = does;
-    dealt = dealt-once turn_log state (told_from (desk_of old) (state_of old) (globals_of (state_of new).condition)) (desk_of old) (desk_of new) es dealt;
+    dealt = dealt-once turn_log state (told_from (desk_of old) (state_of old) (globals_of (state_of new).condition)) (desk_of old) (desk_of new) es reply dealt;
+    story = story;
+  }
+
+  pub gave-run : {old new : PlayerView P F O} {k : Command} {reply : Reply} (es : List Event) → Does (story_of old) (bindings meaning (desk_of old)) es (Some k) (state_of old) reply (state_of new)
+      → DealtByRun turn_log state (told_from (desk_of old) (state_of old) (globals_of (state_of new).condition)) (desk_of old) es reply (desk_of new) → story_of new ≡ story_of old
+      → Gave meaning turn_log state old k reply new
+  gave-run {old} {new} {k} {reply} es does dealt story = record {
+    events = es;
+    does = does;
+    dealt = dealt-run turn_log state (told_from (desk_of old) (state_of old) (globals_of (state_of new).condition)) (desk_of old) (desk_of new) es reply dealt;
     story = story;
   }
 

@@ -28,10 +28,6 @@ use Rattle.ink_sound.proofs.Values.{TakenFits, or_fault_fits, popped_fits, poppi
 abbrev pub Any : {A : Type 0} → A → Type 0
 Any a = Unit {0}
 
-pub any_gives : {A : Type 0} (r : Result A Fault) → Gives Any r
-any_gives (Ok a) = tt
-any_gives (Err f) = tt
-
 pub any_finds : {A : Type 0} (o : Option A) → Finds Any o
 any_finds (Some a) = tt
 any_finds None = tt

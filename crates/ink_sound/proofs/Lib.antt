@@ -25,7 +25,6 @@ pub mod Leaves
 pub mod Stories
 pub mod Depth
 pub mod Plain
-pub mod Temporaries
 pub mod Narrow
 pub mod Unspelling
 pub mod Respelling

@@ -100,9 +100,6 @@ module _ (s : StoryTree) where
       by false = (fits.stack, fits.page)
 
   module _ (f : Fields) (fits : FieldsFit s f) where
-    paged : (page : Page) → PageFits page → FieldsFit s (record f { page = page })
-    paged page h = record { stack = fits.stack; globals = fits.globals; page = h }
-
     writing_fits : (r : Result Page Fault) → Gives PageFits r → EffectFits s (writing r f)
     writing_fits (Ok page) h = record { stack = fits.stack; globals = fits.globals; page = h }
     writing_fits (Err e) h = tt

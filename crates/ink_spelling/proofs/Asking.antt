@@ -1,5 +1,5 @@
 -- Where reading asks for memory.
-use Rattle.std.proofs.Common.{◌≡◌, ◌∙◌, ◌⊎◌, ◌<◌, inl, inr, arith, refl, sym, subst, zero, suc, ℕ, length, get_or, List, [], ◌∷◌, reverse, codes, String, Bool, true, false, ◌||◌, Option, Some, None, option_and_then, Result, Ok, Err, OnErr}
+use Rattle.std.proofs.Common.{◌≡◌, ◌∙◌, ◌⊎◌, ◌<◌, inl, inr, refl, sym, subst, ℕ, List, [], ◌∷◌, reverse, codes, String, Bool, true, false, ◌||◌, Option, Some, None, option_and_then, Result, Ok, Err, OnErr}
 use Rattle.std.specs.Option.{option_map, option_or}
 use Rattle.serde_json.specs.Data.{Data, array, object, string, Items, no_items, item, Members}
 use Rattle.serde_json.specs.View.{items_view, members_view, view}
@@ -23,22 +23,6 @@ or_true false = refl
 abbrev pub AskedBefore : {A : Type 0} → (Data → Option A) → (Data → Bool) → List Value → ℕ → Type 0
 AskedBefore f asks vs i = 0 < i → items_ask f asks (items_view vs) ≡ true
 
-module _ {A : Type 0} (f : Data → Option A) (asks : Data → Bool) where
-  pub asked_none : (vs : List Value) → AskedBefore f asks vs 0
-  asked_none vs h = absurd (omega (arith, h))
-
-  -- an element that asks
-  pub asked_here : (vs : List Value) (i : ℕ) (d : Value) → i < length vs → asks (view (get_or vs i d)) ≡ true → AskedBefore f asks vs i → items_ask f asks (items_view vs) ≡ true
-  asked_here [] i d lt h before = absurd (omega (arith, lt))
-  asked_here (v ∷ vs) zero d lt h before = rw h refl
-  asked_here (v ∷ vs) (suc i) d lt h before = before (omega arith)
-
-  -- one that is kept
-  pub asked_kept : (vs : List Value) (i : ℕ) (d : Value) (x : A) → i < length vs → f (view (get_or vs i d)) ≡ Some x → AskedBefore f asks vs i → items_ask f asks (items_view vs) ≡ true
-  asked_kept [] i d x lt is before = absurd (omega (arith, lt))
-  asked_kept (v ∷ vs) zero d x lt is before = rw is (or_true (asks (view v)))
-  asked_kept (v ∷ vs) (suc i) d x lt is before = before (omega arith)
-
 -- ---- pairs
 
 pub pair_asks_so : {A : Type 0} (f : Data → Option A) (asks second : Data → Bool) (ds : Items) → pair_asks f asks second (array ds) ≡ two_ask f asks second (two_in ds)
@@ -52,11 +36,6 @@ pair_asks_so f asks second (item d (item e (item h ds))) = refl
 -- these are all members, or memory was asked for
 abbrev pub RowsAsked : List (String Global × Value) → List (String Global × Value) → Type 0
 RowsAsked all left = (left ≡ all) ⊎ (rows_ask (members_view all) ≡ true)
-
-pub row_asks : (all left : List (String Global × Value)) (e : String Global × Value) (es : List (String Global × Value)) → left ≡ e ∷ es
-    → value_asks (view e.1) ≡ true → RowsAsked all left → rows_ask (members_view all) ≡ true
-row_asks all left e es is h (inl same) = subst (λ l. rows_ask (members_view l) ≡ true) (sym is ∙ same) (rw h refl)
-row_asks all left e es is h (inr asked) = asked
 
 pub row_kept : (all left : List (String Global × Value)) (e : String Global × Value) (es : List (String Global × Value)) (v : Spelled) → left ≡ e ∷ es
     → value_of (view e.1) ≡ Some v → RowsAsked all left → rows_ask (members_view all) ≡ true

@@ -1,6 +1,6 @@
 -- A list that is read element by element.
-use Rattle.std.proofs.Common.{◌≡◌, ◌∙◌, sym, ap, refl, ℕ, ◌+◌, ◌<◌, ◌≤◌, length, List, [], ◌∷◌, ◌++◌, drop, get_or, Option, Some, None, option_map, option_and_then, arith}
-use Rattle.std.proofs.lemmas.List.{at_drop_more, at_drop_all, append-nil}
+use Rattle.std.proofs.Common.{◌≡◌, ◌∙◌, sym, ap, refl, ℕ, ◌+◌, ◌<◌, length, List, [], ◌∷◌, ◌++◌, drop, get_or, Option, Some, None, option_map, option_and_then, arith}
+use Rattle.std.proofs.lemmas.List.{at_drop_more}
 use Rattle.serde_json.specs.Data.{Data, array, Items, no_items, item}
 use Rattle.serde_json.specs.View.{view, items_view}
 use Rattle.serde_json.specs.declared.value.Value.{Value}
@@ -36,10 +36,6 @@ left_none f made xs i d whole lt e h =
     sym (ap (λ o. option_map (λ rest. made ++ rest) (option_and_then (λ y. option_map (λ ys. y ∷ ys) (all_of f (items_view (drop (i + 1) xs)))) o)) e)
     ∙ sym (at_drop_more (left f made) xs i d lt) ∙ h
 
-pub left_end : {A : Type 0} → (f : Data → Option A) (made : List A) (xs : List Value) (i : ℕ) (whole : Option (List A)) → length xs ≤ i
-    → left f made (drop i xs) ≡ whole → Some made ≡ whole
-left_end f made xs i whole le h = ap Some (sym (append-nil made)) ∙ sym (at_drop_all (left f made) xs i le) ∙ h
-
 -- ---- rows of members
 
 -- what is read in the end, of the rows that are made and of the members that are left
@@ -51,14 +47,6 @@ pub rows_more : (made : List (List ℕ × Spelled)) (e : String Global × Value)
 rows_more made e es v whole read h =
     sym (joined made (string_bytes e.0, v) (rows_of (members_view es)))
     ∙ sym (ap (λ o. option_map (λ rest. made ++ rest) (option_and_then (λ y. option_map (λ ys. (string_bytes e.0, y) ∷ ys) (rows_of (members_view es))) o)) read) ∙ h
-
-pub rows_none : (made : List (List ℕ × Spelled)) (e : String Global × Value) (es : List (String Global × Value)) (whole : Option (List (List ℕ × Spelled)))
-    → value_of (view e.1) ≡ None → rows_left made (e ∷ es) ≡ whole → None ≡ whole
-rows_none made e es whole read h =
-    sym (ap (λ o. option_map (λ rest. made ++ rest) (option_and_then (λ y. option_map (λ ys. (string_bytes e.0, y) ∷ ys) (rows_of (members_view es))) o)) read) ∙ h
-
-pub rows_end : (made : List (List ℕ × Spelled)) (whole : Option (List (List ℕ × Spelled))) → rows_left made [] ≡ whole → Some made ≡ whole
-rows_end made whole h = ap Some (sym (append-nil made)) ∙ h
 
 -- ---- pairs
 

@@ -16,12 +16,6 @@ all_after test (x ∷ xs) ys = by (test x) (all_after test xs ys)
     by true e = e
     by false e = refl
 
-other_way : (a b : Bool) → (a && b) ≡ (b && a)
-other_way true true = refl
-other_way true false = refl
-other_way false true = refl
-other_way false false = refl
-
 all_reversed : {A : Type 0} (test : A → Bool) (xs : List A) → list_all test (reverse xs) ≡ list_all test xs
 all_reversed test [] = refl
 all_reversed test (x ∷ xs) =

@@ -1,22 +1,17 @@
 -- The base stays the bottom frame alone, and threads stay within their limit.
-use Rattle.std.proofs.Common.{◌≡◌, ◌≢◌, ◌<◌, ℕ, List, [], ◌∷◌, ◌++◌, true, false, Result, Ok, Err, OnOk, OnErr, ap, arith, if◌then◌else◌, map, nat_eq, nat_lt, refl, reverse, subst, sym}
-use Rattle.std.proofs.lemmas.Bool.Decides.{nat_tests}
+use Rattle.std.proofs.Common.{◌≡◌, ◌≢◌, ℕ, List, [], ◌∷◌, ◌++◌, true, false, Result, Ok, Err, OnOk, OnErr, ap, if◌then◌else◌, map, nat_eq, refl, reverse, subst, sym}
 use Rattle.std.proofs.lemmas.List.{reverse-append}
 use Rattle.ink_model.specs.Bases.{BaseFirst}
 use Rattle.ink_model.specs.Frames.{FrameOf, ThreadOf, ThreadsOf, is_function, unnumbered_frame}
-use Rattle.ink_model.specs.Threads.{doubled, stale, stale_run, thread_count, top_result, with_row_in}
+use Rattle.ink_model.specs.Threads.{stale, stale_run, top_result, with_row_in}
 use Rattle.ink_model.specs.declared.fault.Fault.{Fault}
 use Rattle.ink_model.specs.declared.frame.FrameKind.{FrameKind}
 use Rattle.ink_model.specs.declared.frame.FrameKind.TheVariants.{Base}
-use Rattle.ink_model.specs.declared.limits.TheConstants.{MAX_THREADS}
 use Rattle.ink_model.specs.declared.value.Value.{Value}
 use Rattle.ink_stack.specs.Calls.{frame_kind}
 use Rattle.ink_stack.specs.Words.{Changes, Grows}
 use Rattle.ink_stack.specs.declared.frame.CallKind.{CallKind}
 use Rattle.ink_stack.specs.declared.frame.CallKind.TheVariants as call
-
-fewer : (m n : ℕ) → m < n → nat_lt m n ≡ true
-fewer m n h = grind (arith, nat_tests)
 
 pub call_is : (k : CallKind) → frame_kind k ≢ Base
 call_is call.Function e = absurd cc
@@ -26,10 +21,6 @@ module _ {P : Type 0} where
   -- a frame of the same kind is on top
   pub base_same : (k j : FrameKind) (fs : List (FrameOf P)) → j ≡ k → BaseFirst k fs → BaseFirst j fs
   base_same k j fs e h = subst (λ i. BaseFirst i fs) (sym e) h
-
-  -- the last one in a list is the nearest
-  pub base_pushed : (k : CallKind) (j : FrameKind) (fs : List (FrameOf P)) (f : FrameOf P) → j ≡ frame_kind k → BaseFirst f.kind (reverse fs) → BaseFirst j (reverse (fs ++ f ∷ []))
-  base_pushed k j fs f e h = subst (λ gs. BaseFirst j gs) (sym (reverse-append fs (f ∷ []))) (base_same (frame_kind k) j (f ∷ reverse fs) e (call_is k, h))
 
   pub base_popped : (k : FrameKind) (fs : List (FrameOf P)) (f : FrameOf P) → BaseFirst k (reverse (fs ++ f ∷ [])) → BaseFirst f.kind (reverse fs)
   base_popped k fs f h = (subst (λ gs. BaseFirst k gs) (reverse-append fs (f ∷ [])) h).1
@@ -65,10 +56,6 @@ module _ {P : Type 0} where
   pub fresh_along : {U E : Type 0} (r : Result U E) (name : List ℕ) (v : Value) (f g : FrameOf P) → OnOk r (g ≡ with_row_in name v f) → OnErr r (g ≡ f) → g.fresh ≡ f.fresh
   fresh_along (Ok u) name v f g made kept = ap (λ h. h.fresh) made
   fresh_along (Err e) name v f g made kept = ap (λ h. h.fresh) kept
-
-  -- a copy is put on top where there are fewer threads
-  pub doubled_there : (ts : ThreadsOf P) → thread_count ts < MAX_THREADS → doubled ts ≡ Ok (record ts { below = ts.thread ∷ ts.below })
-  doubled_there ts few = rw (fewer (thread_count ts) MAX_THREADS few) refl
 
   -- what becomes of the top thread becomes of the threads
   pub top_changes : {U : Type 0} (r : Result (ThreadOf P) Fault) (ts : ThreadsOf P) (new : ThreadOf P) (x : Result U Fault) → Changes r ts.thread new x

@@ -1,6 +1,6 @@
--- A list whose items are changed or copied one by one, from the front.
-use Rattle.std.proofs.Common.{◌≡◌, ◌∙◌, ◌≤◌, ℕ, ◌+◌, ◌<◌, List, [], ◌∷◌, ◌++◌, ap, length, get_or, set, take, drop, map, refl, append_assoc, arith, sym}
-use Rattle.std.proofs.lemmas.List.{append-nil, drop_all, take_more_set, drop-set-lt, drop_more, take_all, take_more}
+-- A list whose items are changed one by one, from the front.
+use Rattle.std.proofs.Common.{◌≡◌, ◌∙◌, ◌≤◌, ℕ, ◌+◌, ◌<◌, List, [], ◌++◌, ap, length, get_or, set, take, drop, map, refl, append_assoc, arith, sym}
+use Rattle.std.proofs.lemmas.List.{append-nil, drop_all, take_more_set, drop-set-lt, drop_more, take_all}
 
 pub map_step : {X : Type 0} (f : X → X) (xs : List X) (i : ℕ) (d y : X) → i < length xs → y ≡ f (get_or xs i d)
     → take (i + 1) (set xs i y) ++ map f (drop (i + 1) (set xs i y)) ≡ take i xs ++ map f (drop i xs)
@@ -10,7 +10,3 @@ map_step f xs i d y h made =
 -- all are changed
 pub map_done : {X : Type 0} (f : X → X) (xs ys : List X) (i : ℕ) → length xs ≤ i → take i xs ++ map f (drop i xs) ≡ ys → xs ≡ ys
 map_done f xs ys i all h = sym (append-nil xs) ∙ ap (λ zs. zs ++ []) (sym (take_all i xs all)) ∙ ap (λ zs. take i xs ++ map f zs) (sym (drop_all i xs all)) ∙ h
-
--- one more is copied
-pub copy_step : {X : Type 0} (xs ys : List X) (i : ℕ) (d y : X) → i < length xs → ys ≡ take i xs → y ≡ get_or xs i d → ys ++ y ∷ [] ≡ take (i + 1) xs
-copy_step xs ys i d y h so is = ap (λ zs. zs ++ y ∷ []) so ∙ ap (λ z. take i xs ++ z ∷ []) is ∙ sym (take_more xs i d h)

@@ -1,4 +1,5 @@
--- Frames as they are kept: headers, and the temporaries of the lowest ones. The bottom frame is the first.
+-- Frames as they are kept: headers, and the temporaries of the lowest ones. In a list of headers the bottom one is the first, and so
+-- it is in `framed`; in `with_temps` and `FitsIn` the top frame is.
 use Rattle.std.specs.Prelude.{◌≤◌, ℕ, suc, zero, List, [], ◌∷◌, length, Bool, true, false, if◌then◌else◌, None}
 use Rattle.ink_model.specs.Frames.{FrameOf}
 use Rattle.ink_model.specs.Store.{Values}
@@ -9,19 +10,22 @@ pub record Room : Type 0 where
   pub frames : ℕ
   pub temps : ℕ
 
--- no less room
+-- as much room, or more
 pub record MoreRoom (r s : Room) : Type 0 where
   pub frames : r.frames ≤ s.frames
   pub temps : r.temps ≤ s.temps
 
+-- the frames, and their room
 pub record FramesView (P : Type 0) : Type 0 where
   pub items : List (FrameOf P)
   pub room : Room
 
 module _ {P : Type 0} where
+  -- the frame of a header and of temporaries
   abbrev pub frame_with : Header P → Values → FrameOf P
   frame_with h rows = record { kind = h.kind; place = h.place; temps = rows; evaluating = h.evaluating; fresh = h.fresh; depth = h.depth; enter = h.enter }
 
+  -- without the number of its Enter
   abbrev pub unnumbered : Header P → Header P
   unnumbered h = record h { enter = None }
 
@@ -31,6 +35,7 @@ module _ {P : Type 0} where
   framed (h ∷ hs) [] = frame_with h [] ∷ framed hs []
   framed (h ∷ hs) (t ∷ ts) = frame_with h t ∷ framed hs ts
 
+  -- it has no temporaries
   abbrev pub is_bare : FrameOf P → Bool
   is_bare f = no_rows f.temps
     where
@@ -38,12 +43,12 @@ module _ {P : Type 0} where
       no_rows [] = true
       no_rows (r ∷ rs) = false
 
-  -- how many frames there are up to the last that has temporaries; the top one is the first here
+  -- how many frames there are from the bottom up to the highest one that has temporaries
   abbrev pub with_temps : List (FrameOf P) → ℕ
   with_temps [] = zero
   with_temps (f ∷ fs) = if is_bare f then with_temps fs else suc (length fs)
 
-  -- frames fit, of which the top one is the first
+  -- frames fit in a room
   pub record FitsIn (r : Room) (fs : List (FrameOf P)) : Type 0 where
     pub frames : length fs ≤ r.frames
     pub temps : with_temps fs ≤ r.temps

@@ -3,7 +3,7 @@ use Rattle.std.specs.Prelude.{List, reverse}
 use Rattle.ink_model.specs.Frames.{ThreadOf, ThreadsOf}
 use Rattle.ink_stack.specs.Frames.{Room}
 
--- its frames and its previous place, and how many frames below the top one fit without memory
+-- its frames and its previous place, and the room for frames below the top one
 pub record RunningView (P : Type 0) : Type 0 where
   pub thread : ThreadOf P
   pub room : Room

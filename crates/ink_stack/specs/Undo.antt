@@ -11,12 +11,12 @@ use Rattle.ink_stack.specs.Threads.{ThreadsView}
 use Rattle.ink_stack.specs.declared.undo.ThreadsPair.{ThreadsPair}
 use Rattle.ink_stack.specs.declared.undo.ThreadsPair.TheVariants.{Placed, Previous, Evaluating, Numbered, Fresh, Temp, FramePushed, FramePopped, ThreadPushed, ThreadPopped, Replaced}
 
--- the room for frames below the top one, and for threads below the top one
+-- the room for frames below the top one, and how many threads below the top one fit without memory
 pub record Rooms : Type 0 where
   pub frames : Room
   pub threads : ℕ
 
--- no less room
+-- as much room, or more
 pub record More (r s : Rooms) : Type 0 where
   pub frames : MoreRoom r.frames s.frames
   pub threads : r.threads ≤ s.threads

@@ -205,7 +205,7 @@ impl<P: Copy> Frame<P> {
     pub(crate) fn is_function(&self) -> bool
         ensures { result ≡ is_function self.now.kind }
     {
-        matches!(self.header.kind, FrameKind::Function)
+        self.header.is_function()
     }
 
     pub(crate) fn put(&mut self, place: Option<P>)

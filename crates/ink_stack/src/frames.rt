@@ -1,6 +1,6 @@
 //! The frames below the top one of a thread.
 
-ghost use Rattle.std.specs.Prelude.{◌≡◌, ◌≢◌, [], ◌∷◌, ◌++◌, ◌<◌, ◌≤◌, ◌+◌, ◌-◌, None, Some, true, get_or, length, map, option_map, replicate, reverse, set, vec_capacity, IfOk, OnOk, OnErr, MatchOption};
+ghost use Rattle.std.specs.Prelude.{◌≡◌, ◌≢◌, [], ◌∷◌, ◌++◌, ◌<◌, ◌≤◌, ◌+◌, ◌-◌, None, true, get_or, length, map, option_map, replicate, reverse, set, vec_capacity, IfOk, OnOk, OnErr, MatchOption};
 ghost use Rattle.std.specs.Bool.{OnTrue, OnFalse};
 ghost use Rattle.ink_model.specs.Frames.{FrameOf, is_function, unnumbered_frame};
 ghost use Rattle.ink_model.specs.Rows.{name_order, row};
@@ -15,8 +15,9 @@ use ink_model::Value;
 use std::alloc::{AllocError, Global};
 use std::marker::Model;
 
-/// Frames, the bottom one first: their headers, and the temporaries of those up to the last that has any. So frames without
-/// temporaries are copied as a whole, and are let go without a look. A contract sees the frames, and how many fit without memory.
+/// Frames, the bottom one first: their headers, and the temporaries of the lowest ones, up to the last that has any or further. So
+/// frames without temporaries are copied as a whole, and are let go without a look. A contract sees the frames, how many fit without
+/// memory, and how many of these with temporaries.
 pub(crate) struct Frames<P> {
     pub(crate) headers: Vec<Header<P>>,
     pub(crate) temps: Vec<Temps>,
@@ -63,7 +64,7 @@ impl<P: Copy> Frames<P> {
         self.headers.len()
     }
 
-    /// What is true of each.
+    /// Does nothing; by its contract the frames fit in their room.
     #[inline(always)]
     pub(crate) fn within(&self)
         ensures { FitsIn self.now.room (reverse self.now.items) }
@@ -168,8 +169,8 @@ impl<P: Copy> Frames<P> {
         self.temps[index].set(name, value)
     }
 
-    /// Makes room for a frame, which the room may have already. The one error is a refused request for memory, and leaves all as it
-    /// was.
+    /// Makes room for this frame above the others, where there is none yet. The one error is a refused request for memory, and leaves
+    /// all as it was.
     pub(crate) fn make_room(&mut self, frame: &Frame<P>) -> Result<(), AllocError>
         ensures items { self.new.items ≡ self.old.items }
         ensures more { MoreRoom self.old.room self.new.room }
@@ -177,8 +178,8 @@ impl<P: Copy> Frames<P> {
     {
         self.headers.reserve(1)?;
         if !frame.is_bare() {
-            let missing = self.headers.len() - self.temps.len() + 1;
-            self.temps.reserve(missing)?;
+            let more = self.headers.len() - self.temps.len() + 1;
+            self.temps.reserve(more)?;
         }
         Ok(())
     }
@@ -245,8 +246,8 @@ fn take_last(alloc: Global, temps: &mut Vec<Temps>, index: usize) -> Temps
     }
 }
 
-/// There are so many temporaries at least: where there are fewer, none are put there. The one error is a refused request for memory,
-/// and leaves all as it was.
+/// Makes the list at least so long: where it is shorter, temporaries of frames that have none are put behind it. The one error is a
+/// refused request for memory, and leaves all as it was.
 fn fill_up(alloc: Global, temps: &mut Vec<Temps>, len: usize) -> Result<(), AllocError>
     ensures ok { OnOk result (temps.new.items ≡ temps.old.items ++ replicate (len - length temps.old.items) []) }
     ensures err { OnErr result (temps.new.items ≡ temps.old.items) }
@@ -259,7 +260,7 @@ fn fill_up(alloc: Global, temps: &mut Vec<Temps>, len: usize) -> Result<(), Allo
     Ok(())
 }
 
-/// So many times no temporaries more, for which there is room.
+/// Puts temporaries of so many frames that have none behind the others; there is room for them.
 fn fill(alloc: Global, temps: &mut Vec<Temps>, count: usize)
     requires { length temps.old.items + count ≤ vec_capacity temps.old }
     ensures items { temps.new.items ≡ temps.old.items ++ replicate count [] }

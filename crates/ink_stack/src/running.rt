@@ -1,6 +1,6 @@
 //! The thread that runs.
 
-ghost use Rattle.std.specs.Prelude.{◌≡◌, ◌≢◌, ◌⊎◌, [], ◌∷◌, ◌<◌, ◌≤◌, ◌+◌, None, true, option_map, reverse, IfOk, OnOk, OnErr};
+ghost use Rattle.std.specs.Prelude.{◌≡◌, ◌≢◌, ◌⊎◌, [], ◌∷◌, ◌<◌, ◌≤◌, None, true, option_map, reverse, IfOk, OnOk, OnErr};
 ghost use Rattle.std.specs.Bool.{OnTrue, OnFalse};
 ghost use Rattle.ink_model.specs.Bases.{BaseFirst};
 ghost use Rattle.ink_model.specs.Frames.{base_frame, fresh_depth, frame_numbered, gone, is_function, mode_in, put_in, unnumbered_thread};
@@ -22,8 +22,8 @@ use std::marker::Model;
 use std::mem;
 
 /// The thread that runs: frames, of which there is always one on top and the bottom one alone is the base, and the place from
-/// which flow last moved in it. A contract sees the thread, its frames below the top one with the nearest first, and how many
-/// such frames fit without memory.
+/// which flow last moved in it. A contract sees the thread, its frames below the top one with the nearest first, and the room
+/// for such frames without memory.
 ///
 /// `quiet` says that of the function frames that are nearest below the top one none is fresh, so that a text need not look at
 /// them. `numbered` says whether a frame below the top one may have the number of its mark, so that the end of a line need not
@@ -237,42 +237,42 @@ impl<P: Copy> Running<P> {
     }
 
     /// What a frame has by a name; none where there is no such frame or name.
-    pub(crate) fn temp(&self, frame: usize, name: &str) -> Option<&Value>
-        ensures { option_map (λ value. value.now) result ≡ temp_in frame name.now self.now.thread }
+    pub(crate) fn temp(&self, number: usize, name: &str) -> Option<&Value>
+        ensures { option_map (λ value. value.now) result ≡ temp_in number name.now self.now.thread }
     {
-        if frame == self.frames() {
+        if number == self.frames() {
             return self.frame.temp(name);
         }
-        if frame == 0 || frame > self.frames() {
+        if number == 0 || number > self.frames() {
             return None;
         }
-        self.below.temp(frame - 1, name)
+        self.below.temp(number - 1, name)
     }
 
     // Gives a temporary a value, and answers the index of its row and what that held; none where it is new.
     pub(crate) fn set_temp(
         &mut self,
-        frame: usize,
+        number: usize,
         name: TempName<'_>,
         value: Value,
     ) -> Result<(usize, Option<Value>), AllocError>
-        requires from { 0 < frame }
-        requires there { frame ≤ frame_count self.old.thread }
-        ensures ok { OnOk result (self.new.thread ≡ with_temp frame (text_of name.entry) value self.old.thread) }
+        requires from { 0 < number }
+        requires there { number ≤ frame_count self.old.thread }
+        ensures ok { OnOk result (self.new.thread ≡ with_temp number (text_of name.entry) value self.old.thread) }
         ensures err { OnErr result (self.new.thread ≡ self.old.thread) }
         ensures room { MoreRoom self.old.room self.new.room }
-        ensures memory { OnErr result (temp_in frame (text_of name.entry) self.old.thread ≡ None) }
-        ensures back { IfOk result (λ was. with_frame (temp_back was.0 was.1) frame self.new.thread ≡ self.old.thread) }
+        ensures memory { OnErr result (temp_in number (text_of name.entry) self.old.thread ≡ None) }
+        ensures back { IfOk result (λ was. with_frame (temp_back was.0 was.1) number self.new.thread ≡ self.old.thread) }
     {
-        if frame == self.frames() {
+        if number == self.frames() {
             return self.frame.set_temp(name, value);
         }
-        self.below.set_temp(frame - 1, name, value)
+        self.below.set_temp(number - 1, name, value)
     }
 
     // ---- what a mark needs
 
-    // What is true of each.
+    // Does nothing; by its contract the frames are within their limit and their room.
     #[inline(always)]
     pub(crate) fn within(&self)
         ensures { Within self.now.room self.now.thread }

@@ -80,14 +80,14 @@ impl Temps {
 impl<P: Copy> Thread<P> {
     /// The thread of these frames, the bottom one first, and the place from which it last moved; none where there is no frame,
     /// the bottom one alone is not the base, or there are more than 1,000. The one error is a refused request for memory, which
-    /// one frame alone never makes.
+    /// one frame alone never makes, nor do frames that make no thread.
     pub fn from_frames(
         alloc: Global,
         frames: Vec<Frame<P>>,
         previous: Option<P>,
     ) -> Result<Option<Thread<P>>, AllocError>
         ensures thread { IfOk result (λ made. made ≡ thread_from frames.items previous) }
-        ensures memory { OnErr result (1 < length frames.items) }
+        ensures memory { OnErr result ((1 < length frames.items) × (thread_from frames.items previous ≢ None)) }
     {
         if base_first(frames.as_slice()) && frames.len() <= MAX_FRAMES {
             Thread::with(alloc, frames, previous)
@@ -105,7 +105,7 @@ impl<P: Copy> Thread<P> {
         requires few { length frames.items ≤ MAX_FRAMES }
         requires base { base_first frames.items ≡ true }
         ensures thread { IfOk result (λ made. made ≡ thread_with (reverse frames.items) previous) }
-        ensures memory { OnErr result (1 < length frames.items) }
+        ensures memory { OnErr result ((1 < length frames.items) × (thread_with (reverse frames.items) previous ≢ None)) }
     {
         let mut rest = frames;
         let Some(frame) = rest.pop() else {

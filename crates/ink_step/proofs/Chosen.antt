@@ -35,11 +35,6 @@ module _ {P : Type 0} where
   pub takes_any : (n : ℕ) (cs new : List (ChoiceOf P)) (x : ChoiceOf P) → Some x ≡ slice_get (visible cs) n → Takes (taken n cs) cs new (Ok None) → ⊥
   takes_any n cs new x h = takes_some (taken n cs) cs new x (taken_visible n cs x (sym h))
 
-  -- where memory was refused, nothing was taken
-  pub takes_short : (r : Option (ChoiceOf P × List (ChoiceOf P))) (old new : List (ChoiceOf P)) (f : Fault) → Takes r old new (Err f) → f ≡ OutOfMemory
-  takes_short None old new f h = h.0
-  takes_short (Some r) old new f h = h.0
-
   -- where none is visible, the first is
   first_taken : (cs : List (ChoiceOf P)) → none_visible cs ≡ true → option_map (λ r. r.0) (taken 0 cs) ≡ slice_get cs 0
   first_taken [] h = refl
@@ -89,7 +84,7 @@ module _ {P Q : Type 0} (f : P → Q) where
 
 -- nothing was taken where memory was refused
 pub takes_none : {P : Type 0} → (o : Option (ChoiceOf P × List (ChoiceOf P))) (cs new : List (ChoiceOf P)) (f : Fault) → Takes o cs new (Err f) → (f ≡ OutOfMemory) × (new ≡ cs)
-takes_none None cs new f h = h
+takes_none None cs new f h = absurd h
 takes_none (Some r) cs new f h = h
 
 -- ---- where flow stops

@@ -40,10 +40,3 @@ performs_more s asks e new r h = h
 pub performs_or : (s : StoryTree) (more asks : Bool) (e : Effect) (new : Fields) (r : Result Transfer Fault) → Performs s asks e new r → Performs s (more || asks) e new r
 performs_or s true asks e new r h = performs_more s asks e new r h
 performs_or s false asks e new r h = h
-
--- The same where that is so of one that asks for less.
-pub performs_where : (s : StoryTree) (a b : Bool) → (a ≡ true → b ≡ true) → (e : Effect) (new : Fields) (r : Result Transfer Fault) → Performs s a e new r → Performs s b e new r
-performs_where s a b allows (Fails g) new (Err f) h = elim h [ inl is ↦ inl is | inr refused ↦ inr (refused.0, allows refused.1) ]
-performs_where s a b allows (Stores t f) new (Ok (transfer.Store x)) h = (h.0, allows h.1)
-performs_where s a b allows e new (Err f) h = (h.0, allows h.1)
-performs_where s a b allows e new r h = h

@@ -109,12 +109,6 @@ ends_any asking more o globals d end h = absurd h
 
 -- ---- where flow went
 
--- whatever asks for memory, where there was no fault
-pub reaches_any : {P : Type 0} → (asking more : Bool) (reached : Reached P) (ts : ThreadsOf P) (w : Written) (end : StepEnd) → ReachesAs asking reached ts w (Ok end) → ReachesAs more reached ts w (Ok end)
-reaches_any asking more (Reaches us v) ts w ends.Went h = h
-reaches_any asking more (Halts us v) ts w ends.Stopped h = h
-reaches_any asking more reached ts w end h = absurd h
-
 -- the last thread is so by places too
 pub last_alike : {P Q : Type 0} → (f : P → Q) (ts : ThreadsOf P) → is_last (map_threads f ts) ≡ is_last ts
 last_alike {P = P} f ts = by ts.below

@@ -55,12 +55,6 @@ module _ (s : StoryTree) (b : Bound) (n : ℕ) (pressed : Bool) (es : List Event
   makes_went asking o ends.Stopped h = h
   makes_went asking o ends.WantsCall h = absurd (makes_said asking o h)
 
-  -- a quiet step that wants no call
-  pub quieted : (old : Configuration) (r : Result StepEnd Fault) (quiet asking : Bool) (o : Stepped) → (quiet ≡ true → wants o ≡ false) → StepMakes s b n pressed asking o es globals d r
-      → Steps quiet s b n pressed asking o es globals old d r
-  quieted old r true asking (Wants name arguments f c) unwanted h = absurd (let is = unwanted refl in cc)
-  quieted old r quiet asking o unwanted h = h
-
 -- where it is pressed for more
 pub makes_where : (s : StoryTree) (b : Bound) (n : ℕ) (es : List Event) (globals : Values) (d : Configuration) (r : Result StepEnd Fault) (pressed more : Bool) → (pressed ≡ true → more ≡ true) → (asking : Bool) (o : Stepped)
     → StepMakes s b n pressed asking o es globals d r → StepMakes s b n more asking o es globals d r

@@ -75,11 +75,14 @@ module _ (s : StoryTree) (found : Option (List Part)) (is : found ≡ option_map
       | inr short ↦
           inr (
             short.0,
-            record {
-              first = fresh_at q;
-              declares = first;
-              reached = h.before;
-              got_there = subst (λ d. GetsTo s nothing_bound d [] h.before) begins (never_calls begin h.before short.1);
-            },
+            (
+              record {
+                first = fresh_at q;
+                declares = first;
+                reached = h.before;
+                got_there = subst (λ d. GetsTo s nothing_bound d [] h.before) begins (never_calls begin h.before short.1);
+              },
+              h.kept,
+            ),
           )
     ]

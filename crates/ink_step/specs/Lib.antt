@@ -1,5 +1,6 @@
 pub mod Words
 pub mod Marks
+pub mod MarkExamples
 pub mod Performs
 pub mod External
 pub mod Stacks

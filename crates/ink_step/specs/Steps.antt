@@ -74,9 +74,10 @@ Passes asks stepped globals new (Ok None) = ⊤
 Passes asks stepped globals new (Ok (Some end)) = EndsPlainly asks stepped globals new (Ok end)
 Passes asks stepped globals new (Err f) = EndsPlainly asks stepped globals new (Err f)
 
--- A story does not open: its declarations fault, with these globals, or a step of theirs asks for memory and gets none.
+-- A story does not open: its declarations fault, with these globals, or a step of theirs asks for memory and gets none, before which
+-- these were the globals.
 abbrev pub FailsToOpen : StoryTree → Fault → Values → Type 0
-FailsToOpen s f globals = (opening s ≡ Err (record { fault = f; globals = globals })) ⊎ ((f ≡ OutOfMemory) × OpensShort s)
+FailsToOpen s f globals = (opening s ≡ Err (record { fault = f; globals = globals })) ⊎ ((f ≡ OutOfMemory) × ((short : OpensShort s) × (globals ≡ short.reached.shared.globals)))
 
 -- A choice is taken, with the containers that its landing enters; or there is none, or memory is refused for a first visit, and
 -- nothing has changed; where a mark stands, also for the copy of the choice and for notes (Marks.antt).

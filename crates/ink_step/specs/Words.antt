@@ -46,9 +46,6 @@ pub record Rest : Type 0 where
 abbrev pub rest_in : List (ChoiceOf Spot) → Shared → Rest
 rest_in choices shared = record { choices = choices; counts = shared.counts.rows; turn = shared.turn }
 
-abbrev pub rest_of : Machine → Rest
-rest_of m = rest_in m.flow.choices.items m.shared
-
 -- what content may look at and not change, as `context_of` gives it
 abbrev pub seen_by : StoryTree → ThreadsOf Spot → Rest → Context
 seen_by s threads rest = record {

@@ -76,6 +76,7 @@ impl Machine {
     pub fn choose(&mut self, story: &Story, number: usize) -> Result<(), Refusal>
         ensures chooses { let s = story_tree story.now in let c = config_of s self.old in let choice = open_choice number c in
             Chooses s (choosing_lacks s choice self.old self.new) choice c (config_of s self.new) result }
+        ensures start { start_of self.new ≡ start_of self.old }
         ensures aside { aside_in self.new ≡ aside_in self.old }
         ensures mark { stood_of self.new ≡ stood_of self.old }
     {
@@ -122,6 +123,7 @@ impl Machine {
         requires choices_room { 1 ≤ choices_spare self.old.flow.choices }
         requires own_room { 1 ≤ own_spare self.old.trail }
         ensures taken { (s : StoryTree) → let c = config_of s self.old in config_of s self.new ≡ taken_up (map_choice (place_of s) choice) (record c { shared = record c.shared { turn = turn } }) }
+        ensures start { start_of self.new ≡ start_of self.old }
         ensures aside { aside_in self.new ≡ aside_in self.old }
         ensures mark { stood_of self.new ≡ stood_of self.old }
     {
@@ -150,6 +152,7 @@ impl Machine {
     fn make_choosing_room(&mut self) -> Result<(), Refusal>
         ensures config { (s : StoryTree) → config_of s self.new ≡ config_of s self.old }
         ensures items { self.new.flow.choices.items ≡ self.old.flow.choices.items }
+        ensures start { start_of self.new ≡ start_of self.old }
         ensures aside { aside_in self.new ≡ aside_in self.old }
         ensures mark { stood_of self.new ≡ stood_of self.old }
         ensures threads { OnOk result (2 ≤ threads_spare self.new.flow.threads) }
@@ -168,13 +171,14 @@ impl Machine {
     }
 
     /// Ends all threads and choices, and lands at a place, in the next turn. The one error is a refused request for memory,
-    /// which is made only for a container that is entered for the first time; nothing has changed then (docs/RUNNING.md,
-    /// "Choosing and jumping").
+    /// which is made only for a container that is entered for the first time, and while a mark stands for notes; nothing has
+    /// changed then (docs/RUNNING.md, "Choosing and jumping").
     pub fn jump(&mut self, story: &Story, place: Spot) -> Result<(), AllocError>
         ensures ok { let s = story_tree story.now in OnOk result (config_of s self.new ≡ entering_around s (jumped (place_of s place) (config_of s self.old))) }
         ensures err { let s = story_tree story.now in OnErr result (config_of s self.new ≡ config_of s self.old) }
         ensures memory { let s = story_tree story.now in let there = jumped (place_of s place) (config_of s self.old) in
             OnErr result ((turn_lacks (length (around s there.flow.threads)) self.new || entering_asks s there) ≡ true) }
+        ensures start { start_of self.new ≡ start_of self.old }
         ensures aside { aside_in self.new ≡ aside_in self.old }
         ensures mark { stood_of self.new ≡ stood_of self.old }
     {

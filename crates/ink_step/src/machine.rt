@@ -1,11 +1,11 @@
 //! The machine that runs a story forward.
 
-ghost use Rattle.std.specs.Prelude.{◌≡◌, IfErr, OnOk, OnErr, is_ok, is_some};
+ghost use Rattle.std.specs.Prelude.{◌≡◌, ◌≤◌, IfErr, OnOk, OnErr, is_ok, is_some};
 ghost use Rattle.ink_model.specs.Configuration.{begun, settled, can_go_on, with_globals};
 ghost use Rattle.ink_model.specs.Passage.{is_loose};
 ghost use Rattle.ink_model.specs.Store.{store, stored};
 ghost use Rattle.ink_model.specs.Tree.{StoryTree};
-ghost use Rattle.ink_step.specs.Marks.{stood_of, unmarked};
+ghost use Rattle.ink_step.specs.Marks.{room_in, stood_of, unmarked};
 
 use crate::own::OwnPair;
 use ink_flows::{Aside, Flow};
@@ -95,6 +95,7 @@ impl Machine {
         ensures start { start_of self.new ≡ start_of self.old }
         ensures aside { aside_in self.new ≡ aside_in self.old }
         ensures mark { stood_of self.new ≡ unmarked }
+        ensures room { room_in self.old ≤ room_in self.new }
     {
         self.forget_own();
         self.flow.threads.forget();

@@ -10,13 +10,14 @@ use std::alloc::AllocError;
 impl Machine {
     ghost use Rattle.ink_step.specs.Words.{aside_in, config_of, start_of};
 
-    /// Starts a mark, at which all stands as it does now, and forgets an older one. Takes no memory.
+    /// Starts a mark, at which all stands as it does now, and forgets an older one. There is as much room afterwards. Takes no memory.
     pub fn mark(&mut self)
         ensures config { (s : StoryTree) → config_of s self.new ≡ config_of s self.old }
         ensures start { start_of self.new ≡ start_of self.old }
         ensures aside { aside_in self.new ≡ aside_in self.old }
         ensures mark { stood_of self.new ≡ marked_at self.old }
         ensures writes { writes_in self.new ≡ 0 }
+        ensures room { room_in self.old ≤ room_in self.new }
     {
         self.mark_own();
         self.flow.threads.mark();
@@ -51,6 +52,7 @@ impl Machine {
         ensures mark { stood_of self.new ≡ unmarked }
         ensures pairs { result ≡ pairs_in self.old }
         ensures few { result ≤ writes_in self.old }
+        ensures room { room_in self.old ≤ room_in self.new }
     {
         let own = self.back_own();
         let threads = self.flow.threads.back();

@@ -32,7 +32,7 @@ pub struct Unopened {
 impl Machine {
     ghost use Rattle.ink_step.specs.Marks.{stood_of, unmarked};
     ghost use Rattle.ink_step.specs.Steps.{FailsToOpen};
-    ghost use Rattle.ink_step.specs.Words.{aside_in, config_of, globals_of};
+    ghost use Rattle.ink_step.specs.Words.{aside_in, config_of, globals_of, start_of};
 
     /// A machine at the story's start, with the globals that the story declares, and one flow. The fault is that of the declarations, or
     /// `OutOfMemory`. A story without declarations needs no memory. No mark stands in the machine.
@@ -71,6 +71,7 @@ impl Machine {
     pub fn at_start(alloc: Global, story: &Story, globals: Globals) -> Machine
         ensures at_start { let s = story_tree story.now in config_of s result ≡ start s globals.rows }
         ensures globals { globals_of result ≡ globals.rows }
+        ensures start { start_of result ≡ globals.start }
         ensures aside { aside_in result ≡ one_flow }
         ensures mark { stood_of result ≡ unmarked }
     {
@@ -82,6 +83,7 @@ impl Machine {
     fn fresh(alloc: Global, place: Spot, mut globals: Globals) -> Machine
         ensures fresh { (s : StoryTree) → config_of s result ≡ with_globals globals.rows (fresh_at (place_of s place)) }
         ensures globals { globals_of result ≡ globals.rows }
+        ensures start { start_of result ≡ globals.start }
         ensures aside { aside_in result ≡ one_flow }
         ensures mark { stood_of result ≡ unmarked }
     {

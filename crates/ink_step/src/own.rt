@@ -52,6 +52,7 @@ impl Machine {
         ensures same { self.new ≡ record self.old { trail = self.new.trail } }
         ensures mark { own_stood self.new.trail self.old.shared.turn self.old.flow.safe ≡ Some (own_of self.old) }
         ensures writes { writes_of self.new.trail.undo ≡ 0 }
+        ensures room { self.old.trail.room ≤ self.new.trail.room }
     {
         self.trail.mark();
     }
@@ -64,6 +65,7 @@ impl Machine {
         ensures mark { own_stood self.new.trail self.new.shared.turn self.new.flow.safe ≡ None }
         ensures len { result ≡ length (trail_of self.old.trail.undo) }
         ensures writes { result ≤ writes_of self.old.trail.undo }
+        ensures room { self.old.trail.room ≤ self.new.trail.room }
     {
         let count = self.trail.len() as u64;
         while let Some(pair) = self.trail.take_last() {
@@ -81,6 +83,7 @@ impl Machine {
     pub(crate) fn forget_own(&mut self)
         ensures same { self.new ≡ record self.old { trail = self.new.trail } }
         ensures mark { own_stood self.new.trail self.old.shared.turn self.old.flow.safe ≡ None }
+        ensures room { self.old.trail.room ≤ self.new.trail.room }
     {
         self.trail.forget();
     }

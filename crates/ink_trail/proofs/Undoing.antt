@@ -1,7 +1,7 @@
 -- Laws of what is put back.
-use Rattle.std.proofs.Common.{◌≡◌, ◌∙◌, Bool, false, if◌then◌else◌, ◌≤◌, ◌<◌, ◌+◌, ◌^◌, ℕ, List, [], ◌∷◌, ◌++◌, length, true, is_some, IsSome, Option, Some, None, unwrap_or, Result, Ok, Err, ap, arith, refl, subst, sym}
+use Rattle.std.proofs.Common.{◌≡◌, ◌∙◌, Bool, false, if◌then◌else◌, ◌≤◌, ◌<◌, ◌+◌, ℕ, List, [], ◌∷◌, ◌++◌, length, true, is_some, IsSome, Option, Some, None, unwrap_or, Result, Ok, Err, ap, arith, refl, sym}
 use Rattle.std.proofs.lemmas.List.{append_assoc, length-append}
-use Rattle.ink_trail.specs.Undo.{Begins, HasRoom, KeepsTrail, LacksRoom, Notes, TrailView, Trails, TrailsOrKeeps, Undo, spare, spare_of, stood, stood_at, stood_of, trail_of, undone, with_count, with_pair, writes_of}
+use Rattle.ink_trail.specs.Undo.{KeepsTrail, LacksRoom, Notes, TrailView, Trails, TrailsOrKeeps, Undo, spare, spare_of, stood, stood_at, stood_of, trail_of, undone, with_count, with_pair, writes_of}
 
 -- ---- how many pairs more fit
 
@@ -20,48 +20,13 @@ module _ {E : Type 0} where
   pub spare-kept : (old new : TrailView E) → KeepsTrail old new → spare old ≤ spare new
   spare-kept old new kept = omega (arith, spare-less 0 old new (ap is_some kept.0) (omega (arith, kept.1)))
 
-  marked_still : (e : E) (n : ℕ) (u : Option (Undo E)) → is_some (with_pair e n u) ≡ is_some u
-  marked_still e n None = refl
-  marked_still e n (Some u) = refl
-
-  -- after a pair was noted
-  pub spare-pair : (e : E) (n : ℕ) (old new : TrailView E) → new.undo ≡ with_pair e n old.undo → old.room ≤ new.room + 1 → spare old ≤ spare new + 1
-  spare-pair e n old new undo h = spare-less 1 old new (ap is_some undo ∙ marked_still e n old.undo) h
-
-  has_by : (n : ℕ) (u : Option (Undo E)) (r : ℕ) → n ≤ spare_of u r → IsSome u → n ≤ r
-  has_by n None r h some = absurd (cc)
-  has_by n (Some u) r h some = h
-
-  by_has : (n : ℕ) (u : Option (Undo E)) (r : ℕ) → n ≤ 2 ^ 64 → (IsSome u → n ≤ r) → n ≤ spare_of u r
-  by_has n None r fits h = fits
-  by_has n (Some u) r fits h = h refl
-
   by_lacks : (n : ℕ) (u : Option (Undo E)) (r : ℕ) → IsSome u → r < n → spare_of u r < n
   by_lacks n None r some h = absurd (cc)
   by_lacks n (Some u) r some h = h
 
-  -- room by its count, and back
-  pub has-room : (n : ℕ) (t : TrailView E) → n ≤ spare t → HasRoom n t
-  unfolding spare
-  has-room n t h = has_by n t.undo t.room h
-
-  pub spare-room : (n : ℕ) (t : TrailView E) → n ≤ 2 ^ 64 → HasRoom n t → n ≤ spare t
-  unfolding spare
-  spare-room n t fits h = by_has n t.undo t.room fits h
-
   pub spare-lacks : (n : ℕ) (t : TrailView E) → LacksRoom n t → spare t < n
   unfolding spare
   spare-lacks n t h = by_lacks n t.undo t.room h.0 h.1
-
--- the room that is left after a pair was noted
-pub room-after : {E : Type 0} → (e : E) (n k m : ℕ) (old new : TrailView E) → new.undo ≡ with_pair e n old.undo → old.room ≤ new.room + 1 → k + 1 ≤ m → HasRoom m old → HasRoom k new
-room-after {E = E} e n k m old new undo room less has some = by old.undo new.undo undo some has
-  where
-    by : (u v : Option (Undo E)) → v ≡ with_pair e n u → IsSome v → (IsSome u → m ≤ old.room) → k ≤ new.room
-    by None v is there h =
-        let wrong : IsSome (with_pair e n None) = subst IsSome is there in
-        absurd (cc)
-    by (Some u) v is there h = omega (arith, h refl, room, less)
 
 module _ {E D : Type 0} (back : E → D → D) where
   pub undone-++ : (es fs : List E) (d : D) → undone back (es ++ fs) d ≡ undone back fs (undone back es d)
@@ -218,15 +183,6 @@ module _ {E D : Type 0} (back : E → D → D) where
       → Notes back n was old is new
   notes-none n was is old new undo same room = counts n was is old.undo new.undo old.room new.room undo same room
 
-  empty_from : (es fs : List E) → fs ≡ es ++ fs → es ≡ []
-  empty_from [] fs h = refl
-  empty_from (e ∷ es) fs h = absurd (omega (arith, ap length h ∙ length-append (e ∷ es) fs))
-
-  -- while a mark stands, a call that notes nothing changes nothing
-  pub unnoted-unchanged : (n : ℕ) (was is : D) (old new : TrailView E) → Trails back n was old is new → is_some old.undo ≡ true → trail_of new.undo ≡ trail_of old.undo → is ≡ was
-  unnoted-unchanged n was is old new p h same =
-      ap (λ es. undone back es is) (sym (empty_from p.pairs (trail_of old.undo) (sym same ∙ p.trail))) ∙ p.undone h
-
   -- ---- the data at the mark, where one stands
 
   marked_by : (u : Option (Undo E)) (d : D) → is_some (stood_of back u d) ≡ is_some u
@@ -272,20 +228,6 @@ module _ {E D : Type 0} (back : E → D → D) where
   pub spare-or-kept : {A F : Type 0} (r : Result A F) (n : ℕ) (was is : D) (old new : TrailView E) → TrailsOrKeeps back n was old is new r → spare old ≤ spare new + n
   spare-or-kept (Ok x) n was is old new h = spare-trails h
   spare-or-kept (Err f) n was is old new h = omega (arith, spare-kept old new h.1)
-
-  -- a call that notes one pair
-  pub stood-pair : (e : E) (n : ℕ) (was is : D) (old new : TrailView E) → back e is ≡ was → new.undo ≡ with_pair e n old.undo → stood_at back new is ≡ stood_at back old was
-  unfolding stood_at
-  stood-pair e n was is old new b undo = pair_by old.undo new.undo undo
-    where
-      pair_by : (u v : Option (Undo E)) → v ≡ with_pair e n u → stood_of back v is ≡ stood_of back u was
-      pair_by None v h = rw h refl
-      pair_by (Some u) v h = rw h (ap (λ d. Some (undone back u.trail d)) b)
-
-  -- a mark begins
-  pub stood-begins : (was is : D) (old new : TrailView E) → is ≡ was → Begins old new → stood_at back new is ≡ Some was
-  unfolding stood_at
-  stood-begins was is old new same begins = rw (begins.0, same) refl
 
   -- no mark stands
   pub stood-none : (t : TrailView E) (d : D) → t.undo ≡ None → stood_at back t d ≡ None

@@ -37,7 +37,7 @@ module _ {E : Type 0} where
   spare_of None room = 2 ^ 64
   spare_of (Some u) room = room
 
-  -- how many pairs more fit without memory
+  -- how many pairs more fit without memory, and 2^64 where no mark stands
   unfoldable pub spare : TrailView E → ℕ
   spare t = spare_of t.undo t.room
 

@@ -16,7 +16,7 @@ pub struct Trail<E> {
 }
 
 impl<E> Model for Trail<E> {
-    ghost use Rattle.std.specs.Prelude.{◌-◌, ◌≤◌, None, Some, if◌then◌else◌, reverse, vec_capacity, vec_len};
+    ghost use Rattle.std.specs.Prelude.{◌≡◌, ◌-◌, ◌≤◌, [], None, Some, false, if◌then◌else◌, reverse, vec_capacity, vec_len};
     ghost use Rattle.ink_trail.specs.Undo.{TrailView};
 
     ghost Value = { TrailView E };
@@ -26,7 +26,7 @@ impl<E> Model for Trail<E> {
       room = vec_capacity t.pairs - vec_len t.pairs;
     } };
 
-    ghost invariant = { λ t. vec_len t.pairs ≤ t.writes };
+    ghost invariant = { λ t. (vec_len t.pairs ≤ t.writes) × (t.marked ≡ false → t.pairs.items ≡ []) };
 }
 
 impl<E> Trail<E> {
@@ -61,7 +61,7 @@ impl<E> Trail<E> {
         ensures len { result ≡ length (trail_of self.now.undo) }
         ensures writes { result ≤ writes_of self.now.undo }
     {
-        if self.marked { self.pairs.len() } else { 0 }
+        self.pairs.len()
     }
 
     /// The pairs, in the order in which they were noted; none where no mark stands.
@@ -69,11 +69,7 @@ impl<E> Trail<E> {
     pub fn pairs(&self) -> &[E]
         ensures { result.now ≡ reverse (trail_of self.now.undo) }
     {
-        if self.marked {
-            self.pairs.as_slice()
-        } else {
-            &[]
-        }
+        self.pairs.as_slice()
     }
 
     /// Counts so many changes of single cells, where a mark stands: those that the pairs that were noted last put back already.
@@ -156,9 +152,9 @@ impl<E: Drop> Trail<E> {
     pub fn forget(&mut self)
         ensures { Ends self.old self.new }
     {
-        self.pairs.clear();
-        self.writes = 0;
         self.marked = false;
+        self.writes = 0;
+        self.pairs.clear();
     }
 
     /// Notes a pair, and counts so many changes of single cells, where a mark stands. Takes no memory.
@@ -227,9 +223,11 @@ impl<E: Drop> Trail<E> {
         Ok(())
     }
 
-    /// Takes the last pair out. Takes no memory.
+    /// Takes the last pair out: the mark stands as before, and no change is counted. None where there is no pair. Takes no memory.
     pub fn take_last(&mut self) -> Option<E>
         ensures pair { MatchOption result ((trail_of self.old.undo ≡ []) × (self.new.undo ≡ self.old.undo)) (λ e. trail_of self.old.undo ≡ e ∷ trail_of self.new.undo) }
+        ensures writes { writes_of self.new.undo ≡ writes_of self.old.undo }
+        ensures marked { is_some self.new.undo ≡ is_some self.old.undo }
         ensures room { self.old.room ≤ self.new.room }
     {
         if self.marked { self.pairs.pop() } else { None }

@@ -75,10 +75,6 @@ module _ (text : List ℕ) (rest : List (List ℕ)) (c : Part) (read : component
         | inr (d, ds, is) ↦ (d ∷ ds, is, ap ends_in_index (sym (same_Some (c ∷ d ∷ ds) ps (rw is at e))) ∙ index_last c d ds)
       ]
 
--- a text that is no component leads nowhere
-pub no_component : (s : StoryTree) (p : List Part) (text : List ℕ) (rest : List (List ℕ)) → component text ≡ None → option_and_then (walked s p) (components (text ∷ rest)) ≡ None
-no_component s p text rest none = rw none refl
-
 -- a path leads where its components do
 pub path_leads : (s : StoryTree) (p start : List Part) (text : List ℕ) (relative : Bool) (texts : List (List ℕ)) (l : Option Lead) → read_path text ≡ path_of relative texts
     → start ≡ cond relative p [] → LeadsBy s start texts l → Leads s p text l

@@ -52,12 +52,6 @@ name_same = slice_cmp-IsAntisymmetric nat_cmp-IsAntisymmetric
 pub nat_list_tied : (n : List ℕ) → slice_cmp nat_cmp n n ≡ Equal
 nat_list_tied n = tied_itself nat_list_cmp_total n
 
-pub part_same : (x y : Part) → part_order x y ≡ Equal → x ≡ y
-part_same (Index i) (Index j) h = ap Index (nat_cmp-IsAntisymmetric i j h)
-part_same (Index i) (Name n) h = absurd cc
-part_same (Name m) (Index j) h = absurd cc
-part_same (Name m) (Name n) h = ap Name (name_same m n h)
-
 pub place_tied : (p : List Part) → place_order p p ≡ Equal
 place_tied p = tied_itself place_total p
 

@@ -20,7 +20,8 @@ impl Tree {
 
     /// The links of all contents, in reading order. The one error is a refused request for memory.
     pub(crate) fn link_all(&self) -> Result<Vec<Link>, AllocError>
-        ensures { IfOk result (λ links. AreLinked (story_tree self.now) links.items) }
+        ensures linked { IfOk result (λ links. AreLinked (story_tree self.now) links.items) }
+        ensures all { IfOk result (λ links. length links.items ≡ length (places (story_tree self.now))) }
     {
         let mut links = Vec::with_capacity(self.alloc, self.len())?;
         for number in 0..self.len() {

@@ -9,7 +9,8 @@ pub struct NodeId {
     pub number: usize,
 }
 
-/// A place of a story: an index in a container, which may be the container's end, or without an index the container itself.
+/// A place of a story: an index in a container, which may be the container's end, or without an index the content itself. Content
+/// by index has a spot of either kind, so `==` also tells apart spots of one place.
 #[derive(Clone, Copy, PartialEq, Eq)]
 pub struct Spot {
     pub holder: NodeId,

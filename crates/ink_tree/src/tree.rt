@@ -54,7 +54,7 @@ impl Tree {
         }
     }
 
-    // The same. The one error is a refused request for memory.
+    // The tree of a story that was read. The one error is a refused request for memory.
     fn number(alloc: Global, raw: RawStory) -> Result<Tree, AllocError>
         ensures ok { IfOk result (λ t. story_tree t ≡ tree raw) }
         ensures spelled { IfOk result (λ t. IsSpelled (story_tree t)) }

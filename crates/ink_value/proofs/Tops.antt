@@ -1,5 +1,5 @@
 -- The values at the top of a stack.
-use Rattle.std.proofs.Common.{◌≡◌, ◌≢◌, ◌∙◌, slice_set, ℕ, zero, suc, ◌+◌, ◌-◌, ◌<◌, ◌≤◌, true, false, ap, sym, subst, refl, inl, inr, List, [], ◌∷◌, ◌++◌, length, take, drop, Option, Some, None, option_map, option_and_then, Result, Ok, Err, arith}
+use Rattle.std.proofs.Common.{◌≡◌, ◌≢◌, ◌∙◌, slice_get, slice_set, Bool, ℕ, zero, suc, ◌+◌, ◌-◌, ◌<◌, ◌≤◌, true, false, ap, sym, subst, refl, inl, inr, List, [], ◌∷◌, ◌++◌, length, take, drop, Option, Some, None, option_map, option_and_then, Result, Ok, Err, arith}
 use Rattle.std.proofs.Math.Seq.{append_snoc, drop-length, take-length, take-suc-set}
 use Rattle.std.proofs.lemmas.List.{append-nil, drop-append-le, length-drop, length-set, take-append-le, take_all}
 use Rattle.std.proofs.lemmas.Bool.{true_from_ne_false}
@@ -8,17 +8,29 @@ use Rattle.ink_model.specs.Joining.{makes_text}
 use Rattle.ink_model.specs.Memory.{Gives}
 use Rattle.ink_model.specs.Operator.{apply, takes}
 use Rattle.ink_model.specs.Stack.{applied, applied_to, on_top, popped, taken}
+use Rattle.ink_model.specs.VariableMemory.{on_popped}
 use Rattle.ink_value.specs.Stack.{with_top}
 use Rattle.ink_model.specs.declared.fault.Fault.{Fault}
 use Rattle.ink_model.specs.declared.fault.Fault.TheVariants.{StackEmpty}
 use Rattle.ink_model.specs.declared.operator.Op.{Op}
-use Rattle.ink_model.specs.declared.operator.Op.TheVariants as op
 use Rattle.ink_model.specs.declared.value.Value.{Value}
 
 pub top_of : (vs : List Value) (v : Value) → popped (vs ++ v ∷ []) ≡ Some (v, vs)
 top_of [] v = refl
 top_of (w ∷ []) v = refl
 top_of (w ∷ x ∷ vs) v = ap (option_map (λ r. (r.0, w ∷ r.1))) (top_of (x ∷ vs) v)
+
+popped_under : (w : Value) (r : Option (Value × List Value)) (asks : Value → Bool) → on_popped (option_map (λ t. (t.0, w ∷ t.1)) r) asks ≡ on_popped r asks
+popped_under w None asks = refl
+popped_under w (Some t) asks = refl
+
+-- what is asked about the value on top
+pub top_asks : (vs : List Value) (v : Value) (asks : Value → Bool) → slice_get vs (length vs - 1) ≡ Some v → on_popped (popped vs) asks ≡ asks v
+top_asks [] v asks h = absurd (cc)
+top_asks (w ∷ []) v asks h = let same : w ≡ v = cc in ap asks same
+top_asks (w ∷ x ∷ vs) v asks h =
+    let more : length (w ∷ x ∷ vs) - 1 ≡ suc (length (x ∷ vs) - 1) = omega arith in
+    popped_under w (popped (x ∷ vs)) asks ∙ top_asks (x ∷ vs) v asks (ap (slice_get (w ∷ x ∷ vs)) (sym more) ∙ h)
 
 -- some values have one on top
 top_in : (vs : List Value) (n : ℕ) → length vs ≡ suc n → (us : List Value) × (v : Value) × (vs ≡ us ++ v ∷ []) × (length us ≡ n)
@@ -90,23 +102,6 @@ module _ (o : Op) (vs : List Value) (below : ℕ) (enough : length vs ≡ below 
 pub last_put : (vs : List Value) (n : ℕ) (v : Value) → length vs ≡ suc n → slice_set vs n v ≡ take n vs ++ v ∷ []
 last_put vs n v long =
     sym (take_all (suc n) (slice_set vs n v) (omega (arith, length-set vs n v, long))) ∙ take-suc-set vs n v (omega (arith, long))
-
--- as many as an operator takes at the least and at the most
-pub takes_some : (o : Op) → 0 < takes o
-takes_some op.Negate = omega arith
-takes_some op.Not = omega arith
-takes_some op.Floor = omega arith
-takes_some op.Ceiling = omega arith
-takes_some op.Int = omega arith
-takes_some o = omega arith
-
-pub takes_two : (o : Op) → takes o ≤ 2
-takes_two op.Negate = omega arith
-takes_two op.Not = omega arith
-takes_two op.Floor = omega arith
-takes_two op.Ceiling = omega arith
-takes_two op.Int = omega arith
-takes_two o = omega arith
 
 -- ---- another value in the place of the one on top
 

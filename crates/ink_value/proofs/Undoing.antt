@@ -1,5 +1,5 @@
 -- There is room for what is put back of the stack.
-use Rattle.std.proofs.Common.{◌≡◌, ◌∙◌, ◌≤◌, ℕ, List, [], ◌∷◌, ◌++◌, Option, Some, None, false, is_some, ap, arith, subst, sym}
+use Rattle.std.proofs.Common.{◌≡◌, ◌∙◌, ◌≤◌, ℕ, List, [], ◌∷◌, ◌++◌, Option, ap, arith, subst, sym}
 use Rattle.ink_model.specs.declared.value.Value.{Value}
 use Rattle.ink_trail.proofs.Ending.{but_last-snoc}
 use Rattle.ink_trail.proofs.Staying.{stays-more, stays-now, stays-with}
@@ -24,11 +24,6 @@ held-with e n was is u r s same held more h = stays-with stack_back same_room He
 pub held-as : (r s : ℕ) (u v : Option (Undo StackPair)) (vs ws : List Value) → v ≡ u → ws ≡ vs → r ≤ s → StaysHeld r (trail_of u) vs → StaysHeld s (trail_of v) ws
 held-as r s u v vs ws undo same more h =
     subst (λ w. StaysHeld s (trail_of v) w) (sym same) (subst (λ (w : Option (Undo StackPair)). StaysHeld s (trail_of w) vs) (sym undo) (held-more r s (trail_of u) vs more h))
-
--- while no mark stands
-pub held-unmarked : (r : ℕ) (u : Option (Undo StackPair)) (vs : List Value) → is_some u ≡ false → Held r vs → StaysHeld r (trail_of u) vs
-held-unmarked r None vs none h = h
-held-unmarked r (Some u) vs none h = absurd (cc)
 
 -- ---- one change
 

@@ -2,10 +2,11 @@
 
 ghost use Rattle.std.specs.Prelude.{◌≡◌, ◌<◌, ◌≤◌, vec_len, vec_capacity, ◌↔◌, ◌⊎◌, [], ◌∷◌, ◌++◌, ◌+◌, true, false, Some, None, is_some, length, option_map, unwrap_or, reverse, slice_get, take, ◌-◌, OnOk, OnErr, IfOk, IfErr, MatchResult};
 ghost use Rattle.ink_model.specs.Asks.{operator_asks};
-ghost use Rattle.ink_model.specs.Memory.{Leaves};
+ghost use Rattle.ink_model.specs.Memory.{Leaves, holds_memory};
 ghost use Rattle.ink_model.specs.Operator as rules;
 ghost use Rattle.ink_model.specs.Stack.{applied, popped, taken};
 ghost use Rattle.ink_model.specs.Step.Host.{arguments_on};
+ghost use Rattle.ink_model.specs.VariableMemory.{on_popped};
 ghost use Rattle.ink_trail.specs.Undo.{Begins, Ends, KeepsTrail, Trails, TrailsOrKeeps, trail_of, writes_of};
 ghost use Rattle.ink_value.specs.Stack.{with_top};
 ghost use Rattle.ink_value.specs.Undo.{stack_back, stack_spare, stack_stood};
@@ -75,14 +76,15 @@ impl EvalStack {
     }
 
     /// Takes the value on top, which is one change of a cell. `StackEmpty` where there is none. While a mark stands it hands out a
-    /// copy, and then alone `OutOfMemory` is for a count of owners that is full, or a refused request for memory. On an error
-    /// nothing has changed.
+    /// copy, and then alone `OutOfMemory` is for a count of owners that is full, where the value shares something, or for a refused
+    /// request for memory, where there is no room for one change more. On an error nothing has changed.
     pub fn pop(&mut self) -> Result<Value, Fault>
         ensures items { IfOk result (λ value. self.old.items ≡ self.new.items ++ value ∷ []) }
         ensures err { OnErr result (self.new.items ≡ self.old.items) }
         ensures empty { (result ≡ Err Fault.StackEmpty) ↔ (self.old.items ≡ []) }
         ensures faults { IfErr result (λ f. (f ≡ Fault.StackEmpty) ⊎ (f ≡ Fault.OutOfMemory)) }
         ensures memory { result ≡ Err Fault.OutOfMemory → is_some (stack_stood self.old) ≡ true }
+        ensures asks { result ≡ Err Fault.OutOfMemory → (on_popped (popped self.old.items) holds_memory ≡ true) ⊎ (stack_spare self.old < 1) }
         ensures trail { TrailsOrKeeps stack_back 1 self.old.items self.old.trail self.new.items self.new.trail result }
         ensures stood { stack_stood self.new ≡ stack_stood self.old }
         ensures spare { stack_spare self.old ≤ stack_spare self.new + 1 }
@@ -101,6 +103,7 @@ impl EvalStack {
         ensures err { OnErr result (self.new.items ≡ self.old.items) }
         ensures empty { (result ≡ Err Fault.StackEmpty) ↔ (self.old.items ≡ []) }
         ensures faults { IfErr result (λ f. (f ≡ Fault.StackEmpty) ⊎ (f ≡ Fault.OutOfMemory)) }
+        ensures memory { result ≡ Err Fault.OutOfMemory → (on_popped (popped self.old.items) holds_memory ≡ true) ⊎ (stack_spare self.old < 1) }
         ensures trail { TrailsOrKeeps stack_back 1 self.old.items self.old.trail self.new.items self.new.trail result }
         ensures stood { stack_stood self.new ≡ stack_stood self.old }
         ensures spare { stack_spare self.old ≤ stack_spare self.new + 1 }
@@ -173,7 +176,7 @@ impl EvalStack {
         Ok(&self.items[self.items.len() - 1 - depth])
     }
 
-    /// The values on top, so many of them, in the order in which they were written; none where there are not so many. Takes no
+    /// The values on top, so many of them, in the order in which they were pushed; none where there are not so many. Takes no
     /// memory.
     pub fn lend(&self, count: usize) -> Option<&[Value]>
         ensures { option_map (λ values. values.now) result ≡ option_map (λ arguments. arguments.0) (arguments_on count self.now.items) }

@@ -20,7 +20,7 @@ pub(crate) fn is_for_texts(operator: Op) -> bool
     )
 }
 
-/// What an operator makes of two texts that are owned together: joined with nothing, one of them is the answer as it stands.
+/// What an operator makes of two texts that can be shared: one that is joined with nothing is shared, and not copied.
 pub(crate) fn of_shared(
     alloc: Global,
     operator: Op,
@@ -36,6 +36,7 @@ pub(crate) fn of_shared(
     }
 }
 
+// Two texts joined, or the one that is not empty, where a text may be so long.
 fn joined_or_shared(
     alloc: Global,
     left: &Shared<Text>,

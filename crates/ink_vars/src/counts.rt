@@ -84,7 +84,8 @@ impl Counts {
     /// A container with these flags is entered in a turn, at its start or not: one more visit where flag 1 says so, which
     /// stays at 2,147,483,647, and the turn is noted where flag 2 says so; where flag 4 is set, only at its start. These are two
     /// changes of cells. The one error is `OutOfMemory` for a refused request for memory, which is made only for a container that
-    /// has no such row yet, and while a mark stands, and leaves all as it was (docs/VARIABLES.md, "Counts").
+    /// has no such row yet, or, while a mark stands, where there is no room for its pairs, and leaves all as it was
+    /// (docs/VARIABLES.md, "Counts").
     pub fn visit(&mut self, node: usize, flags: u8, at_start: bool, turn: Turn) -> Result<(), Fault>
         ensures ok { OnOk result (self.new.rows ≡ rules.visited nat_cmp node flags at_start turn self.old.rows) }
         ensures fault { IfErr result (λ f. f ≡ Fault.OutOfMemory) }

@@ -117,8 +117,8 @@ impl Globals {
         self.table.pair(index)
     }
 
-    /// Gives a global that is there a value, without memory. Where there is none, the value is handed back. The moment is this
-    /// one then, so no mark may stand.
+    /// Gives a global that is there a value, without memory. Where there is none, the value is handed back, and the globals stay as
+    /// they were. The moment is this one from now on in either case, so no mark may stand.
     pub fn replace(&mut self, name: &str, value: Value) -> Result<(), Value>
         requires unmarked { globals_stood self.old ≡ None }
         ensures found { is_ok result ≡ is_some (stored name.now self.old.rows) }
@@ -136,7 +136,8 @@ impl Globals {
 
     /// Gives the global of a name, which may have a number, a value, which is one change of a cell: one that is there keeps its
     /// place, and a new one comes last. What the globals were at the moment stays known. The one error is a refused request for
-    /// memory, which is made only where the global is as it was at the moment, and while a mark stands, and leaves all as it was.
+    /// memory, which is made only where the global is as it was at the moment, or, while a mark stands, where there is no room for
+    /// its pair, and leaves all as it was.
     #[inline(always)]
     pub fn put(&mut self, name: &str, number: Option<usize>, value: Value) -> Result<(), AllocError>
         ensures ok { OnOk result (self.new.rows ≡ store name.now value self.old.rows) }

@@ -1,6 +1,6 @@
 //! Values by name, in order, found by name and by number.
 
-ghost use Rattle.std.specs.Prelude.{◌≡◌, ◌<◌, [], false, true, is_some, is_ok, length, option_map, slice_get, IfErr, IfSome, OnOk, OnErr, Some};
+ghost use Rattle.std.specs.Prelude.{◌≡◌, ◌<◌, ◌≤◌, ◌+◌, [], false, true, is_some, is_ok, length, max, option_map, slice_get, IfErr, IfSome, OnOk, OnErr, Some};
 ghost use Rattle.ink_model.specs.Store.{stored, store};
 ghost use Rattle.ink_trail.specs.Undo.{but_last};
 ghost use Rattle.ink_vars.specs.Changes.{number_of};
@@ -16,8 +16,9 @@ use std::mem;
 
 /// The values of globals by name, in the order in which they were declared. A contract sees the list of them.
 ///
-/// A name may have a number, which whoever asks gives with it: the slot of that number is where the global was put last, so that
-/// it is found there at once. It is looked at whether the name stands there; if not, the global is found by its name.
+/// A name may have a number, which whoever asks gives with it: the slot of that number has the index at which a global was added
+/// with it last, so that it is found there at once. It is looked at whether the name stands there; if not, the global is found by
+/// its name.
 #[derive(Drop)]
 pub(crate) struct Table {
     names: Names,
@@ -268,9 +269,10 @@ impl Table {
     }
 }
 
-// Makes room for the slot of a number.
+// Makes room for the slot of a number, and for no more, where there is none.
 fn make_slot(slots: &mut Vec<usize>, number: usize) -> Result<(), AllocError>
-    ensures { OnOk result (number < length slots.new.items) }
+    ensures room { OnOk result (number < length slots.new.items) }
+    ensures most { length slots.new.items ≤ max (length slots.old.items) (number + 1) }
 {
     while slots.len() <= number {
         slots.push(0)?;

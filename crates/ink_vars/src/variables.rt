@@ -1,13 +1,13 @@
 //! Variables that are read, assigned and declared.
 
-ghost use Rattle.std.specs.Prelude.{◌≡◌, ◌≤◌, pos, true, is_some, Ok, Some, if◌then◌else◌};
+ghost use Rattle.std.specs.Prelude.{◌≡◌, ◌≤◌, ◌⊎◌, pos, true, is_some, option_map, None, Ok, Some, IfOk, if◌then◌else◌};
 ghost use Rattle.ink_model.specs.Rows.{name_order, row};
 ghost use Rattle.ink_model.specs.Store.{Values};
 ghost use Rattle.ink_model.specs.Threads.{frame_count};
 ghost use Rattle.ink_model.specs.VariableMemory.{is_pointer};
 ghost use Rattle.ink_model.specs.Variables as rules;
 ghost use Rattle.ink_model.specs.declared.value.Value.{Value as Data};
-ghost use Rattle.ink_vars.specs.Words.{Copies, Declares, HandsOut, LeadsInto, LeadsTo, looked};
+ghost use Rattle.ink_vars.specs.Words.{Copies, Declares, HandsOut, LeadsInto, LeadsTo, found, found_at, looked, number_of_name};
 
 use crate::globals::Globals;
 use crate::places::{Name, Variable};
@@ -49,8 +49,8 @@ pub fn read_at<P: Copy>(
     }
 }
 
-/// What a variable is read as, by a name that may have a number, without a copy; none where nothing has it, which reads 0. The
-/// one error is `BadPointer`, as of `read`. Takes no memory.
+/// What a variable is read as, by a name that may have a number, without a copy; none where nothing has it, or the frame that its
+/// pointer leads to lacks it, which reads 0. The one error is `BadPointer`, as of `read`. Takes no memory.
 #[inline(always)]
 pub fn look<'a, P: Copy>(
     globals: &'a Globals,
@@ -58,7 +58,8 @@ pub fn look<'a, P: Copy>(
     name: &str,
     number: Option<usize>,
 ) -> Result<Option<&'a Value>, Fault>
-    ensures { looked result ≡ rules.read globals.now.rows threads.now.threads.thread name.now }
+    ensures read { looked result ≡ rules.read globals.now.rows threads.now.threads.thread name.now }
+    ensures found { IfOk result (λ value. option_map (λ v. v.now) value ≡ found globals.now.rows threads.now.threads.thread name.now) }
 {
     match named(globals, threads, name, number) {
         None => Ok(None),
@@ -75,8 +76,10 @@ fn look_at<'a, P: Copy>(
     frame: i32,
     name: &'a Shared<Text>,
 ) -> Result<Option<&'a Value>, Fault>
-    ensures { let end = rules.chain_end globals.now.rows threads.now.threads.thread frame name.now in
+    ensures read { let end = rules.chain_end globals.now.rows threads.now.threads.thread frame name.now in
         looked result ≡ rules.value_at globals.now.rows threads.now.threads.thread end }
+    ensures found { let end = rules.chain_end globals.now.rows threads.now.threads.thread frame name.now in
+        IfOk result (λ value. option_map (λ v. v.now) value ≡ found_at globals.now.rows threads.now.threads.thread end) }
 {
     let Some(end) = chain_end(globals, threads, frame, name) else {
         return Err(Fault::BadPointer);
@@ -106,14 +109,15 @@ fn copied(alloc: Global, value: &Value) -> Result<Value, Fault>
 /// current frame's temporary, or what the pointer leads to that it holds. `NoTemp` where nothing has that name, or the frame that
 /// the pointer leads to lacks it; `BadPointer` where the pointer leads to a global or a frame that is not there, or the chain of
 /// pointers is too long; `OutOfMemory` where a pointer is followed and its name has as many owners as can be (docs/VARIABLES.md,
-/// "Pointers").
+/// "Pointers"). The variable has the number that was given, or none.
 pub fn assigned<'a, P: Copy>(
     globals: &Globals,
     threads: &Threads<P>,
     name: &'a Shared<Text>,
     number: Option<usize>,
 ) -> Result<Variable<'a>, Fault>
-    ensures { LeadsTo globals.now.rows threads.now.threads.thread name.now result }
+    ensures leads { LeadsTo globals.now.rows threads.now.threads.thread name.now result }
+    ensures number { IfOk result (λ x. (number_of_name x.name ≡ number) ⊎ (number_of_name x.name ≡ None)) }
 {
     if let Some(value) = globals.get_at(name.as_str(), number) {
         return assigned_in(globals, threads, 0, name, number, value);
@@ -138,7 +142,8 @@ fn assigned_in<'a, P: Copy>(
     requires there { is_some (rules.held globals.now.rows threads.now.threads.thread (pos frame) name.now) ≡ true }
     requires within { frame ≤ frame_count threads.now.threads.thread }
     requires same { (v : Data) → rules.with_named globals.now.rows threads.now.threads.thread name.now v ≡ rules.with_held globals.now.rows threads.now.threads.thread (pos frame) name.now v }
-    ensures { LeadsTo globals.now.rows threads.now.threads.thread name.now result }
+    ensures leads { LeadsTo globals.now.rows threads.now.threads.thread name.now result }
+    ensures number { IfOk result (λ x. (number_of_name x.name ≡ number) ⊎ (number_of_name x.name ≡ None)) }
 {
     match value {
         Value::Pointer(frame, to) => pointed(globals, threads, *frame, to),
@@ -156,8 +161,9 @@ fn pointed<'a, P: Copy>(
     frame: i32,
     name: &Shared<Text>,
 ) -> Result<Variable<'a>, Fault>
-    ensures { let end = rules.chain_end globals.now.rows threads.now.threads.thread frame name.now in
+    ensures leads { let end = rules.chain_end globals.now.rows threads.now.threads.thread frame name.now in
         LeadsInto globals.now.rows threads.now.threads.thread end result }
+    ensures number { IfOk result (λ x. number_of_name x.name ≡ None) }
 {
     let Some(end) = chain_end(globals, threads, frame, name) else {
         return Err(Fault::BadPointer);
@@ -192,7 +198,7 @@ fn lacking<P: Copy>(globals: &Globals, threads: &Threads<P>, frame: i32, name: &
 }
 
 /// The variable that is written where a name, which may have a number, is declared in a scope, whether it is there or not: a
-/// global, or a temporary of the current frame. Takes no memory.
+/// global, or a temporary of the current frame. It has the number that was given. Takes no memory.
 pub fn declared<'a, P: Copy>(
     threads: &Threads<P>,
     scope: Scope,
@@ -200,6 +206,7 @@ pub fn declared<'a, P: Copy>(
     number: Option<usize>,
 ) -> Variable<'a>
     ensures within { result.frame ≤ frame_count threads.now.threads.thread }
+    ensures number { number_of_name result.name ≡ number }
     ensures variable { (globals : Values) → Declares globals threads.now.threads.thread scope name.now result }
 {
     let frame = match scope {

@@ -5,7 +5,7 @@
 mod objects;
 mod story;
 
-use ink_player::{Desk, Halt, Passage, PlayEnd, Player, open_story};
+use ink_player::{Desk, Halt, Passage, PlayEnd, Player, Refusal, open_story};
 use objects::{Die, Inn, Purse};
 use std::alloc::{AllocError, Global};
 use std::io;
@@ -85,11 +85,20 @@ fn play<R: Print + Drop>(
     for line in rt.lines(alloc) {
         let line = line?;
         match line.trim().parse::<u32>() {
-            Ok(number) if game.choose(number).is_ok() => tell(rt, game)?,
-            _ => println!(rt; "There is no such choice.")?,
+            Ok(number) => take(rt, game, number)?,
+            Err(_) => println!(rt; "There is no such choice.")?,
         }
     }
     Ok(())
+}
+
+/// Takes a choice, and shows what comes; or tells why it was not taken.
+fn take<R: Print + Drop>(rt: &impl Print, game: &mut Game<R>, number: u32) -> io::Result<()> {
+    match game.choose(number) {
+        Ok(()) => tell(rt, game),
+        Err(Refusal::NotAChoice) => println!(rt; "There is no such choice."),
+        Err(refusal) => println!(rt; "{}", refusal.name()),
+    }
 }
 
 /// Shows line by line what comes, up to the next choice.

@@ -24,5 +24,5 @@ returns-clause-does g c =
     let does = c.load.ensures.does in (
       does.0,
       subst (λ (v : Option Value). Load (story_of p) (bindings g.P.PureFn.meaning (desk_of p)) does.0 (option_map view v) (state_of p) (reply_of_events c.load.result) (state_of c.load.new.self)) (sym c.in-Some.is) does.1,
-      dealt-once g.F.TurnFn.log g.O.Watcher.state _ (desk_of p) (desk_of c.load.new.self) does.0 does.2,
+      dealt-once g.F.TurnFn.log g.O.Watcher.state _ (desk_of p) (desk_of c.load.new.self) does.0 (reply_of_events c.load.result) does.2,
     )

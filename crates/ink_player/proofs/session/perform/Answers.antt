@@ -1,9 +1,10 @@
 use Rattle.std.proofs.Common.{◌∙◌, [], None, Some, ap, inl, inr, refl}
 use Rattle.serde_json.specs.Data.{null}
+use Rattle.ink_model.specs.Answer.{reply_of, reply_of_events}
 use Rattle.ink_player.specs.Words.{desk_of}
 use Rattle.ink_protocol.specs.declared.command.LineCommand.TheVariants as line
 use Rattle.ink_player.proofs.Sessions.{command_acts, command_does}
-use Rattle.ink_player.proofs.Tellings.{dealt-kept, dealt-none, dealt-once}
+use Rattle.ink_player.proofs.Tellings.{dealt-kept, dealt-none, dealt-once, dealt-run}
 use Rattle.ink_player.proofs.session.perform.Goals as goal
 
 pub returns-in-Some-Continue-clause-does : goal.returns-in-Some-Continue-clause-does
@@ -13,7 +14,7 @@ returns-in-Some-Continue-clause-does g c =
       null,
       tt,
       command_acts _ _ does.0 _ _ _ c.args.command (Some line.Continue) (c.in-Some-Continue.is ∙ ap (λ k. Some k) c.in-Some-Continue.field-0-is) does.1,
-      dealt-once g.F.TurnFn.log g.O.Watcher.state _ (desk_of c.args.player.now) (desk_of c.continue_line.new.self) does.0 does.2,
+      dealt-run g.F.TurnFn.log g.O.Watcher.state _ (desk_of c.args.player.now) (desk_of c.continue_line.new.self) does.0 (reply_of c.continue_line.result) does.2,
     )
 
 pub returns-in-Some-Through-clause-does : goal.returns-in-Some-Through-clause-does
@@ -23,7 +24,7 @@ returns-in-Some-Through-clause-does g c =
       null,
       tt,
       command_acts _ _ does.0 _ _ _ c.args.command (Some line.Through) (c.in-Some-Through.is ∙ ap (λ k. Some k) c.in-Some-Through.field-0-is) does.1,
-      dealt-once g.F.TurnFn.log g.O.Watcher.state _ (desk_of c.args.player.now) (desk_of c.through.new.self) does.0 does.2,
+      dealt-run g.F.TurnFn.log g.O.Watcher.state _ (desk_of c.args.player.now) (desk_of c.through.new.self) does.0 (reply_of c.through.result) does.2,
     )
 
 pub returns-in-Some-Restart-clause-does : goal.returns-in-Some-Restart-clause-does
@@ -33,7 +34,7 @@ returns-in-Some-Restart-clause-does g c =
       null,
       tt,
       command_acts _ _ does.0 _ _ _ c.args.command (Some line.Restart) (c.in-Some-Restart.is ∙ ap (λ k. Some k) c.in-Some-Restart.field-0-is) does.1,
-      dealt-once g.F.TurnFn.log g.O.Watcher.state _ (desk_of c.args.player.now) (desk_of c.restart.new.self) does.0 does.2,
+      dealt-once g.F.TurnFn.log g.O.Watcher.state _ (desk_of c.args.player.now) (desk_of c.restart.new.self) does.0 (reply_of_events c.restart.result) does.2,
     )
 
 pub returns-in-Some-Set-clause-does : goal.returns-in-Some-Set-clause-does

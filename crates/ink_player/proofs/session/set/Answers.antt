@@ -20,5 +20,5 @@ returns-clause-does g c =
     let does = c.set.ensures.does in (
       does.0,
       subst (λ (v : Option Given). Set (bindings g.P.PureFn.meaning (desk_of c.args.player.now)) does.0 c.args.name.now v (state_of c.args.player.now) (reply_of_events c.set.result) (state_of c.set.new.self)) (sym c.in-Some.is) does.1,
-      dealt-once g.F.TurnFn.log g.O.Watcher.state _ (desk_of c.args.player.now) (desk_of c.set.new.self) does.0 does.2,
+      dealt-once g.F.TurnFn.log g.O.Watcher.state _ (desk_of c.args.player.now) (desk_of c.set.new.self) does.0 (reply_of_events c.set.result) does.2,
     )

@@ -11,7 +11,7 @@ pub returns-in-Ok-clause-effect : goal.returns-in-Ok-clause-effect
 returns-in-Ok-clause-effect c s rest evaluating fresh page =
     let pops : popped c.args.stack.now.items ≡ Some (c.in-Some.value, c.take.new.stack.items) = subst (Pops c.args.stack.now.items c.take.new.stack.items) c.in-Some.is c.in_ok-value.ensures.pops in
     let f = fields evaluating fresh c.args.stack.now.items page c.args.globals.now.rows in
-    performs_or s (is_some (stack_stood c.args.stack.now)) _ _ _ _ (assigns_there s c.args.threads.now.threads rest f c.args.name.now c.take.new.stack.items c.in-Some.value pops c.in-Ok.variable (leading c.store.result c.store.new.transfer) c.in-Ok.ensures
+    performs_or s (is_some (stack_stood c.args.stack.now)) _ _ _ _ (assigns_there s c.args.threads.now.threads rest f c.args.name.now c.take.new.stack.items c.in-Some.value pops c.in-Ok.variable (leading c.store.result c.store.new.transfer) c.in-Ok.ensures.leads
     (c.store.ensures.effect s (record f { stack = c.take.new.stack.items })))
 
 pub returns-in-Ok-clause-threads : goal.returns-in-Ok-clause-threads
@@ -19,10 +19,10 @@ returns-in-Ok-clause-threads c s rest evaluating fresh page =
     let pops : popped c.args.stack.now.items ≡ Some (c.in-Some.value, c.take.new.stack.items) = subst (Pops c.args.stack.now.items c.take.new.stack.items) c.in-Some.is c.in_ok-value.ensures.pops in
     let f = fields evaluating fresh c.args.stack.now.items page c.args.globals.now.rows in
     assigns_keeping s c.args.threads.now.threads rest f c.args.name.now c.take.new.stack.items c.in-Some.value pops c.in-Ok.variable c.store.new.threads.threads c.store.result
-    c.in-Ok.ensures (c.store.ensures.threads c.args.globals.now.rows)
+    c.in-Ok.ensures.leads (c.store.ensures.threads c.args.globals.now.rows)
 
 pub returns-in-Err-clause-effect : goal.returns-in-Err-clause-effect
 returns-in-Err-clause-effect c s rest evaluating fresh page =
     let pops : popped c.args.stack.now.items ≡ Some (c.in-Some.value, c.take.new.stack.items) = subst (Pops c.args.stack.now.items c.take.new.stack.items) c.in-Some.is c.in_ok-value.ensures.pops in
     let f = fields evaluating fresh c.args.stack.now.items page c.args.globals.now.rows in
-    performs_or s (is_some (stack_stood c.args.stack.now)) _ _ _ _ (assigns_nowhere s c.args.threads.now.threads rest f c.args.name.now c.take.new.stack.items c.in-Some.value pops c.in-Err.fault c.in-Err.ensures)
+    performs_or s (is_some (stack_stood c.args.stack.now)) _ _ _ _ (assigns_nowhere s c.args.threads.now.threads rest f c.args.name.now c.take.new.stack.items c.in-Some.value pops c.in-Err.fault c.in-Err.ensures.leads)

@@ -3,8 +3,8 @@ use Rattle.ink_model.specs.Variables.{chain_end, held}
 use Rattle.ink_vars.proofs.Chains.{read_at_end}
 use Rattle.ink_vars.proofs.variables.look_at.Goals as goal
 
-pub returns-in-Some-value : goal.returns-in-Some-value
-returns-in-Some-value g c =
+pub returns-in-Some-value-clause-read : goal.returns-in-Some-value-clause-read
+returns-in-Some-value-clause-read g c =
     let globals = c.args.globals.now.rows in
     let thread = c.args.threads.now.threads.thread in
     let frame = c.in-Some.end.frame in

@@ -5,8 +5,8 @@ use Rattle.ink_vars.specs.declared.places.Variable.{Variable}
 use Rattle.ink_vars.proofs.Chains.{leads_into}
 use Rattle.ink_vars.proofs.variables.pointed.Goals as goal
 
-pub returns-in-Err : goal.returns-in-Err
-returns-in-Err g c =
+pub returns-in-Err-clause-leads : goal.returns-in-Err-clause-leads
+returns-in-Err-clause-leads g c =
     let globals = c.args.globals.now.rows in
     let thread = c.args.threads.now.threads.thread in
     let frame = c.in-Ok.frame in
@@ -17,8 +17,8 @@ returns-in-Err g c =
     let leads = leads_into globals thread x (chain_end globals thread c.args.frame c.args.name.now) c.in-Some-value.field-0.now end there in
     inr (refl, (x, leads.2))
 
-pub returns-in-Ok-share : goal.returns-in-Ok-share
-returns-in-Ok-share g c =
+pub returns-in-Ok-share-clause-leads : goal.returns-in-Ok-share-clause-leads
+returns-in-Ok-share-clause-leads g c =
     let globals = c.args.globals.now.rows in
     let thread = c.args.threads.now.threads.thread in
     let frame = c.in-Ok.frame in

@@ -1,7 +1,10 @@
-use Rattle.std.proofs.Common.{◌≡◌, ◌∙◌, ◌<◌, ap, arith, length, refl, vec_capacity}
+use Rattle.std.proofs.Common.{◌≡◌, ◌∙◌, ◌<◌, Some, ap, arith, inl, inr, length, refl, rules, slice_get, vec_capacity}
+use Rattle.std.proofs.lemmas.Option.{slice_get_read}
+use Rattle.std.proofs.lemmas.Result.{err_from_is_err_and}
 use Rattle.std.specs.List.{insert}
 use Rattle.ink_trail.proofs.Undoing.{spare-kept, stood-kept, stood-trails, trails-after, trails-one}
 use Rattle.ink_trail.specs.Undo.{trail_of}
+use Rattle.ink_model.specs.Choices.{option_asks}
 use Rattle.ink_choice.specs.Undo.{choices_back, choices_spare, choices_stood}
 use Rattle.ink_choice.specs.declared.undo.ChoicePair.TheVariants.{Taken}
 use Rattle.ink_choice.proofs.Settling.{settled-removed}
@@ -69,3 +72,17 @@ returns-in_err-copy-clause-stood g c = stood-kept choices_back c.self.inside.ite
 pub returns-in_err-copy-clause-spare : goal.returns-in_err-copy-clause-spare
 unfolding choices_spare
 returns-in_err-copy-clause-spare g c = omega (arith, spare-kept c.self.inside.trail c.ready.new.self c.ready.ensures.kept, ap choices_spare c.self.view_is)
+
+pub returns-in_err-ready-clause-asks : goal.returns-in_err-ready-clause-asks
+unfolding choices_spare
+returns-in_err-ready-clause-asks g c =
+    let p = err_from_is_err_and c.from_residual.result c.from_residual.ensures.1 in
+    let short : choices_spare c.args.self.now < 1 = omega (arith, c.in_err-ready.ensures.lacks, ap choices_spare c.self.view_is) in
+    rw p.1 (inl short)
+
+pub returns-in_err-copy-clause-asks : goal.returns-in_err-copy-clause-asks
+returns-in_err-copy-clause-asks g c =
+    let p = err_from_is_err_and c.from_residual-in_err-copy.result c.from_residual-in_err-copy.ensures.1 in
+    let items = c.args.self.now.items in
+    let there : slice_get items c.args.index ≡ Some c.index.result.now = slice_get_read items (length items) c.args.index c.index.result.now refl c.requires (search (rules, arith, c.index.ensures, c.self.view_is)) in
+    rw p.1 (inr (ap option_asks there ∙ c.in_err-copy.ensures.memory))

@@ -7,7 +7,7 @@ use Rattle.ink_names.proofs.Marking.{marks_none}
 use Rattle.ink_names.proofs.hints.Hints.of.Goals as goal
 
 pub loop-number-init : goal.loop-number-init
-loop-number-init c = (omega (arith, c.in_ok-from_elem.ensures.len, c.requires), marks_none _)
+loop-number-init c = (omega (arith, c.in_ok-from_elem.ensures.len), marks_none _)
 
 pub loop-number-preserved : goal.loop-number-preserved
 loop-number-preserved c =

@@ -1,9 +1,9 @@
-use Rattle.std.proofs.Common.{◌≡◌, ◌∙◌, ℕ, List, ◌∷◌, [], ◌++◌, None, Some, ap, bytes_eq, cond, length, string_bytes, subst, sym}
+use Rattle.std.proofs.Common.{◌≡◌, ◌∙◌, ◌+◌, arith, ℕ, List, ◌∷◌, [], ◌++◌, None, Some, ap, bytes_eq, cond, length, string_bytes, subst, sym}
 use Rattle.std.specs.BTreeMap.{get_by_text, is_at}
 use Rattle.std.specs.Map.{lookup}
 use Rattle.std.specs.Cmp.Lexicographic.{slice_cmp}
 use Rattle.std.specs.Ordering.{nat_cmp}
-use Rattle.std.proofs.lemmas.List.{length-map, map-append}
+use Rattle.std.proofs.lemmas.List.{length-append, length-map, map-append}
 use Rattle.std.proofs.lemmas.Map.Text.{btree_map_updates_text}
 use Rattle.ink_names.specs.Hints.{Marks}
 use Rattle.ink_names.specs.Names.{Differ, Finds, names_of, number_of}
@@ -23,10 +23,13 @@ invariant_of-self-2 c =
     btree_map_updates_text (string_bytes c.in_ok-key.key) c.self.inside.numbers c.insert.new.self _ c.in_ok-insert.ensures.updates q
     ∙ ap (λ key. cond (bytes_eq key q) (Some c.len-number.result) (get_by_text c.self.inside.numbers q)) c.in_ok-key.ensures.ok
     ∙ ap (λ n. cond (bytes_eq name q) (Some n) (get_by_text c.self.inside.numbers q)) numbered in
+    let one_more : length c.push_reserved.new.self.items ≡ length c.self.inside.list.items + 1 =
+    omega (arith, ap length c.push_reserved.ensures.items, length-append c.reserve.new.self.items (c.in_ok-listed.listed ∷ []), ap length c.in_ok-reserve.ensures.items) in
     let numbers = c.insert.new.self in (
       subst Differ (sym list) (differ_pushed names name absent c.self.invariant.0),
       subst (Finds numbers) (sym list) (finds_pushed c.self.inside.numbers numbers names name absent c.self.invariant.1 found),
       subst (Marks c.note.new.self) (sym list) (c.note.ensures.marks names (c.in_ok-make_slots.ensures.marks c.self.invariant.2)),
+      omega (arith, one_more, c.note.ensures.slots, c.in_ok-make_slots.ensures.enough c.self.invariant.3),
     )
 
 pub invariant_of-self-in_err-reserve : goal.invariant_of-self-in_err-reserve
@@ -36,6 +39,7 @@ invariant_of-self-in_err-reserve c =
       subst Differ (sym same) c.self.invariant.0,
       subst (Finds c.self.inside.numbers) (sym same) c.self.invariant.1,
       subst (Marks c.make_slots.new.self) (sym same) (c.in_ok-make_slots.ensures.marks c.self.invariant.2),
+      omega (arith, ap length c.in_err-reserve.ensures.items, c.in_ok-make_slots.ensures.enough c.self.invariant.3),
     )
 
 pub invariant_of-self-in_err-insert : goal.invariant_of-self-in_err-insert
@@ -47,4 +51,5 @@ invariant_of-self-in_err-insert c =
       subst Differ (sym same) c.self.invariant.0,
       subst (Finds c.insert.new.self) (sym same) (λ q. kept q ∙ c.self.invariant.1 q),
       subst (Marks c.make_slots.new.self) (sym same) (c.in_ok-make_slots.ensures.marks c.self.invariant.2),
+      omega (arith, ap length c.in_ok-reserve.ensures.items, c.in_ok-make_slots.ensures.enough c.self.invariant.3),
     )

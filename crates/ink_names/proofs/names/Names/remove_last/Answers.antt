@@ -1,7 +1,7 @@
-use Rattle.std.proofs.Common.{◌≡◌, ◌∙◌, ℕ, List, ◌∷◌, [], ◌++◌, ap, bytes_eq, cond, string_bytes, sym}
+use Rattle.std.proofs.Common.{◌≡◌, ◌≤◌, ◌*◌, ◌∙◌, ℕ, List, ◌∷◌, [], ◌++◌, ap, arith, bytes_eq, cond, length, string_bytes, sym}
 use Rattle.std.proofs.Common.{None, subst}
 use Rattle.std.specs.BTreeMap.{get_by_text}
-use Rattle.std.proofs.lemmas.List.{map-append}
+use Rattle.std.proofs.lemmas.List.{length-append, map-append}
 use Rattle.std.proofs.lemmas.Map.Text.{btree_map_updates_text}
 use Rattle.ink_names.specs.Hints.{Marks}
 use Rattle.ink_names.specs.Names.{Differ, Finds, names_of, without_last}
@@ -20,7 +20,8 @@ invariant_of-self c =
     let gone : (q : List ℕ) → get_by_text numbers q ≡ cond (bytes_eq name q) None (get_by_text c.self.inside.numbers q) = λ q.
     btree_map_updates_text c.as_str.result.now c.self.inside.numbers numbers _ c.remove-number.ensures.updates q
     ∙ ap (λ key. cond (bytes_eq key q) None (get_by_text c.self.inside.numbers q)) c.as_str.ensures.value in
-    (differ.0, finds_popped c.self.inside.numbers numbers names name differ.1 (subst (Finds c.self.inside.numbers) parts c.self.invariant.1) gone, marks_popped c.self.inside.hints names name (subst (Marks c.self.inside.hints) parts c.self.invariant.2))
+    let fewer : 2 * length c.pop.new.self.items ≤ length c.self.inside.hints = omega (arith, c.self.invariant.3, ap length c.in-Some.ensures.items, length-append c.pop.new.self.items (c.in-Some.name ∷ [])) in
+    (differ.0, finds_popped c.self.inside.numbers numbers names name differ.1 (subst (Finds c.self.inside.numbers) parts c.self.invariant.1) gone, marks_popped c.self.inside.hints names name (subst (Marks c.self.inside.hints) parts c.self.invariant.2), fewer)
 
 pub returns-in-Some : goal.returns-in-Some
 returns-in-Some c =

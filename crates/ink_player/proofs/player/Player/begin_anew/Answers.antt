@@ -12,7 +12,7 @@ use Rattle.ink_player.proofs.player.Player.begin_anew.Goals as goal
 pub returns-in_default-clause-does : goal.returns-in_default-clause-does
 returns-in_default-clause-does g c =
     let p : PlayerView g.row.P.Denot g.row.F.Denot g.row.O.Denot = record { story = c.self.inside.story; desk = c.self.inside.desk; machine = c.self.inside.machine; broken = c.self.inside.broken } in
-    rw (sym c.self.view_is) (tells-kept g.F.TurnFn.log g.O.Watcher.state _ _ (condition_by p.broken (config_of (story_of p) p.machine)) (aside_seen p)
+    rw (sym c.self.view_is) (tells-kept g.F.TurnFn.log g.O.Watcher.state _ (condition_by p.broken (config_of (story_of p) p.machine)) (aside_seen p)
     (desk_of p) c.tell_between.new.desk c.in_default.ensures.tells.0 c.in_default.ensures.tells.1)
 
 pub returns-clause-does : goal.returns-clause-does

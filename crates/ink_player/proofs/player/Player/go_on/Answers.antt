@@ -5,21 +5,21 @@ use Rattle.ink_model.specs.Store.{Values}
 use Rattle.ink_model.specs.Told.{told}
 use Rattle.ink_player.specs.Words.{PlayerView, TellsWatchers, desk_of, is_empty, state_of, story_of}
 use Rattle.ink_step.specs.Words.{config_of, globals_of}
-use Rattle.ink_player.proofs.Tellings.{broken-as, goes-broken, goes-fault, goes-told, goes-untold, goes-where, none-left, once-none, stops, told-state, with_parts}
+use Rattle.ink_player.proofs.Tellings.{broken-as, goes-broken, goes-fault, goes-told, goes-untold, goes-where, none-left, run-none, stops, told-state, with_parts}
 use Rattle.ink_player.proofs.Standing.{aside-stays, free-stands, run-stands, stands-told}
 use Rattle.ink_player.proofs.player.Player.go_on.Goals as goal
 
 pub returns-in-Some-clause-does : goal.returns-in-Some-clause-does
 returns-in-Some-clause-does g c =
     let p : PlayerView g.row.P.Denot g.row.F.Denot g.row.O.Denot = record { story = c.self.inside.story; desk = c.self.inside.desk; machine = c.self.inside.machine; broken = c.self.inside.broken } in
-    rw (sym c.self.view_is) ([], goes-broken _ _ p.broken _ _ _ c.args.extent c.in-Some.fault c.in-Some.is, once-none g.F.TurnFn.log g.O.Watcher.state _ (desk_of p))
+    rw (sym c.self.view_is) ([], goes-broken _ _ p.broken _ _ _ c.args.extent c.in-Some.fault c.in-Some.is, run-none g.F.TurnFn.log g.O.Watcher.state _ (desk_of p) _)
 
 pub returns-then-not-can_go_on-clause-does : goal.returns-then-not-can_go_on-clause-does
 returns-then-not-can_go_on-clause-does g c =
     let p : PlayerView g.row.P.Denot g.row.F.Denot g.row.O.Denot = record { story = c.self.inside.story; desk = c.self.inside.desk; machine = c.self.inside.machine; broken = c.self.inside.broken } in
     let s = story_of p in
     let stopped = sym (c.can_go_on.ensures s) ∙ c.if-not-can_go_on.true in
-    rw (sym c.self.view_is) ([], goes-where s _ p.broken _ _ _ c.args.extent [] _ _ false c.in_default.is stopped (refl, (refl, refl)), once-none g.F.TurnFn.log g.O.Watcher.state _ (desk_of p))
+    rw (sym c.self.view_is) ([], goes-where s _ p.broken _ _ _ c.args.extent [] _ _ false c.in_default.is stopped (refl, (refl, refl)), run-none g.F.TurnFn.log g.O.Watcher.state _ (desk_of p) _)
 
 pub returns-in-Ok-tell_changed-clause-does : goal.returns-in-Ok-tell_changed-clause-does
 returns-in-Ok-tell_changed-clause-does g c =

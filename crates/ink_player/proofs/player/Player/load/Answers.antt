@@ -28,7 +28,7 @@ returns-in-Err-clause-does g c =
     rw (sym c.self.view_is) (
       [],
       load-refused (story_of p) (bindings g.P.PureFn.meaning (desk_of p)) (view c.args.json.now) (state_of p) c.in-Err.refusal c.in-Err.ensures.finds,
-      once-none g.F.TurnFn.log g.O.Watcher.state _ (desk_of p),
+      once-none g.F.TurnFn.log g.O.Watcher.state (desk_of p),
     )
 
 pub begin_anew-requires : goal.begin_anew-requires

@@ -2,10 +2,10 @@ use Rattle.std.proofs.Common.{◌∙◌, [], ap, sym}
 use Rattle.ink_model.specs.Answer.{Breaks, reply_of_halt}
 use Rattle.ink_check.specs.Words.{story_tree}
 use Rattle.ink_model.specs.State.{Broken}
-use Rattle.ink_player.specs.Words.{PlayerView, bindings, desk_of, is_empty, state_of, story_of}
+use Rattle.ink_player.specs.Words.{PlayerView, all_told, bindings, desk_of, is_empty, state_of, story_of}
 use Rattle.ink_step.specs.Words.{aside_of, config_of, game_of, globals_of}
 use Rattle.ink_player.proofs.Restarts.{restart-broken, restart-opened, restart-refused}
-use Rattle.ink_player.proofs.Tellings.{at_stamp, broken-as, globals-by, none-left, once-none, once-quiet, with_parts}
+use Rattle.ink_player.proofs.Tellings.{at_stamp, broken-as, globals-by, none-left, once-none, once-quiet, other-fault, with_parts}
 use Rattle.ink_sound.proofs.Sessions.{opened_fits}
 use Rattle.ink_player.proofs.Standing.{alone-fits, game-as, opened_alone, stands-broken}
 use Rattle.ink_player.proofs.player.Player.restart.Goals as goal
@@ -28,7 +28,7 @@ returns-in-OutOfMemory-clause-does g c =
     rw (sym c.self.view_is) (
       [],
       restart-refused (story_of p) (bindings g.P.PureFn.meaning (desk_of p)) (state_of p) c.in-Err.field-0.globals.rows c.in-Err.field-0.fault c.in-OutOfMemory.is c.in-Err.ensures.err,
-      once-none g.F.TurnFn.log g.O.Watcher.state _ (desk_of p),
+      once-none g.F.TurnFn.log g.O.Watcher.state (desk_of p),
     )
 
 pub returns-in_default-clause-does : goal.returns-in_default-clause-does
@@ -42,7 +42,7 @@ returns-in_default-clause-does g c =
       restart-broken (story_of p) (bindings g.P.PureFn.meaning (desk_of p)) (state_of p) c.in-Err.field-0.globals.rows fault (globals_of c.at_start.result) (reply_of_halt c.break_by.result) (state_of q)
           c.in_default.not-OutOfMemory c.at_start.ensures.globals c.in-Err.ensures.err (c.break_by.ensures.reply ∙ ap (λ l. Breaks fault l) (none-left p.desk.events c.self.invariant.taken))
           (ap (λ x. state_of x) is ∙ ap (λ a. at_stamp (Broken fault (globals_of c.at_start.result)) (aside_of (story_of p) a) (desk_of p).next) c.at_start.ensures.aside),
-      once-quiet g.F.TurnFn.log g.O.Watcher.state _ (desk_of p) (desk_of q) c.break_by.ensures.desk,
+      once-quiet g.F.TurnFn.log g.O.Watcher.state _ (desk_of p) (desk_of q) (reply_of_halt c.break_by.result) (ap all_told c.break_by.ensures.reply ∙ other-fault fault p.desk.events c.in_default.not-OutOfMemory) c.break_by.ensures.desk,
     )
 
 pub begin_anew-requires : goal.begin_anew-requires

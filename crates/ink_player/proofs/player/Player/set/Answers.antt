@@ -1,10 +1,11 @@
 use Rattle.std.proofs.Common.{◌≡◌, ◌∙◌, List, [], ◌∷◌, true, false, Some, ap, is_some, refl, subst, sym}
 use Rattle.ink_host.specs.Desk.{watches}
+use Rattle.ink_model.specs.Answer.{reply_of_events}
 use Rattle.ink_model.specs.Host.{value_given}
 use Rattle.ink_model.specs.Store.{stored}
 use Rattle.ink_model.specs.Told.{told}
 use Rattle.ink_model.specs.declared.host.Change.{Change}
-use Rattle.ink_player.specs.Words.{TellsOnce, aside_seen, bindings, desk_of, state_of, story_of, told_from}
+use Rattle.ink_player.specs.Words.{TellsOnce, all_told, aside_seen, bindings, desk_of, state_of, story_of, told_from}
 use Rattle.ink_step.specs.Words.{config_of, globals_of}
 use Rattle.ink_player.proofs.Tellings.{globals-by, once-none, set-broken, sets, sets-where}
 use Rattle.ink_player.proofs.player.Player.set.Goals as goal
@@ -16,7 +17,7 @@ returns-in-Some-clause-does g c =
       [],
       set-broken h c.args.name.now (config_of (story_of p) p.machine) p.broken (aside_seen p) (desk_of p).next (Some c.args.value) c.in-Some.cause
           (ap (λ q. q.broken) (sym c.self.view_is) ∙ c.in-Some.is),
-      once-none g.F.TurnFn.log g.O.Watcher.state _ (desk_of p),
+      once-none g.F.TurnFn.log g.O.Watcher.state (desk_of p),
     )
 
 pub returns-then-not-is_settable-clause-does : goal.returns-then-not-is_settable-clause-does
@@ -27,7 +28,7 @@ returns-then-not-is_settable-clause-does g c =
       sets-where h c.args.name.now (config_of (story_of p) p.machine) p.broken (aside_seen p) (desk_of p).next c.args.value [] _ _ false _
           (ap (λ q. q.broken) (sym c.self.view_is) ∙ c.in_default.is)
           (sym c.is_settable.ensures ∙ c.if-not-is_settable.true) refl (refl, (refl, refl)),
-      once-none g.F.TurnFn.log g.O.Watcher.state _ (desk_of p),
+      once-none g.F.TurnFn.log g.O.Watcher.state (desk_of p),
     )
 
 pub returns-then-not-contains-clause-does : goal.returns-then-not-contains-clause-does
@@ -41,7 +42,7 @@ returns-then-not-contains-clause-does g c =
           (ap (λ q. q.broken) (sym c.self.view_is) ∙ c.in_default.is)
           (sym c.is_settable.ensures ∙ c.if-not-is_settable.false)
           (known ∙ c.if-not-contains.true) (refl, (refl, refl)),
-      once-none g.F.TurnFn.log g.O.Watcher.state _ (desk_of p),
+      once-none g.F.TurnFn.log g.O.Watcher.state (desk_of p),
     )
 
 pub returns-clause-does : goal.returns-clause-does
@@ -61,7 +62,7 @@ returns-clause-does g c =
       sets h c.args.name.now start p.broken (aside_seen p) (desk_of p).next c.args.value does.0 _ _ c.value_given.result c.value_given.ensures
           (ap (λ q. q.broken) (sym c.self.view_is) ∙ c.in_default.is) (sym c.is_settable.ensures ∙ c.if-not-is_settable.false)
           (known ∙ c.if-not-contains.false) does.1,
-      (does.2.0, subst (λ (cs : List Change). TellsOnce state cs (desk_of p).watchers (desk_of c.store.new.self).watchers) changes does.2.1),
+      (does.2.0, subst (λ (cs : List Change). TellsOnce state (desk_of p).next cs (all_told (reply_of_events c.store.result)) does.0 (desk_of p).watchers (desk_of c.store.new.self).watchers) changes does.2.1),
     )
 
 pub store-requires-clause-given : goal.store-requires-clause-given
