@@ -1,7 +1,7 @@
 -- Whether a step asks for memory (docs/RUNNING.md, "Out of memory").
 use Rattle.std.specs.Prelude.{ℕ, List, [], ◌∷◌, length, nat_lt, reverse, Bool, true, false, not, ◌&&◌, ◌||◌, if◌then◌else◌, Option, Some, None, Result, Ok, Err, is_ok}
 use Rattle.ink_model.specs.Acceptance.{lands, leads}
-use Rattle.ink_model.specs.Choices.{make}
+use Rattle.ink_model.specs.Choices.{choice_asks, make}
 use Rattle.ink_model.specs.Choosing.{following_asks}
 use Rattle.ink_model.specs.Configuration.{ChoiceOf, Configuration, current_place}
 use Rattle.ink_model.specs.Effect.{Context, Effect, Fields, context_of, fields_of, is_fresh}
@@ -12,6 +12,7 @@ use Rattle.ink_model.specs.Joining.{makes_text}
 use Rattle.ink_model.specs.Operator.{takes}
 use Rattle.ink_model.specs.Path.{above}
 use Rattle.ink_model.specs.Place.{entered}
+use Rattle.ink_model.specs.Output.{writes_glue, writes_newline}
 use Rattle.ink_model.specs.Page.{Section}
 use Rattle.ink_model.specs.Stack.{popped, taken}
 use Rattle.ink_model.specs.Step.{effect, gone_in}
@@ -32,7 +33,7 @@ use Rattle.ink_model.specs.declared.content.Leaf.{Leaf}
 use Rattle.ink_model.specs.declared.content.Leaf.TheVariants as leaves
 use Rattle.ink_model.specs.declared.fault.Fault.{Fault}
 use Rattle.ink_model.specs.declared.fault.Fault.TheVariants.{TooDeep}
-use Rattle.ink_model.specs.declared.limits.TheConstants.{MAX_SECTIONS, MAX_STACK}
+use Rattle.ink_model.specs.declared.limits.TheConstants.{MAX_CHOICES, MAX_SECTIONS, MAX_STACK}
 use Rattle.ink_model.specs.declared.operator.Op.{Op}
 use Rattle.ink_model.specs.declared.place.Part.{Part}
 use Rattle.ink_model.specs.declared.scope.Scope.TheVariants.{Global, Temporary}
@@ -97,15 +98,15 @@ abbrev pub visit_asks : StoryTree → Context → Option (List Part) → Bool
 visit_asks s seen None = false
 visit_asks s seen (Some q) = is_ok (visits_at s seen q)
 
--- a choice that is made
-abbrev pub makes_choice : {P : Type 0} → Result (Option (ChoiceOf P) × List Value) Fault → Bool
-makes_choice (Ok (None, left)) = false
-makes_choice (Ok (Some choice, left)) = true
-makes_choice (Err f) = false
+-- a choice that is made, for itself, or for its place behind so many others, where there is room for it
+abbrev pub makes_choice : {P : Type 0} → ℕ → Result (Option (ChoiceOf P) × List Value) Fault → Bool
+makes_choice others (Ok (None, left)) = false
+makes_choice others (Ok (Some choice, left)) = choice_asks choice || nat_lt others MAX_CHOICES
+makes_choice others (Err f) = false
 
 abbrev pub offer_asks : StoryTree → List Part → Context → List ℕ → ℕ → Fields → Option (List Part) → Bool
 offer_asks s p seen text flags f None = false
-offer_asks s p seen text flags f (Some q) = makes_choice (make flags q (was_visited s p seen text flags) seen.thread f.stack)
+offer_asks s p seen text flags f (Some q) = makes_choice (length seen.choices) (make flags q (was_visited s p seen text flags) seen.thread f.stack)
 
 abbrev pub control_asks : StoryTree → List Part → Context → Control → Fields → Bool
 control_asks s p seen control.Out f = output_asks (popped f.stack)
@@ -150,8 +151,8 @@ external_asks b n conditional f = so_where (condition conditional f) (binding_as
 
 abbrev pub leaf_asks : StoryTree → List Part → Context → Leaf → Fields → Bool
 leaf_asks s p seen (leaves.Text t) f = if f.evaluating then has_room f.stack else has_bytes t
-leaf_asks s p seen leaves.Newline f = if f.evaluating then has_room f.stack else not (is_fresh f)
-leaf_asks s p seen leaves.Glue f = not f.evaluating
+leaf_asks s p seen leaves.Newline f = if f.evaluating then has_room f.stack else not (is_fresh f) && is_ok (writes_newline false f.page)
+leaf_asks s p seen leaves.Glue f = not f.evaluating && is_ok (writes_glue f.page)
 leaf_asks s p seen (leaves.Tag t) f = has_tag_room f.page.sections f.stack
 leaf_asks s p seen (leaves.Int z) f = push_asks f
 leaf_asks s p seen (leaves.Bool truth) f = push_asks f

@@ -1,6 +1,7 @@
 -- Command lines (docs/PROTOCOL.md, "Command lines").
-use Rattle.std.specs.Prelude.{ℕ, List, [], ◌∷◌, Bool, true, false, ◌==◌, length, bytes_eq, codes, nat_le, ◌&&◌, is_none, option_and_then, Option, Some, None, if◌then◌else◌}
+use Rattle.std.specs.Prelude.{ℕ, List, [], ◌∷◌, Bool, true, false, ◌==◌, length, bytes_eq, codes, nat_le, ◌&&◌, ◌||◌, not, is_none, option_and_then, Option, Some, None, if◌then◌else◌}
 use Rattle.std.specs.List.{list_all}
+use Rattle.std.specs.Fmt.{signed_decimal}
 use Rattle.std.specs.Option.{option_or}
 use Rattle.std.specs.Str.{is_utf8}
 use Rattle.serde_json.specs.Data.{Data}
@@ -8,6 +9,7 @@ use Rattle.serde_json.specs.Read.{read}
 use Rattle.ink_model.specs.ValueJson.{given_of}
 use Rattle.ink_model.specs.Bytes.{is_digit, is_filled, number_from, onto, at_space, after}
 use Rattle.ink_model.specs.declared.host.Given.{Given}
+use Rattle.ink_model.specs.declared.host.Given.TheVariants as given
 
 -- the lines of an input: each ends at a newline, or at the input's end; an empty last line is none
 abbrev pub lines_of : List ℕ → List (List ℕ)
@@ -83,8 +85,31 @@ command_word line = option_or (plain_command line) (option_or (option_and_then g
 unfoldable pub command_of : List ℕ → Option Command
 command_of line = if is_utf8 line then command_word line else None
 
--- Memory is asked for reading a line only where it may have JSON to be parsed: names, paths and numbers stand in the line.
-abbrev pub line_asks : Option Command → Bool
-line_asks (Some (Set name value)) = true
-line_asks (Some (Load saved)) = true
-line_asks k = false
+-- ---- where memory is asked for
+
+-- a value that is read where it stands: an integer as it is printed, or a truth value
+abbrev pub stands_plain : List ℕ → Option Given → Bool
+stands_plain text (Some (given.Int z)) = bytes_eq text (signed_decimal z)
+stands_plain text (Some (given.Bool b)) = bytes_eq text (codes "true") || bytes_eq text (codes "false")
+stands_plain text value = false
+
+-- any other is parsed as JSON, or kept
+abbrev pub value_asks : List ℕ → Bool
+value_asks text = not (stands_plain text (given_of text))
+
+abbrev pub set_asks : Option (List ℕ × List ℕ) → Bool
+set_asks None = false
+set_asks (Some r) = is_filled r.0 && (is_filled r.1 && value_asks r.1)
+
+abbrev pub load_line_asks : Option (List ℕ) → Bool
+load_line_asks None = false
+load_line_asks (Some text) = is_filled text
+
+-- Memory is asked for reading a command only where it may have JSON to be parsed, or a text: names, paths and numbers stand in the
+-- line.
+abbrev pub command_asks : List ℕ → Bool
+command_asks line = set_asks (option_and_then at_space (after (codes "set ") line)) || load_line_asks (after (codes "load ") line)
+
+-- a line that is no text asks for none
+abbrev pub line_asks : List ℕ → Bool
+line_asks line = is_utf8 line && command_asks line

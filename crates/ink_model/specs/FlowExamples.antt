@@ -1,12 +1,12 @@
 -- Command lines, refusals and sessions with flows, each proved by computation (docs/RUNNING.md, "Flows").
-use Rattle.std.specs.Prelude.{◌≡◌, ℕ, zero, suc, ◌+◌, List, [], ◌∷◌, refl, codes, true, false, pos, Some, None, Ok}
+use Rattle.std.specs.Prelude.{◌≡◌, ℕ, zero, suc, ◌+◌, List, [], ◌∷◌, ◌++◌, refl, codes, true, false, pos, Some, None, Ok}
 use Rattle.std.proofs.Common.{inl, inr}
 use Rattle.std.proofs.lemmas.Str.{is_utf8-from_IsUtf8}
 use Rattle.std.specs.Char.{encode_utf8}
 use Rattle.serde_json.proofs.OnLiterals.{serde_json_on_literals}
 use Rattle.ink_model.specs.Answer.{Acts, Refuses, answer}
 use Rattle.ink_model.specs.CallStories.{says, story}
-use Rattle.ink_model.specs.Command.{command_of, command_word, line_asks}
+use Rattle.ink_model.specs.Command.{command_asks, command_of, command_word}
 use Rattle.ink_model.specs.Command as command
 use Rattle.ink_model.specs.Configuration.{Configuration, fresh_at, put_at, start}
 use Rattle.ink_model.specs.FlowCommands.{DropsFlow, GoesToFlow, TellsFlows}
@@ -42,7 +42,7 @@ two_names_to_drop : command_word (codes "drop a b") ≡ None
 two_names_to_drop = refl
 
 -- a line's name asks for no memory
-their_lines_ask_for_none : (name : List ℕ) → line_asks (Some (command.Flow name)) ≡ false
+their_lines_ask_for_none : (name : List ℕ) → command_asks (codes "flow " ++ name) ≡ false
 their_lines_ask_for_none name = refl
 
 -- ---- names

@@ -8,7 +8,7 @@ use Rattle.serde_json.proofs.OnLiterals.{serde_json_on_literals}
 use Rattle.serde_json.specs.Data.{Data, Members, null, number, string, array, object, no_items, item, no_members, member, unsigned}
 use Rattle.ink_model.specs.Answer.{Refuses, Saves, answer}
 use Rattle.ink_model.specs.Command as command
-use Rattle.ink_model.specs.Command.{command_of, command_word, json_of, line_asks}
+use Rattle.ink_model.specs.Command.{command_asks, command_of, command_word, json_of}
 use Rattle.ink_model.specs.Configuration.{start, fresh_at}
 use Rattle.ink_model.specs.Examples.{declaring}
 use Rattle.ink_model.specs.Flows.{Game, alone, one_flow}
@@ -18,6 +18,7 @@ use Rattle.ink_model.specs.Place.{entered}
 use Rattle.ink_model.specs.Save.Asks.{load_asks}
 use Rattle.ink_model.specs.Save.Reads.{Reads, Spells}
 use Rattle.ink_model.specs.Save.Spelling.{spelling}
+use Rattle.ink_model.specs.ValueJson.{given_of}
 use Rattle.ink_model.specs.Session.{Load, Save, Session, Serves}
 use Rattle.ink_model.specs.State.{State, Broken}
 use Rattle.ink_model.specs.declared.fault.Fault.TheVariants as fault
@@ -46,11 +47,28 @@ save_with_more : command_word (codes "save it") ≡ None
 save_with_more = refl
 
 -- memory is asked for the JSON
-its_json_asks : (saved : _) → line_asks (Some (command.Load saved)) ≡ true
-its_json_asks saved = refl
+its_json_asks : command_asks (codes "load 1") ≡ true
+its_json_asks = refl
 
-saving_asks_for_none : line_asks (Some command.Save) ≡ false
+saving_asks_for_none : command_asks (codes "save") ≡ false
 saving_asks_for_none = refl
+
+-- and for a value that is a text, or is spelled another way than it is printed
+setting_a_number_asks_for_none : command_asks (codes "set gold 7") ≡ false
+unfolding given_of serde_json_on_literals digits
+setting_a_number_asks_for_none = refl
+
+setting_a_truth_asks_for_none : command_asks (codes "set met true") ≡ false
+unfolding given_of serde_json_on_literals
+setting_a_truth_asks_for_none = refl
+
+setting_a_text_asks : command_asks (codes "set name \"x\"") ≡ true
+unfolding given_of serde_json_on_literals
+setting_a_text_asks = refl
+
+a_number_spelled_otherwise_asks : command_asks (codes "set gold 7e0") ≡ true
+unfolding given_of serde_json_on_literals digits
+a_number_spelled_otherwise_asks = refl
 
 -- ---- saving
 

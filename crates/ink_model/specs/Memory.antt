@@ -6,7 +6,7 @@ use Rattle.ink_model.specs.Choices.{has_any}
 use Rattle.ink_model.specs.Configuration.{Configuration, begun}
 use Rattle.ink_model.specs.Effect.{Fields}
 use Rattle.ink_model.specs.Host.{Bound, nothing_bound, value_given}
-use Rattle.ink_model.specs.Line.{NoneBelow, StaysOpen}
+use Rattle.ink_model.specs.Line.{NoneBelow, StaysOpen, is_call}
 use Rattle.ink_model.specs.Run.{At, Made, answers_of, moment}
 use Rattle.ink_model.specs.Opening.{declaring}
 use Rattle.ink_model.specs.Step.{Wants, step}
@@ -101,11 +101,13 @@ pub record FallsShort (s : StoryTree) (b : Bound) (c : Configuration) (made : Li
 
 -- ---- lines
 
--- A run got to a configuration up to which the newline of a step stays open: there memory is asked for to come back to it.
+-- A run got to a configuration up to which the newline of a step stays open, and whose step calls no turn function: there memory
+-- is asked for to come back to that newline.
 pub record LooksFrom (s : StoryTree) (b : Bound) (c : Configuration) (made : List Made) (reached : Configuration) : Type 0 where
   pub steps : ℕ
   pub within : steps < MAX_STEPS
   pub got_there : moment s b c (answers_of made) steps ≡ At reached [] made
+  pub calls_nothing : is_call (step s b reached) ≡ false
   pub step : ℕ
   pub opens : StaysOpen s b (moment s b c (answers_of made)) step steps
   pub first : NoneBelow s b MAX_STEPS (moment s b c (answers_of made)) step

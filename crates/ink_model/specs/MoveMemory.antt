@@ -1,12 +1,13 @@
 -- Where flow asks for memory on its way from a content: calls push frames, marks and void are written where functions end, and
 -- a landing may be the first visit of a container (docs/RUNNING.md, "Out of memory"; docs/FRAMES.md).
-use Rattle.std.specs.Prelude.{ℕ, List, [], ◌∷◌, Bool, true, false, not, ◌||◌, ◌&&◌, nat_eq, nat_lt, if◌then◌else◌, Option, Some, None, is_some, option_and_then, Result, Ok, Err}
+use Rattle.std.specs.Prelude.{ℕ, List, [], ◌∷◌, Bool, true, false, not, ◌||◌, ◌&&◌, nat_eq, nat_lt, if◌then◌else◌, Option, Some, None, is_some, option_and_then, Result, Ok, Err, is_ok}
 use Rattle.ink_model.specs.Configuration.{Configuration, with_choices}
 use Rattle.ink_model.specs.Effect.{Effect, Moves, Stores, Offers, Lands, Calls, Returns, Forks, Done, Ends, Fails, with_fields, with_thread}
 use Rattle.ink_model.specs.Counts.{CountsOf}
 use Rattle.ink_model.specs.Flow.{Written, Reached, Reaches, Halts, Breaks, called, depth_of, moved_on, reach, returned}
 use Rattle.ink_model.specs.Frames.{FrameOf, ThreadOf, ThreadsOf, is_function}
 use Rattle.ink_model.specs.Move.{may_enter, place_to, written_in}
+use Rattle.ink_model.specs.Output.{ends_function}
 use Rattle.ink_model.specs.Place.{next_place}
 use Rattle.ink_model.specs.Threads.{dropped, frame_count, popped, thread_count}
 use Rattle.ink_model.specs.Tree.{StoryTree}
@@ -21,16 +22,23 @@ abbrev pub is_some_frame : {P : Type 0} → List (FrameOf P) → Bool
 is_some_frame [] = false
 is_some_frame (f ∷ fs) = true
 
+-- the mark of a function's end has room
+abbrev pub has_end_room : {P : Type 0} → FrameOf P → Written → Bool
+has_end_room f w = is_ok (ends_function f.enter w.page)
+
+-- a function at its end is popped, and its mark written
+abbrev pub end_asks : {P : Type 0} → ThreadOf P → Written → Bool
+end_asks t w = is_some_frame t.below && (nat_eq t.frame.depth (depth_of w) && has_end_room t.frame w)
+
 module _ {P : Type 0} (after : P → Option P) where
   -- The first function that comes to its end on the way is popped, and so writes its mark. Threads above it are only dropped.
-  abbrev pub threads_ask : ThreadOf P → List (ThreadOf P) → ℕ → Bool
-  threads_ask t [] depth = not (is_some (option_and_then after t.frame.place)) && (is_function t.frame.kind && (is_some_frame t.below && nat_eq t.frame.depth depth))
-  threads_ask t (u ∷ us) depth =
-      not (is_some (option_and_then after t.frame.place))
-      && (if is_function t.frame.kind then is_some_frame t.below && nat_eq t.frame.depth depth else threads_ask u us depth)
+  abbrev pub threads_ask : ThreadOf P → List (ThreadOf P) → Written → Bool
+  threads_ask t [] w = not (is_some (option_and_then after t.frame.place)) && (is_function t.frame.kind && end_asks t w)
+  threads_ask t (u ∷ us) w =
+      not (is_some (option_and_then after t.frame.place)) && (if is_function t.frame.kind then end_asks t w else threads_ask u us w)
 
   abbrev pub moved_asks : ThreadsOf P → Written → Bool
-  moved_asks ts w = threads_ask ts.thread ts.below (depth_of w)
+  moved_asks ts w = threads_ask ts.thread ts.below w
 
   abbrev pub went_asks : Option P → ThreadsOf P → Written → Bool
   went_asks None ts w = moved_asks ts w
@@ -39,7 +47,7 @@ module _ {P : Type 0} (after : P → Option P) where
   -- a function's mark is written; a tunnel has none
   abbrev pub popped_asks : FrameKind → Result (ThreadOf P) Fault → Option P → ThreadsOf P → Written → Bool
   popped_asks k (Err f) to ts w = false
-  popped_asks Function (Ok t) to ts w = true
+  popped_asks Function (Ok t) to ts w = has_end_room ts.thread.frame w
   popped_asks k (Ok t) to ts w = went_asks to (record ts { thread = t }) w
 
   abbrev pub returned_asks : FrameKind → Option P → ThreadsOf P → Written → Bool

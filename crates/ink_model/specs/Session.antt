@@ -234,7 +234,7 @@ Does s h es (Some (command.Drop name)) old reply new = (es ≡ []) × DropsFlow 
 
 -- one line: its events, its reply, and the state after it
 unfoldable pub Serves : StoryTree → Bindings → List Event → List ℕ → State → Reply → State → Type 0
-Serves s h es line old reply new = Does s h es (command_of line) old reply new ⊎ ((es ≡ []) × LineFails (command_of line) old reply new)
+Serves s h es line old reply new = Does s h es (command_of line) old reply new ⊎ ((es ≡ []) × LineFails line old reply new)
 
 -- ---- sessions
 

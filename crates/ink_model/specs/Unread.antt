@@ -3,7 +3,7 @@ use Rattle.std.specs.Prelude.{◌≡◌, ◌⊎◌, ℕ, List, true, IsSome, Opt
 use Rattle.ink_model.specs.Answer.{Reply}
 use Rattle.ink_model.specs.Changed.{FailsAllocation}
 use Rattle.ink_model.specs.Command as command
-use Rattle.ink_model.specs.Command.{Command, line_asks}
+use Rattle.ink_model.specs.Command.{Command, command_of, line_asks}
 use Rattle.ink_model.specs.Path.{read_path}
 use Rattle.ink_model.specs.State.{State, Condition, Ready, Broken}
 
@@ -19,5 +19,5 @@ PathFails (Some (command.Jump path)) old reply new = ReadsPath path old.conditio
 PathFails k old reply new = ⊥
 
 -- memory was refused for the line, or for the path in it
-abbrev pub LineFails : Option Command → State → Reply → State → Type 0
-LineFails k old reply new = ((line_asks k ≡ true) × FailsAllocation old reply new) ⊎ PathFails k old reply new
+abbrev pub LineFails : List ℕ → State → Reply → State → Type 0
+LineFails line old reply new = ((line_asks line ≡ true) × FailsAllocation old reply new) ⊎ PathFails (command_of line) old reply new

@@ -18,18 +18,17 @@ module _ {P : Type 0} (globals : Values) (thread : ThreadOf P) where
   is_there Global name = is_some (stored name globals)
   is_there Temporary name = is_some (row name_order name thread.frame.temps)
 
-  -- a global, whose change is noted, or a temporary that is new
+  -- a variable that is new
   abbrev pub setting_asks : Scope → List ℕ → Bool
-  setting_asks Global name = true
-  setting_asks Temporary name = not (is_there Temporary name)
+  setting_asks scope name = not (is_there scope name)
 
   -- a pointer that is kept, or what is set
   abbrev pub declare_asks : Scope → List ℕ → Value → Bool
   declare_asks scope name v = is_ok (declare globals thread scope name v) && (is_pointer (Some v) || setting_asks scope name)
 
-  -- a pointer that is followed, or a global, whose change is noted
+  -- a pointer that is followed; what is set is there
   abbrev pub assign_asks : List ℕ → Value → Bool
-  assign_asks name v = is_ok (assign globals thread name v) && (is_pointer (named globals thread name) || is_some (stored name globals))
+  assign_asks name v = is_ok (assign globals thread name v) && is_pointer (named globals thread name)
 
 -- what is popped is asked about; where nothing is there to be popped, nothing is asked
 abbrev pub on_popped : Option (Value × List Value) → (Value → Bool) → Bool

@@ -9,6 +9,7 @@ use Rattle.ink_trail.specs.Undo.{Undo, but_last, trail_of, with_pair}
 use Rattle.ink_vars.specs.Changes.{AreNew, Fits, as_it_was, as_they_were, noted_at, number_of, with_noted}
 use Rattle.ink_vars.specs.Globals.{DifferInName}
 use Rattle.ink_vars.specs.Undo.{Covers, NewAt, global_back}
+use Rattle.ink_vars.specs.Views.{ChangesView}
 use Rattle.ink_vars.specs.declared.changes.Before.{Before}
 use Rattle.ink_vars.specs.declared.undo.GlobalPair.{GlobalPair}
 use Rattle.ink_vars.specs.declared.undo.GlobalPair.TheVariants.{Added, Changed}
@@ -103,14 +104,16 @@ changed_length i v [] = refl
 changed_length zero v (e ∷ es) = refl
 changed_length (suc i) v (e ∷ es) = ap suc (changed_length i v es)
 
-pub fits_back : (bs : List Before) (e : GlobalPair) (es : List GlobalPair) (now : Values) → Fits bs now → Covers bs (length now) (e ∷ es) → Fits bs (global_back e now)
-fits_back bs Added es now fits covers = record {
+pub fits_back : (c : ChangesView) (e : GlobalPair) (es : List GlobalPair) (now : Values) → Fits c now → Covers c.noted (length now) (e ∷ es) → Fits c (global_back e now)
+fits_back c Added es now fits covers = record {
   differ = differ_fewer now fits.differ;
-  new = subst (λ n. AreNew n bs) (sym (fewer_length now)) (new_fewer (length now) bs fits.new covers.0);
+  new = subst (λ n. AreNew n c.noted) (sym (fewer_length now)) (new_fewer (length now) c.noted fits.new covers.0);
+  slots = omega (arith, fits.slots, fewer_length now);
 }
-fits_back bs (Changed i v) es now fits covers = record {
+fits_back c (Changed i v) es now fits covers = record {
   differ = differ_changed i v now fits.differ;
-  new = subst (λ n. AreNew n bs) (sym (changed_length i v now)) fits.new;
+  new = subst (λ n. AreNew n c.noted) (sym (changed_length i v now)) fits.new;
+  slots = omega (arith, fits.slots, changed_length i v now);
 }
 
 pub covers_back : (bs : List Before) (e : GlobalPair) (es : List GlobalPair) (now : Values) → Covers bs (length now) (e ∷ es) → Covers bs (length (global_back e now)) es

@@ -1,14 +1,16 @@
 -- Notes that fit the globals, also after one is stored.
-use Rattle.std.proofs.Common.{◌≡◌, ◌∙◌, ◌+◌, ◌⊎◌, ℕ, suc, Bool, true, false, bytes_eq, if◌then◌else◌, List, [], ◌∷◌, Option, Some, None, Result, OnErr, OnOk, ap, arith, inl, inr, is_some, refl, subst, sym}
+use Rattle.std.proofs.Common.{◌≡◌, ◌∙◌, ◌+◌, ◌<◌, ◌≤◌, ◌⊎◌, ℕ, suc, Bool, true, false, bytes_eq, if◌then◌else◌, List, [], ◌∷◌, Option, Some, None, Result, Ok, Err, OnErr, OnOk, ap, arith, inl, inr, is_ok, is_some, length, refl, subst, sym}
 use Rattle.std.proofs.lemmas.Slice.Eq.{bytes_eq-Decides}
 use Rattle.ink_model.specs.Store.{Values, stored, store}
 use Rattle.ink_model.specs.declared.value.Value.{Value}
-use Rattle.ink_vars.specs.Changes.{Fits, Tracks, as_it_was, as_they_were, noted_at, number_of}
+use Rattle.ink_vars.specs.Changes.{AreNew, Fits, Tracks, as_it_was, as_they_were, noted_at, number_of}
 use Rattle.ink_vars.specs.Globals.{DifferInName}
+use Rattle.ink_vars.specs.Views.{ChangesView}
 use Rattle.ink_vars.specs.declared.changes.Before.{Before}
 use Rattle.ink_vars.proofs.Changing.{absent_then}
 use Rattle.ink_vars.proofs.Naming.{other_way}
 use Rattle.ink_vars.proofs.Noting.{either_way, none_noted, none_of}
+use Rattle.ink_vars.proofs.Numbers.{stored_within, there_within}
 
 -- ---- names that differ
 
@@ -33,24 +35,36 @@ differ_stored name v (e ∷ es) h = by (bytes_eq name e.0) refl (differ_stored n
 
 -- ---- nothing was noted
 
-pub fits_none : (noted : List Before) (now : Values) → noted ≡ [] → DifferInName now → Fits noted now
-fits_none [] now none differ = record { differ = differ; new = tt }
-fits_none (b ∷ noted) now none differ = absurd (cc)
+pub fits_none : (changes : ChangesView) (now : Values) → changes.noted ≡ [] → DifferInName now → length now ≤ changes.slots → Fits changes now
+fits_none changes now none differ slots = record { differ = differ; new = subst (AreNew (length now)) (sym none) tt; slots = slots }
+
+-- nothing more was noted, and there are no fewer slots
+pub fits_same : (old new : ChangesView) (now : Values) → new.noted ≡ old.noted → old.slots ≤ new.slots → Fits old now → Fits new now
+fits_same old new now same more fits = record { differ = fits.differ; new = subst (AreNew (length now)) (sym same) fits.new; slots = omega (arith, fits.slots, more) }
 
 pub was_none : (noted : List Before) (now : Values) → noted ≡ [] → as_they_were noted 0 now ≡ now
 was_none noted now none = ap (λ bs. as_they_were bs 0 now) none ∙ (none_noted now).were
 
 -- ---- a global was put
 
-pub tracked : (noted : List Before) (now : Values) → Fits noted now → Tracks (as_they_were noted 0 now) noted now
-tracked noted now fits = record { were = refl; new = fits.new }
+pub tracked : (changes : ChangesView) (now : Values) → Fits changes now → Tracks (as_they_were changes.noted 0 now) changes.noted now
+tracked changes now fits = record { were = refl; new = fits.new }
 
-pub fits_put : {A E : Type 0} (r : Result A E) (name : List ℕ) (v : Value) (old now start : Values) (noted : List Before) → DifferInName old → Tracks start noted now
-    → OnOk r (now ≡ store name v old) → OnErr r (now ≡ old) → Fits noted now
-fits_put r name v old now start noted differ tracks ok err = record {
+pub fits_put : {A E : Type 0} (r : Result A E) (name : List ℕ) (v : Value) (old now start : Values) (changes : ChangesView) → DifferInName old → Tracks start changes.noted now
+    → OnOk r (now ≡ store name v old) → OnErr r (now ≡ old) → length now ≤ changes.slots → Fits changes now
+fits_put r name v old now start changes differ tracks ok err slots = record {
   differ = either_way r ok err (λ is. subst DifferInName (sym is) (differ_stored name v old differ)) (λ is. subst DifferInName (sym is) differ);
   new = tracks.new;
+  slots = slots;
 }
+
+-- a global that is there was put
+pub no_longer : {A E : Type 0} (r : Result A E) (name : List ℕ) (v : Value) (old now : Values) (n : ℕ) → is_ok r ≡ is_some (stored name old) → OnOk r (now ≡ store name v old) → OnErr r (now ≡ old)
+    → length old ≤ n → length now ≤ n
+no_longer (Ok a) name v old now n found ok err h =
+    let there : number_of name old < n = omega (arith, h, there_within name old (sym found)) in
+    subst (λ es. length es ≤ n) (sym ok) (stored_within name v old n h there)
+no_longer (Err e) name v old now n found ok err h = subst (λ es. length es ≤ n) (sym err) h
 
 -- ---- what was not noted is as it was
 

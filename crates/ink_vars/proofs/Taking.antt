@@ -26,6 +26,21 @@ written_over name v (e ∷ rows) h = by (bytes_eq name e.0) h (written_over name
     by true k on = refl
     by false k on = ap (λ rest. e ∷ rest) (on (omega (arith, k)))
 
+-- what is put back at the number of a name is what it was
+pub was_there : (name : List ℕ) (v w : Value) (rows : Values) → number_of name rows < length rows → set_value_at (set_value_at rows (number_of name rows) v) (number_of name rows) w ≡ rows
+    → Some w ≡ stored name rows
+was_there name v w [] h back = absurd (omega (arith, h))
+was_there name v w (e ∷ rows) h back = by (bytes_eq name e.0) h back (was_there name v w rows)
+  where
+    by : (b : Bool) → (if b then 0 else suc (number_of name rows)) < suc (length rows)
+        → set_value_at (set_value_at (e ∷ rows) (if b then 0 else suc (number_of name rows)) v) (if b then 0 else suc (number_of name rows)) w ≡ e ∷ rows
+        → (number_of name rows < length rows → set_value_at (set_value_at rows (number_of name rows) v) (number_of name rows) w ≡ rows → Some w ≡ stored name rows)
+        → Some w ≡ (if b then Some e.1 else stored name rows)
+    by true k back on =
+        let head : (e.0, w) ≡ e = cc in
+        ap (λ p. Some p.1) head
+    by false k back on = on (omega (arith, k)) (cc)
+
 -- a name whose number is no global's is not there
 pub absent_past : (name : List ℕ) (rows : Values) → length rows ≤ number_of name rows → stored name rows ≡ None
 absent_past name rows h = by (stored name rows) refl

@@ -1,12 +1,13 @@
 //! Which globals were assigned since a moment, and what they were then.
 
-ghost use Rattle.std.specs.Prelude.{◌≡◌, ◌≢◌, ◌≤◌, ◌<◌, ◌⊎◌, ◌++◌, ◌∷◌, ℕ, List, [], Bool, false, true, None, is_some, length, nat_eq, slice_get, slice_index_or, IfOk, OnOk, OnErr};
+ghost use Rattle.std.specs.Prelude.{◌≡◌, ◌≢◌, ◌≤◌, ◌<◌, ◌++◌, ◌∷◌, ℕ, List, [], Bool, false, true, None, is_some, length, nat_eq, slice_get, slice_index_or, IfOk, OnOk, OnErr};
 ghost use Rattle.std.specs.List.{IsDistinct};
 ghost use Rattle.std.specs.Option.{option_copied};
 ghost use Rattle.ink_model.specs.Store.{Values, store, stored};
 ghost use Rattle.ink_model.specs.declared.value.Value.{Value};
 ghost use Rattle.ink_trail.specs.Undo.{Ends, trail_of, undone, writes_of};
 ghost use Rattle.ink_vars.specs.Changes.{AnswersAs, Fits, Marks, Tracks, as_they_were, changed_numbers, changed_to, noted_at, number_of, with_noted};
+ghost use Rattle.ink_vars.specs.Globals.{set_value_at};
 ghost use Rattle.ink_vars.specs.Undo.{Covers, global_back};
 
 use crate::table::Table;
@@ -24,8 +25,9 @@ pub(crate) struct Before {
     value: Option<Value>,
 }
 
-/// Which globals were assigned since a moment, and what they were then. Noting one that was noted costs no memory, and a
-/// new moment costs what was noted since the last, however many globals there are. A contract sees what was noted, in order.
+/// Which globals were assigned since a moment, and what they were then. A new moment costs what was noted since the last, however
+/// many globals there are. A contract sees what was noted, in order, and how many of the first globals have a slot: a mark, and room
+/// for their note. A global gets its slot when it is added.
 #[derive(Drop)]
 pub(crate) struct Changes {
     noted: Vec<Before>,
@@ -34,21 +36,21 @@ pub(crate) struct Changes {
 }
 
 impl Model for Changes {
-    ghost use Rattle.std.specs.Prelude.{List};
+    ghost use Rattle.std.specs.Prelude.{◌≤◌, length, vec_capacity};
     ghost use Rattle.ink_vars.specs.Changes.{Marks};
-    ghost use Rattle.ink_vars.specs.declared.changes.Before.{Before};
+    ghost use Rattle.ink_vars.specs.Views.{ChangesView};
 
-    ghost Value = { List Before };
+    ghost Value = { ChangesView };
 
-    ghost view = { λ c. c.noted.items };
+    ghost view = { λ c. record { noted = c.noted.items; slots = length c.marked.items } };
 
-    ghost invariant = { λ c. Marks c.marked.items c.noted.items };
+    ghost invariant = { λ c. Marks c.marked.items c.noted.items × (length c.marked.items ≤ vec_capacity c.noted) };
 }
 
 impl Changes {
     /// Nothing was assigned, which takes no memory.
     pub(crate) fn new(alloc: Global) -> Changes
-        ensures { result ≡ [] }
+        ensures { result.noted ≡ [] }
     {
         Changes {
             noted: Vec::new(alloc),
@@ -59,39 +61,45 @@ impl Changes {
 
     /// Forgets all: from now on, changes are those since this moment. Takes no memory.
     pub(crate) fn start(&mut self)
-        ensures none { self.new ≡ [] }
-        ensures tracks { (now : Values) → Tracks now self.new now }
+        ensures none { self.new.noted ≡ [] }
+        ensures tracks { (now : Values) → Tracks now self.new.noted now }
+        ensures slots { self.old.slots ≤ self.new.slots }
     {
         clear_marks(&mut self.marked, &self.noted);
         self.noted.clear();
     }
 
     /// Notes what the global of a name is, which may have a number, where it was not noted since the moment; called before it is
-    /// put. The one error is a refused request for memory, which is made only for the first note of a global, and leaves all as
-    /// it was.
+    /// put. There is a slot then for each global, also after that. The one error is a refused request for memory, which is made only
+    /// for the first note of a global, and leaves all as it was.
     pub(crate) fn note(
         &mut self,
         globals: &Table,
         name: &str,
         number: Option<usize>,
     ) -> Result<(), AllocError>
-        ensures ok { OnOk result (self.new ≡ with_noted name.now globals.now self.old) }
-        ensures err { OnErr result (self.new ≡ self.old) }
-        ensures memory { OnErr result (noted_at (number_of name.now globals.now) self.old ≡ None) }
-        ensures tracks { (start : Values) → Tracks start self.old globals.now → Tracks start self.new globals.now }
-        ensures stored { OnOk result ((start : Values) (value : Value) → Tracks start self.old globals.now → Tracks start self.new (store name.now value globals.now)) }
+        requires slots { length globals.now ≤ self.old.slots }
+        ensures ok { OnOk result (self.new.noted ≡ with_noted name.now globals.now self.old.noted) }
+        ensures err { OnErr result (self.new.noted ≡ self.old.noted) }
+        ensures memory { OnErr result (noted_at (number_of name.now globals.now) self.old.noted ≡ None) }
+        ensures tracks { (start : Values) → Tracks start self.old.noted globals.now → Tracks start self.new.noted globals.now }
+        ensures stored { OnOk result ((start : Values) (value : Value) → Tracks start self.old.noted globals.now → Tracks start self.new.noted (store name.now value globals.now)) }
+        ensures more { self.old.slots ≤ self.new.slots }
+        ensures slots { OnOk result ((value : Value) → length (store name.now value globals.now) ≤ self.new.slots) }
     {
         let place = globals.number_at(name, number);
         if is_marked(&self.marked, place) {
             return Ok(());
         }
+        self.make_slot(place)?;
         let value = copied(self.alloc, globals.get_at(name, number))?;
-        self.add(place, value)
+        self.add(place, value);
+        Ok(())
     }
 
     /// Gives the global of a name, which may have a number, a value, and notes before what it was, where that was not noted
-    /// since the moment. The one error is a refused request for memory, which is made only for the first note of a global, and
-    /// for a new one, and leaves the globals as they were.
+    /// since the moment. The one error is a refused request for memory, which is made only for a new global, and leaves the globals
+    /// as they were.
     pub(crate) fn put(
         &mut self,
         globals: &mut Table,
@@ -99,28 +107,66 @@ impl Changes {
         number: Option<usize>,
         value: Value,
     ) -> Result<(), AllocError>
+        requires slots { length globals.old ≤ self.old.slots }
         ensures ok { OnOk result (globals.new ≡ store name.now value globals.old) }
-        ensures noted { OnOk result (self.new ≡ with_noted name.now globals.old self.old) }
+        ensures noted { OnOk result (self.new.noted ≡ with_noted name.now globals.old self.old.noted) }
         ensures err { OnErr result (globals.new ≡ globals.old) }
-        ensures memory { OnErr result ((noted_at (number_of name.now globals.old) self.old ≡ None) ⊎ (is_some (stored name.now globals.old) ≡ false)) }
-        ensures tracks { (start : Values) → Tracks start self.old globals.old → Tracks start self.new globals.new }
+        ensures memory { OnErr result (is_some (stored name.now globals.old) ≡ false) }
+        ensures tracks { (start : Values) → Tracks start self.old.noted globals.old → Tracks start self.new.noted globals.new }
+        ensures slots { length globals.new ≤ self.new.slots }
     {
         let index = globals.number_at(name, number);
-        if index < globals.len() && is_marked(&self.marked, index) {
+        if index >= globals.len() {
+            return self.put_new(globals, name, number, value);
+        }
+        if is_marked(&self.marked, index) {
             return globals.put_over(index, name, number, value);
         }
+        self.put_first(globals, index, value);
+        Ok(())
+    }
+
+    // As `put`, of a global that is not there.
+    fn put_new(
+        &mut self,
+        globals: &mut Table,
+        name: &str,
+        number: Option<usize>,
+        value: Value,
+    ) -> Result<(), AllocError>
+        requires slots { length globals.old ≤ self.old.slots }
+        requires absent { is_some (stored name.now globals.old) ≡ false }
+        ensures ok { OnOk result (globals.new ≡ store name.now value globals.old) }
+        ensures noted { OnOk result (self.new.noted ≡ with_noted name.now globals.old self.old.noted) }
+        ensures err { OnErr result (globals.new ≡ globals.old) }
+        ensures tracks { (start : Values) → Tracks start self.old.noted globals.old → Tracks start self.new.noted globals.new }
+        ensures slots { length globals.new ≤ self.new.slots }
+    {
         self.note(globals, name, number)?;
         globals.put_at(name, number, value)
+    }
+
+    // Gives the global at an index a value, and notes what it was, which was not noted since the moment. Takes no memory.
+    fn put_first(&mut self, globals: &mut Table, index: usize, value: Value)
+        requires slots { length globals.old ≤ self.old.slots }
+        requires there { index < length globals.old }
+        requires unnoted { noted_at index self.old.noted ≡ None }
+        ensures globals { globals.new ≡ set_value_at globals.old index value }
+        ensures noted { (name : List ℕ) → index ≡ number_of name globals.old → self.new.noted ≡ with_noted name globals.old self.old.noted }
+        ensures slots { self.new.slots ≡ self.old.slots }
+    {
+        let before = globals.swap_at(index, value);
+        self.add(index, Some(before));
     }
 
     /// Puts each pair of a trail back, the last first, ends the mark, and answers how many pairs there were. What was noted of the
     /// globals fits them then too. Takes no memory.
     pub(crate) fn put_back(&self, globals: &mut Table, trail: &mut Trail<GlobalPair>) -> u64
         requires fits { Fits self.now globals.old }
-        requires covers { Covers self.now (length globals.old) (trail_of trail.old.undo) }
+        requires covers { Covers self.now.noted (length globals.old) (trail_of trail.old.undo) }
         ensures rows { globals.new ≡ undone global_back (trail_of trail.old.undo) globals.old }
         ensures fits { Fits self.now globals.new }
-        ensures start { as_they_were self.now 0 globals.new ≡ as_they_were self.now 0 globals.old }
+        ensures start { as_they_were self.now.noted 0 globals.new ≡ as_they_were self.now.noted 0 globals.old }
         ensures len { result ≡ length (trail_of trail.old.undo) }
         ensures writes { result ≤ writes_of trail.old.undo }
         ensures trail { Ends trail.old trail.new }
@@ -133,15 +179,32 @@ impl Changes {
         count
     }
 
-    // Notes what the global of a number was, which has no mark yet.
-    fn add(&mut self, number: usize, value: Option<Value>) -> Result<(), AllocError>
-        requires { noted_at number self.old ≡ None }
-        ensures ok { OnOk result (self.new ≡ self.old ++ record { number = number; value = value } ∷ []) }
-        ensures err { OnErr result (self.new ≡ self.old) }
+    // Notes what the global of a number was, which has a slot, and no mark yet. Takes no memory.
+    fn add(&mut self, number: usize, value: Option<Value>)
+        requires slot { number < self.old.slots }
+        requires unnoted { noted_at number self.old.noted ≡ None }
+        ensures noted { self.new.noted ≡ self.old.noted ++ record { number = number; value = value } ∷ [] }
+        ensures slots { self.new.slots ≡ self.old.slots }
     {
-        make_room(&mut self.marked, number)?;
-        self.noted.push(Before { number, value })?;
+        self.noted.push_reserved(Before { number, value });
         self.marked[number] = true;
+    }
+
+    // Makes a slot for a number that has one or is the next. The one error is a refused request for memory, which is made only for the
+    // next.
+    fn make_slot(&mut self, number: usize) -> Result<(), AllocError>
+        requires next { number ≤ self.old.slots }
+        ensures noted { self.new.noted ≡ self.old.noted }
+        ensures more { self.old.slots ≤ self.new.slots }
+        ensures ok { OnOk result (number < self.new.slots) }
+        ensures memory { OnErr result (self.old.slots ≤ number) }
+    {
+        if number < self.marked.len() {
+            return Ok(());
+        }
+        let free = self.marked.len() - self.noted.len();
+        self.noted.reserve(free + 1)?;
+        self.marked.push(false)?;
         Ok(())
     }
 }
@@ -155,9 +218,9 @@ pub(crate) fn changed<F: Fn(&str) -> bool>(
     is_wanted: F,
 ) -> Result<Vec<usize>, AllocError>
     requires { F.IsAlwaysCallable is_wanted }
-    ensures numbers { (wanted : List ℕ → Bool) (start : Values) → AnswersAs (F.post is_wanted) wanted → Tracks start changes.now globals.now → IfOk result (λ numbers. numbers.items ≡ changed_numbers wanted start globals.now) }
+    ensures numbers { (wanted : List ℕ → Bool) (start : Values) → AnswersAs (F.post is_wanted) wanted → Tracks start changes.now.noted globals.now → IfOk result (λ numbers. numbers.items ≡ changed_numbers wanted start globals.now) }
     ensures once { (wanted : List ℕ → Bool) → AnswersAs (F.post is_wanted) wanted → IfOk result (λ numbers. IsDistinct nat_eq numbers.items) }
-    ensures memory { (wanted : List ℕ → Bool) (start : Values) → AnswersAs (F.post is_wanted) wanted → Tracks start changes.now globals.now → OnErr result (changed_numbers wanted start globals.now ≢ []) }
+    ensures memory { (wanted : List ℕ → Bool) (start : Values) → AnswersAs (F.post is_wanted) wanted → Tracks start changes.now.noted globals.now → OnErr result (changed_numbers wanted start globals.now ≢ []) }
 {
     let there = globals.len();
     let mut numbers = Vec::new(alloc);
@@ -203,20 +266,10 @@ fn is_marked(marked: &[bool], number: usize) -> bool
 // Takes away the marks of what was noted.
 fn clear_marks(marked: &mut [bool], noted: &[Before])
     requires { Marks marked.old noted.now }
-    ensures { Marks marked.new [] }
+    ensures marks { Marks marked.new [] }
+    ensures len { length marked.new ≡ length marked.old }
 {
     for before in noted {
         marked[before.number] = false;
     }
-}
-
-// Makes room for the mark of a number. The marks stay as they are.
-fn make_room(marked: &mut Vec<bool>, number: usize) -> Result<(), AllocError>
-    ensures marks { (i : ℕ) → slice_index_or marked.new.items i false ≡ slice_index_or marked.old.items i false }
-    ensures room { OnOk result (number < length marked.new.items) }
-{
-    while marked.len() <= number {
-        marked.push(false)?;
-    }
-    Ok(())
 }

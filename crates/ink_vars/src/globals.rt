@@ -1,6 +1,6 @@
 //! The globals of a running story, and what they were at a moment.
 
-ghost use Rattle.std.specs.Prelude.{◌≡◌, ◌≢◌, ◌≤◌, ◌<◌, ◌+◌, ◌⊎◌, ℕ, List, [], Bool, None, Some, is_ok, is_some, length, nat_eq, option_map, slice_get, true, unwrap_or, IfOk, IfErr, OnOk, OnErr};
+ghost use Rattle.std.specs.Prelude.{◌≡◌, ◌≢◌, ◌≤◌, ◌<◌, ◌+◌, ◌⊎◌, ℕ, List, [], Bool, None, Some, false, is_ok, is_some, length, nat_eq, option_map, slice_get, true, unwrap_or, IfOk, IfErr, OnOk, OnErr};
 ghost use Rattle.std.specs.List.{IsDistinct};
 ghost use Rattle.ink_model.specs.Store.{stored, store};
 ghost use Rattle.ink_trail.specs.Undo.{Begins, Ends, KeepsTrail, TrailsOrKeeps, trail_of, writes_of};
@@ -47,9 +47,9 @@ impl Model for Globals {
 
     ghost Value = { GlobalsView };
 
-    ghost view = { λ g. record { rows = g.table; start = as_they_were g.changes 0 g.table; trail = g.trail } };
+    ghost view = { λ g. record { rows = g.table; start = as_they_were g.changes.noted 0 g.table; trail = g.trail } };
 
-    ghost invariant = { λ g. Fits g.changes g.table × Covers g.changes (length g.table) (trail_of g.trail.undo) };
+    ghost invariant = { λ g. Fits g.changes g.table × Covers g.changes.noted (length g.table) (trail_of g.trail.undo) };
 }
 
 #[tactic(auto, unfolding(crate::specs::Undo::globals_stood, crate::specs::Undo::globals_spare, ink_trail::specs::Undo::stood_at, ink_trail::specs::Undo::spare))]
@@ -136,14 +136,15 @@ impl Globals {
 
     /// Gives the global of a name, which may have a number, a value, which is one change of a cell: one that is there keeps its
     /// place, and a new one comes last. What the globals were at the moment stays known. The one error is a refused request for
-    /// memory, which is made only where the global is as it was at the moment, or, while a mark stands, where there is no room for
-    /// its pair, and leaves all as it was.
+    /// memory, which leaves all as it was. Memory is asked for only for a new global, or while a mark stands: there only where the
+    /// global is as it was at the moment, or where there is no room for its pair.
     #[inline(always)]
     pub fn put(&mut self, name: &str, number: Option<usize>, value: Value) -> Result<(), AllocError>
         ensures ok { OnOk result (self.new.rows ≡ store name.now value self.old.rows) }
         ensures err { OnErr result (self.new.rows ≡ self.old.rows) }
         ensures start { self.new.start ≡ self.old.start }
-        ensures memory { OnErr result ((stored name.now self.old.start ≡ stored name.now self.old.rows) ⊎ (globals_spare self.old < 1)) }
+        ensures memory { OnErr result ((is_some (stored name.now self.old.rows) ≡ false) ⊎ (is_some (globals_stood self.old) ≡ true)) }
+        ensures asks { OnErr result ((stored name.now self.old.start ≡ stored name.now self.old.rows) ⊎ (globals_spare self.old < 1)) }
         ensures trail { TrailsOrKeeps global_back 1 self.old.rows self.old.trail self.new.rows self.new.trail result }
         ensures stood { globals_stood self.new ≡ globals_stood self.old }
         ensures spare { globals_spare self.old ≤ globals_spare self.new + 1 }
@@ -166,7 +167,7 @@ impl Globals {
         ensures ok { OnOk result (self.new.rows ≡ store name.now value self.old.rows) }
         ensures err { OnErr result (self.new.rows ≡ self.old.rows) }
         ensures start { self.new.start ≡ self.old.start }
-        ensures memory { OnErr result ((stored name.now self.old.start ≡ stored name.now self.old.rows) ⊎ (globals_spare self.old < 1)) }
+        ensures asks { OnErr result ((stored name.now self.old.start ≡ stored name.now self.old.rows) ⊎ (globals_spare self.old < 1)) }
         ensures trail { TrailsOrKeeps global_back 1 self.old.rows self.old.trail self.new.rows self.new.trail result }
     {
         self.trail.ready(1)?;

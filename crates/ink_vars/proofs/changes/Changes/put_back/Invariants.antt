@@ -8,8 +8,8 @@ abbrev pub invariant-loop-pair : goal.invariant-loop-pair
 invariant-loop-pair l = record {
   rows : undone global_back (trail_of l.trail.undo) l.globals ≡ undone global_back (trail_of l.initial.trail.undo) l.initial.globals;
   fits : Fits l.self l.globals;
-  covers : Covers l.self (length l.globals) (trail_of l.trail.undo);
-  start : as_they_were l.self 0 l.globals ≡ as_they_were l.self 0 l.initial.globals;
+  covers : Covers l.self.noted (length l.globals) (trail_of l.trail.undo);
+  start : as_they_were l.self.noted 0 l.globals ≡ as_they_were l.self.noted 0 l.initial.globals;
   room : l.initial.trail.room ≤ l.trail.room;
 }
 

@@ -1,4 +1,4 @@
-use Rattle.std.proofs.Common.{◌∙◌, ap, is_some, length}
+use Rattle.std.proofs.Common.{◌∙◌, ap, arith, is_some, length}
 use Rattle.ink_trail.proofs.Undoing.{none-stood}
 use Rattle.ink_vars.specs.Undo.{global_back, globals_stood}
 use Rattle.ink_vars.proofs.Covering.{covers_unmarked}
@@ -8,9 +8,9 @@ use Rattle.ink_vars.proofs.globals.Globals.begin.Goals as goal
 pub invariant_of-self : goal.invariant_of-self
 unfolding globals_stood
 invariant_of-self c = (
-  fits_none c.start.new.self c.self.inside.table c.start.ensures.none c.self.invariant.0.differ,
-  covers_unmarked c.start.new.self (length c.self.inside.table) c.self.inside.trail.undo (ap (λ g. is_some g.trail.undo) c.self.view_is ∙ ap is_some (none-stood global_back _ _ c.requires.unmarked)),
+  fits_none c.start.new.self c.self.inside.table c.start.ensures.none c.self.invariant.0.differ (omega (arith, c.self.invariant.0.slots, c.start.ensures.slots)),
+  covers_unmarked c.start.new.self.noted (length c.self.inside.table) c.self.inside.trail.undo (ap (λ g. is_some g.trail.undo) c.self.view_is ∙ ap is_some (none-stood global_back _ _ c.requires.unmarked)),
 )
 
 pub returns-clause-start : goal.returns-clause-start
-returns-clause-start c = was_none c.start.new.self c.self.inside.table c.start.ensures.none ∙ ap (λ g. g.rows) c.self.view_is
+returns-clause-start c = was_none c.start.new.self.noted c.self.inside.table c.start.ensures.none ∙ ap (λ g. g.rows) c.self.view_is

@@ -1,5 +1,6 @@
-use Rattle.std.proofs.Common.{◌∙◌, ap, inl, length, sym}
+use Rattle.std.proofs.Common.{◌∙◌, ap, inl, inr, is_some, length, sym}
 use Rattle.std.proofs.lemmas.Result.{on_err_weaker}
+use Rattle.ink_model.specs.Store.{stored}
 use Rattle.ink_vars.specs.Changes.{Tracks, as_they_were}
 use Rattle.ink_trail.proofs.Undoing.{stood-or-kept}
 use Rattle.ink_vars.specs.Undo.{global_back, globals_stood}
@@ -9,22 +10,28 @@ use Rattle.ink_vars.proofs.Fitting.{as_it_stood, fits_put, tracked}
 use Rattle.ink_vars.proofs.globals.Globals.put.Goals as goal
 
 -- the start stays
-stays : (c : goal.After-put) → Tracks (as_they_were c.self.inside.changes 0 c.self.inside.table) c.put.new.self c.put.new.globals
-stays c = c.put.ensures.tracks (as_they_were c.self.inside.changes 0 c.self.inside.table) (tracked c.self.inside.changes c.self.inside.table c.self.invariant.0)
+stays : (c : goal.After-put) → Tracks (as_they_were c.self.inside.changes.noted 0 c.self.inside.table) c.put.new.self.noted c.put.new.globals
+stays c = c.put.ensures.tracks (as_they_were c.self.inside.changes.noted 0 c.self.inside.table) (tracked c.self.inside.changes c.self.inside.table c.self.invariant.0)
+
+pub put-requires : goal.put-requires
+put-requires c = record { slots = c.self.invariant.0.slots }
 
 pub invariant_of-self : goal.invariant_of-self
 invariant_of-self c = (
-  fits_put c.put.result c.args.name.now c.args.value c.self.inside.table c.put.new.globals (as_they_were c.self.inside.changes 0 c.self.inside.table) c.put.new.self
-      c.self.invariant.0.differ (stays c) c.put.ensures.ok c.put.ensures.err,
-  covers_unmarked c.put.new.self (length c.put.new.globals) c.self.inside.trail.undo (sym c.is_marked.ensures ∙ c.if-is_marked.false),
+  fits_put c.put.result c.args.name.now c.args.value c.self.inside.table c.put.new.globals (as_they_were c.self.inside.changes.noted 0 c.self.inside.table) c.put.new.self
+      c.self.invariant.0.differ (stays c) c.put.ensures.ok c.put.ensures.err c.put.ensures.slots,
+  covers_unmarked c.put.new.self.noted (length c.put.new.globals) c.self.inside.trail.undo (sym c.is_marked.ensures ∙ c.if-is_marked.false),
 )
 
 pub returns-clause-start : goal.returns-clause-start
 returns-clause-start c = (stays c).were ∙ ap (λ g. g.start) c.self.view_is
 
 pub returns-clause-memory : goal.returns-clause-memory
-returns-clause-memory c =
-    rw (sym c.self.view_is) (on_err_weaker c.put.result (λ h. inl (as_it_stood c.args.name.now c.self.inside.changes c.self.inside.table h)) c.put.ensures.memory)
+returns-clause-memory c = on_err_weaker c.put.result (λ absent. inl (ap (λ g. is_some (stored c.args.name.now g.rows)) (sym c.self.view_is) ∙ absent)) c.put.ensures.memory
+
+pub returns-clause-asks : goal.returns-clause-asks
+returns-clause-asks c =
+    rw (sym c.self.view_is) (on_err_weaker c.put.result (λ absent. inl (as_it_stood c.args.name.now c.self.inside.changes.noted c.self.inside.table (inr absent))) c.put.ensures.memory)
 
 pub returns-clause-trail : goal.returns-clause-trail
 returns-clause-trail c =
