@@ -1,10 +1,14 @@
 -- Values that are spelled as they are printed, and what their spelling reads as.
-use Rattle.std.proofs.Common.{◌≡◌, ◌∙◌, ap, sym, refl, ℕ, ℤ, pos, negsuc, suc, ◌+◌, ◌-◌, ◌^◌, ◌<◌, ◌≤◌, Bool, true, false, cond, bytes_eq, List, [], ◌∷◌, ◌++◌, length, take, drop, get_or, flat_map, Option, Some, None, option_map, option_and_then, decimal, arith, append-nil, lt-ltb}
+use Rattle.std.proofs.Common.{◌≡◌, ◌∙◌, ap, sym, subst, refl, ℕ, ℤ, pos, negsuc, suc, ◌+◌, ◌-◌, ◌^◌, ◌<◌, ◌≤◌, Bool, true, false, cond, bytes_eq, w32, Result, Ok, Err, List, [], ◌∷◌, ◌++◌, length, take, drop, get_or, flat_map, Option, Some, None, option_map, option_and_then, decimal, arith, append-nil, lt-ltb}
 use Rattle.std.proofs.Math.Seq.{take-suc}
+use Rattle.std.proofs.lemmas.Bool.{true≢false}
+use Rattle.std.proofs.lemmas.Bool.Decides.{nat_tests}
+use Rattle.std.proofs.lemmas.Fmt.{parse-signed_decimal}
 use Rattle.std.proofs.lemmas.Grind.{flat_map-append}
 use Rattle.std.proofs.lemmas.Slice.Eq.{bytes_eq-Decides}
 use Rattle.std.specs.Bool.{OnTrue}
 use Rattle.std.specs.Fmt.{signed_decimal}
+use Rattle.std.specs.Str.Parse.{ParsesSigned}
 use lib.Signed.{mag}
 use Rattle.json.specs.Token.{Token}
 use Rattle.json.specs.Json as json
@@ -16,11 +20,13 @@ use Rattle.json.proofs.Printed.Trees.{value-json_tokens}
 use Rattle.json.proofs.Printed.Tokens.{tokens-print}
 use Rattle.json.proofs.Printed.Decimals.{IsNumber-decimal, IsNumber-signed_decimal}
 use Rattle.json.proofs.Printed.Strings.{escape_byte_plain}
-use Rattle.serde_json.specs.Data.{Data, boolean, number, string, unsigned, negative}
+use Rattle.serde_json.specs.Data.{Data, null, boolean, number, string, array, object, unsigned, negative}
+use Rattle.serde_json.specs.Find.{as_integer}
 use Rattle.serde_json.specs.Read.{read, max_depth, of_json}
 use Rattle.serde_json.proofs.Numbers.{number_of-decimal, number_of-negative}
 use Rattle.ink_model.specs.Bytes.{fits_text}
-use Rattle.ink_model.specs.ValueJson.{given_of}
+use Rattle.ink_model.specs.Leaves.{is_small}
+use Rattle.ink_model.specs.ValueJson.{given_by, given_integer, given_of}
 use Rattle.ink_model.specs.declared.host.Given.{Given}
 use Rattle.ink_model.specs.declared.host.Given.TheVariants as given
 use Rattle.ink_protocol.proofs.Commands.{given_read}
@@ -96,3 +102,59 @@ plain_more xs i h before low quote slash =
     let more : take (i + 1) xs ≡ take i xs ++ x ∷ [] = ap (λ n. take n xs) next ∙ take-suc xs i 0 h in
     rw more (flat_map-append escape_byte (take i xs) (x ∷ []) ∙ ap (λ l. l ++ flat_map escape_byte (x ∷ [])) before
     ∙ ap (λ l. take i xs ++ l) (append-nil (escape_byte x) ∙ escape_byte_plain x quote slash low))
+
+-- ---- integers that are not printed so
+
+-- an integer is one of 32 bits
+abbrev within : Option Given → Bool
+within (Some (given.Int z)) = is_small z
+within value = true
+
+within_small : (z : ℤ) (b : Bool) → is_small z ≡ b → within (cond b (Some (given.Int z)) None) ≡ true
+within_small z true e = e
+within_small z false e = refl
+
+within_integer : (o : Option ℤ) → within (given_integer o) ≡ true
+within_integer None = refl
+within_integer (Some z) = within_small z (is_small z) refl
+
+within_text : (t : List ℕ) (b : Bool) → within (cond b (Some (given.Text t)) None) ≡ true
+within_text t true = refl
+within_text t false = refl
+
+within_data : (o : Option Data) → within (option_and_then given_by o) ≡ true
+within_data None = refl
+within_data (Some null) = refl
+within_data (Some (boolean b)) = refl
+within_data (Some (number n)) = within_integer (as_integer n)
+within_data (Some (string t)) = within_text t (fits_text t)
+within_data (Some (array ds)) = refl
+within_data (Some (object ms)) = refl
+
+given_within : (text : List ℕ) → within (given_of text) ≡ true
+unfolding given_of
+given_within text = within_data (read text)
+
+small_mag : (z : ℤ) → is_small z ≡ true → mag z < 2 ^ 31
+small_mag (pos n) h = grind (arith, nat_tests, h)
+small_mag (negsuc n) h = grind (arith, nat_tests, h)
+
+not_true : (b : Bool) → (b ≡ true → ⊥) → b ≡ false
+not_true true h = absurd (h refl)
+not_true false h = refl
+
+-- the number that was read is not printed so, or none was
+abbrev pub Misses : {E : Type 0} → List ℕ → Result ℤ E → Type 0
+Misses text (Ok z) = bytes_eq (signed_decimal z) text ≡ false
+Misses text (Err e) = Unit {0}
+
+missed : {E : Type 0} (text : List ℕ) (r : Result ℤ E) (z : ℤ) → r ≡ Ok z → Misses text r → text ≡ signed_decimal z → ⊥
+missed text r z is h e = true≢false (sym ((bytes_eq-Decides (signed_decimal z) text).1 (sym e)) ∙ subst (Misses text) is h)
+
+-- what a text spells is no integer that is printed so, if reading one comes to none
+pub none_printed : {E : Type 0} (text : List ℕ) (r : Result ℤ E) → ParsesSigned w32 10 text r → Misses text r → (z : ℤ) → given_of text ≡ Some (given.Int z) → bytes_eq text (signed_decimal z) ≡ false
+none_printed text r parses h z is =
+    let small : mag z < 2 ^ 31 = small_mag z (sym (ap within is) ∙ given_within text) in
+    not_true _ (λ same.
+    let e : text ≡ signed_decimal z = (bytes_eq-Decides text (signed_decimal z)).0 same in
+    missed text r z (parse-signed_decimal w32 z text r (record { sfits = small }) (omega arith) e parses) h e)

@@ -1,8 +1,8 @@
 //! The commands that lines spell (docs/PROTOCOL.md, "Command lines").
 
-ghost use Rattle.std.specs.Prelude.{◌≡◌, ◌≤◌, ◌<◌, ◌&&◌, is_none, length, true, IfOk, OnErr, option_map, option_and_then};
+ghost use Rattle.std.specs.Prelude.{◌≡◌, ◌≤◌, ◌<◌, ◌&&◌, is_none, length, true, IfOk, OnErr, Some, option_map, option_and_then};
 ghost use Rattle.std.specs.List.{list_all};
-ghost use Rattle.ink_model.specs.Command.{choose_command as choose_of, command_of, command_word, drop_command as drop_of, flow_command as flow_of, get_command as get_of, jump_command as jump_of, line_asks, load_command as load_of, set_command as set_of, visits_command as visits_of};
+ghost use Rattle.ink_model.specs.Command.{choose_command as choose_of, command_asks, command_of, command_word, drop_command as drop_of, flow_command as flow_of, get_command as get_of, jump_command as jump_of, line_asks, load_command as load_of, load_line_asks, set_asks, set_command as set_of, visits_command as visits_of};
 ghost use Rattle.ink_model.specs.Bytes.{after as after_word, at_space as parts_at_space, is_digit as digit, is_filled, number_from};
 ghost use Rattle.ink_protocol.specs.Commands.{command_by};
 
@@ -34,10 +34,11 @@ pub enum LineCommand<'a> {
 }
 
 /// The command of a line, without its newline (docs/PROTOCOL.md, "Command lines"). A line that is no text, or no
-/// command, has none. The one error is a refused request for memory, which only `set` and `load` make, for their JSON.
+/// command, has none. The one error is a refused request for memory, which only `load` makes, for its JSON, and `set` where its
+/// value is a text, or is spelled another way than it is printed.
 pub fn read_command(alloc: Global, line: &[u8]) -> Result<Option<LineCommand<'_>>, AllocError>
     ensures command { IfOk result (λ command. option_map command_by command ≡ command_of line.now) }
-    ensures memory { OnErr result (line_asks (command_of line.now) ≡ true) }
+    ensures memory { OnErr result (line_asks line.now ≡ true) }
 {
     match str::from_utf8(line) {
         Ok(text) => command_in(alloc, text),
@@ -47,7 +48,7 @@ pub fn read_command(alloc: Global, line: &[u8]) -> Result<Option<LineCommand<'_>
 
 fn command_in(alloc: Global, text: &str) -> Result<Option<LineCommand<'_>>, AllocError>
     ensures command { IfOk result (λ command. option_map command_by command ≡ command_word text.now) }
-    ensures memory { OnErr result (line_asks (command_word text.now) ≡ true) }
+    ensures memory { OnErr result (command_asks text.now ≡ true) }
 {
     if text == "continue" {
         return Ok(Some(LineCommand::Continue));
@@ -189,7 +190,7 @@ fn jump_command(target: &str) -> Option<LineCommand<'_>>
 
 fn set_line(alloc: Global, text: &str) -> Result<Option<LineCommand<'_>>, AllocError>
     ensures command { IfOk result (λ command. option_map command_by command ≡ option_and_then set_of (parts_at_space text.now)) }
-    ensures memory { OnErr result (line_asks (option_and_then set_of (parts_at_space text.now)) ≡ true) }
+    ensures memory { OnErr result (set_asks (parts_at_space text.now) ≡ true) }
 {
     match at_space(text) {
         Some((name, value)) => set_command(alloc, name, value),
@@ -203,7 +204,7 @@ fn set_command<'a>(
     text: &str,
 ) -> Result<Option<LineCommand<'a>>, AllocError>
     ensures command { IfOk result (λ command. option_map command_by command ≡ set_of (name.now, text.now)) }
-    ensures memory { OnErr result (line_asks (set_of (name.now, text.now)) ≡ true) }
+    ensures memory { OnErr result (set_asks (Some (name.now, text.now)) ≡ true) }
 {
     if name.is_empty() || text.is_empty() {
         return Ok(None);
@@ -214,7 +215,7 @@ fn set_command<'a>(
 
 fn load_command(alloc: Global, text: &str) -> Result<Option<LineCommand<'static>>, AllocError>
     ensures command { IfOk result (λ command. option_map command_by command ≡ load_of text.now) }
-    ensures memory { OnErr result (line_asks (load_of text.now) ≡ true) }
+    ensures memory { OnErr result (load_line_asks (Some text.now) ≡ true) }
 {
     if text.is_empty() {
         return Ok(None);

@@ -22,7 +22,7 @@ use Rattle.ink_model.specs.Session.{BeginsAnew, BreaksBy, Continue, Does, EndsAs
 use Rattle.ink_model.specs.State.{State, Condition, Ready, Broken, in_game}
 use Rattle.ink_model.specs.Store.{Values, store, stored}
 use Rattle.ink_model.specs.Tree.{StoryTree}
-use Rattle.ink_model.specs.Unread.{LineFails}
+use Rattle.ink_model.specs.Unread.{LineFails, PathFails}
 use Rattle.ink_model.specs.Turns.{ChoosesBy, ChoosesFrom, JumpsBy, JumpsFrom, LandsFor}
 use Rattle.ink_model.specs.Visits.{entering_around, visits_by}
 use Rattle.ink_model.specs.declared.host.Change.{Change}
@@ -285,16 +285,19 @@ module _ (s : StoryTree) where
     does_fit es (Some (command.Flow name)) old reply new does o = goes_fit name old.condition old reply new does.1 o.condition o
     does_fit es (Some (command.Drop name)) old reply new does o = drops_fit name old.condition old reply new does.1 o.condition o
 
-    line_fails : (c : Option Command) (old : State) (reply : Reply) (new : State) → LineFails c old reply new → new ≡ old
-    line_fails c old reply new (inl x) = x.1.1
-    line_fails (Some (command.Visits path)) old reply new (inr x) = x.1.1
-    line_fails (Some (command.Jump path)) old reply new (inr x) = x.1.1
-    line_fails c old reply new (inr x) = absurd x
+    path_fails : (c : Option Command) (old : State) (reply : Reply) (new : State) → PathFails c old reply new → new ≡ old
+    path_fails (Some (command.Visits path)) old reply new x = x.1.1
+    path_fails (Some (command.Jump path)) old reply new x = x.1.1
+    path_fails c old reply new x = absurd x
+
+    line_fails : (line : List ℕ) (old : State) (reply : Reply) (new : State) → LineFails line old reply new → new ≡ old
+    line_fails line old reply new (inl x) = x.1.1
+    line_fails line old reply new (inr x) = path_fails (command_of line) old reply new x
 
     pub serves_fit : (es : List Event) (line : List ℕ) (old : State) (reply : Reply) (new : State) → Serves s h es line old reply new → StateFits s old → StateFits s new
     unfolding Serves
     serves_fit es line old reply new (inl does) o = does_fit es (command_of line) old reply new does o
-    serves_fit es line old reply new (inr fails) o = along old new (line_fails (command_of line) old reply new fails.1) o
+    serves_fit es line old reply new (inr fails) o = along old new (line_fails line old reply new fails.1) o
 
     -- a session leads from sound states to sound states
     pub session_fits : (es : List Event) (lines : List (List ℕ)) (old : State) (written : List ℕ) (new : State) → Session s h es lines old written new → StateFits s old → StateFits s new

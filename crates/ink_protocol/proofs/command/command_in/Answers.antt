@@ -1,7 +1,6 @@
 use Rattle.std.proofs.Common.{◌≡◌, ◌∙◌, IfOk, OnErr, option_map, subst, sym, true}
-use Rattle.ink_model.specs.Command.{line_asks}
 use Rattle.ink_protocol.specs.Commands.{command_by}
-use Rattle.ink_protocol.proofs.Commands.{choose_word, drop_word, flow_word, get_word, jump_word, load_word, set_word, visits_word}
+use Rattle.ink_protocol.proofs.Commands.{choose_word, drop_word, flow_word, get_word, jump_word, load_word, load_word_asks, set_word, set_word_asks, visits_word}
 use Rattle.ink_protocol.proofs.command.command_in.Goals as goal
 
 pub returns-in-Some-clause-command : goal.returns-in-Some-clause-command
@@ -13,7 +12,7 @@ returns-in-Some-after-clause-command c =
 
 pub returns-in-Some-after-clause-memory : goal.returns-in-Some-after-clause-memory
 returns-in-Some-after-clause-memory c =
-    subst (λ k. OnErr c.set_line.result (line_asks k ≡ true)) (sym (set_word c.args.text.now c.in-Some-after.rest.now (sym c.in-Some-after.ensures))) c.set_line.ensures.memory
+    subst (λ b. OnErr c.set_line.result (b ≡ true)) (sym (set_word_asks c.args.text.now c.in-Some-after.rest.now (sym c.in-Some-after.ensures))) c.set_line.ensures.memory
 
 pub returns-in-Some-after-2-clause-command : goal.returns-in-Some-after-2-clause-command
 returns-in-Some-after-2-clause-command c = c.visits_command.ensures ∙ sym (visits_word c.args.text.now c.in-Some-after-2.path.now (sym c.in-Some-after-2.ensures))
@@ -31,7 +30,7 @@ returns-in-Some-after-5-clause-command c =
 
 pub returns-in-Some-after-5-clause-memory : goal.returns-in-Some-after-5-clause-memory
 returns-in-Some-after-5-clause-memory c =
-    subst (λ k. OnErr c.load_command.result (line_asks k ≡ true)) (sym (load_word c.args.text.now c.in-Some-after-5.json.now (sym c.in-Some-after-5.ensures))) c.load_command.ensures.memory
+    subst (λ b. OnErr c.load_command.result (b ≡ true)) (sym (load_word_asks c.args.text.now c.in-Some-after-5.json.now (sym c.in-Some-after-5.ensures))) c.load_command.ensures.memory
 
 pub returns-in-Some-after-6-clause-command : goal.returns-in-Some-after-6-clause-command
 returns-in-Some-after-6-clause-command c = c.flow_command.ensures ∙ sym (flow_word c.args.text.now c.in-Some-after-6.name.now (sym c.in-Some-after-6.ensures))

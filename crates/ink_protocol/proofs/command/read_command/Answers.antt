@@ -1,7 +1,7 @@
 use Rattle.std.proofs.Common.{◌≡◌, IfOk, OnErr, subst, sym, ap, true, ◌∙◌, option_map}
-use Rattle.ink_model.specs.Command.{command_word, line_asks}
+use Rattle.ink_model.specs.Command.{command_asks, command_word}
 use Rattle.ink_protocol.specs.Commands.{command_by}
-use Rattle.ink_protocol.proofs.Commands.{command_of_text, command_of_no_text}
+use Rattle.ink_protocol.proofs.Commands.{asks_on_err, command_of_text, command_of_no_text}
 use Rattle.ink_protocol.proofs.command.read_command.Goals as goal
 
 pub returns-in-Ok-clause-command : goal.returns-in-Ok-clause-command
@@ -11,8 +11,7 @@ returns-in-Ok-clause-command c =
 
 pub returns-in-Ok-clause-memory : goal.returns-in-Ok-clause-memory
 returns-in-Ok-clause-memory c =
-    subst (λ k. OnErr c.command_in.result (line_asks k ≡ true)) (ap command_word c.in-Ok.ensures.cases.0 ∙ sym (command_of_text _ c.in-Ok.ensures.cases.1))
-    c.command_in.ensures.memory
+    asks_on_err _ c.command_in.result c.in-Ok.ensures.cases.1 (subst (λ l. OnErr c.command_in.result (command_asks l ≡ true)) c.in-Ok.ensures.cases.0 c.command_in.ensures.memory)
 
 pub returns-in-Err : goal.returns-in-Err
 returns-in-Err c = record { command = sym (command_of_no_text _ c.in-Err.ensures.cases.0); memory = tt }
