@@ -1,6 +1,6 @@
 //! The notes of a turn function.
 
-ghost use Rattle.std.specs.Prelude.{◌≡◌, ◌++◌, ◌∷◌, [], None, Some, true, vec_capacity, vec_len, IfErr, IfOk, OnErr, OnOk};
+ghost use Rattle.std.specs.Prelude.{◌≡◌, ◌≢◌, ◌⊎◌, ◌++◌, ◌∷◌, [], None, Some, false, true, vec_capacity, vec_len, IfErr, IfOk, OnErr, OnOk};
 ghost use Rattle.ink_host.specs.Desk.{counted};
 ghost use Rattle.ink_model.specs.Host.{shares};
 ghost use Rattle.ink_model.specs.declared.host.HostFault.TheVariants as fault;
@@ -57,13 +57,14 @@ impl Recorder {
     }
 
     /// Opens a call, with room for its notes. The one error is `OutOfMemory`, where memory for them was refused, and it is
-    /// counted.
+    /// counted. Memory is asked for only where there are arguments, or no room for a call more.
     pub fn open(&mut self, stamp: u64, arguments: &[Value]) -> Result<OpenCall, HostFault>
         ensures call { IfOk result (λ call. call ≡ record { stamp = stamp; arguments = arguments.now }) }
         ensures room { OnOk result (self.new.has_room ≡ true) }
         ensures log { self.new.log ≡ self.old.log }
         ensures kept { OnOk result (self.new.refusals ≡ self.old.refusals) }
         ensures counts { OnErr result (self.new.refusals ≡ counted self.old.refusals) }
+        ensures memory { OnErr result ((arguments.now ≢ []) ⊎ (self.old.has_room ≡ false)) }
         ensures fault { IfErr result (λ f. f ≡ fault.OutOfMemory) }
     {
         let Ok(arguments) = copied_values(self.alloc, arguments) else {

@@ -25,9 +25,11 @@ pub enum TellFault {
 impl<P, T: TurnFn, W: Watcher> Desk<P, T, W> {
     /// Tells the watchers of these globals their new values, each as one event; a change of a global that nobody watches is
     /// passed over. Each watcher concerned is begun, then each told, then each ended, in the order of the changes and once for
-    /// each of them, whatever comes of it (docs/HOST.md). `NoRoom` where memory for the events was refused, or a value can have
-    /// no further owner, which both come only where somebody watches, and then nothing was done; `Watcher` where a watcher was
-    /// refused memory, and then there is no event of its change, and the others were told.
+    /// each of them, whatever comes of it (docs/HOST.md). Which of two watchers is begun, told or ended before the other is as
+    /// this code has it, and in no clause: a watcher shows what was done to it, and not when. Only the stamps of the events are
+    /// in the order of the changes by a clause. `NoRoom` where memory for the events was refused, or a value can have no further
+    /// owner, which both come only where somebody watches, and then nothing was done; `Watcher` where a watcher was refused
+    /// memory, and then there is no event of its change, and the others were told.
     pub fn tell(&mut self, changes: &[Change]) -> Result<(), TellFault>
         ensures functions { self.new.functions ≡ self.old.functions }
         ensures no_room { result ≡ Err NoRoom → self.new ≡ self.old }

@@ -1,5 +1,5 @@
 -- A session of `continue` commands, to the byte: two lines, and then flow has stopped.
-use Rattle.std.specs.Prelude.{◌≡◌, ℕ, List, [], ◌∷◌, ◌++◌, refl, codes, true, Some, None}
+use Rattle.std.specs.Prelude.{◌≡◌, ℕ, List, [], ◌∷◌, ◌++◌, refl, codes, true, false, Some, None}
 use Rattle.std.proofs.Common.{inl, inr, lit≤, subst, arith}
 use Rattle.serde_json.proofs.OnLiterals.{serde_json_on_literals}
 use Rattle.ink_model.specs.Answer.{Tells, Refuses, Breaks, answer}
@@ -11,7 +11,7 @@ use Rattle.ink_model.specs.Entered.{entered_places, passed_places}
 use Rattle.ink_model.specs.Examples.{continue_line}
 use Rattle.ink_model.specs.Flows.{one_flow}
 use Rattle.ink_model.specs.Host.{no_objects, nothing_bound}
-use Rattle.ink_model.specs.Line.{EndsLine}
+use Rattle.ink_model.specs.Line.{EndsLine, is_call}
 use Rattle.ink_model.specs.Mark.{cut}
 use Rattle.ink_model.specs.Memory.{LooksFrom}
 use Rattle.ink_model.specs.Opening.{opened}
@@ -66,10 +66,23 @@ second_line = (Stopped after_b [] [], over_is two nothing_bound MAX_STEPS (begun
 a_row : Lines two nothing_bound (start two []) ([] ∷ [] ∷ []) (settled after_b)
 a_row = (after_a, first_line, (after_b, second_line, refl))
 
--- behind the first newline memory may be refused, and the command faults
+-- the step behind the first newline calls nothing
+says_more : is_call (step two nothing_bound after_a) ≡ false
+unfolding step start fresh_at entered next_place passed_places entered_places cut
+says_more = refl
+
+-- so memory may be refused there, and the command faults
 looked_at : Knows two nothing_bound MAX_STEPS (moment two nothing_bound (begun (start two [])) []) 2 (Looking (At after_a [] []) 1 (At after_a [] []))
     → LooksFrom two nothing_bound (begun (start two [])) [] after_a
-looked_at (p, opens, same, first, kept, at) = record { steps = 2; within = omega arith; got_there = at; step = p; opens = opens; first = first }
+looked_at (p, opens, same, first, kept, at) = record {
+  steps = 2;
+  within = omega arith;
+  got_there = at;
+  calls_nothing = says_more;
+  step = p;
+  opens = opens;
+  first = first;
+}
 
 two_steps : search two nothing_bound 2 (Seeking (At (begun (start two [])) [] [])) ≡ Looking (At after_a [] []) 1 (At after_a [] [])
 unfolding search step start fresh_at entered next_place passed_places entered_places cut

@@ -1,7 +1,8 @@
 -- What a line comes to, from the search that is made for it.
-use Rattle.std.proofs.Common.{◌≡◌, ap, refl, subst, inl, inr, List, [], Bool, true, false, Ok}
+use Rattle.std.proofs.Common.{◌≡◌, ap, refl, subst, inl, inr, ℕ, List, [], Bool, true, false, Ok}
 use Rattle.ink_model.specs.Line.{Line}
-use Rattle.ink_look.specs.LineEnds.{ComesToLine, LineFalls, LineShort, RunsLine, RunsToLine, SaysLine}
+use Rattle.ink_host.specs.Desk.{DeskView}
+use Rattle.ink_look.specs.LineEnds.{ComesToLine, LineFalls, LineShort, LineStopsAtRefusal, RunsLine, RunsToLine, SaysLine}
 use Rattle.ink_look.specs.Words.{said, said_asks}
 use Rattle.ink_look.specs.declared.lines.LineEnd.{LineEnd}
 use Rattle.ink_look.specs.declared.lines.LineEnd.TheVariants as line_ends
@@ -10,6 +11,7 @@ use Rattle.ink_model.specs.Host.{Bound}
 use Rattle.ink_model.specs.Run.{Broke, Kept, Made, Moment, At, Stopped, Faulted, answers_of}
 use Rattle.ink_model.specs.Tree.{StoryTree}
 use Rattle.ink_model.specs.declared.fault.Fault.{Fault}
+use Rattle.ink_step.specs.Refusals.{KeepsRefusals}
 
 module _ (s : StoryTree) (b : Bound) (made : List Made) (c start : Configuration) (is : start ≡ begun c) where
   abbrev pub Ran : Configuration → LineEnd → Type 0
@@ -27,3 +29,9 @@ module _ (s : StoryTree) (b : Bound) (made : List Made) (c start : Configuration
     | inl faults ↦ inl (Broke f h.before.shared.globals, (Faulted f h.before [] made, line_to (Faulted f h.before [] made) faults, refl), tt, (refl, h.kept))
     | inr short ↦ inr (ap line_ends.Fault short.0, record { reached = h.before; got_there = subst (λ d. LineShort s b d made h.before) is short.1; leaves = h.kept })
   ]
+
+-- whatever a line ends with
+pub line_kept : {P T W : Type 0} (refusals : T → ℕ) (old new : DeskView P T W) (end : LineEnd) → KeepsRefusals refusals old new → LineStopsAtRefusal refusals old new end
+line_kept refusals old new (line_ends.Line said) kept = kept
+line_kept refusals old new (line_ends.Stopped said) kept = kept
+line_kept refusals old new (line_ends.Fault f) kept = inl kept

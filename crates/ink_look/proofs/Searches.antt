@@ -5,7 +5,7 @@ use Rattle.ink_host.specs.Desk.{DeskView, Grew, bound_by}
 use Rattle.ink_host.specs.declared.objects.Called.{Called}
 use Rattle.ink_host.specs.declared.objects.Seen.{Seen}
 use Rattle.ink_host.proofs.Laws.{bound-same, grew-grew, grew-none}
-use Rattle.ink_model.specs.Line.{NoneBelow}
+use Rattle.ink_model.specs.Line.{NoneBelow, is_call}
 use Rattle.ink_line.specs.Look.{Knows, Over, Search, Seeking, found, look_on, newline_between, search, sought}
 use Rattle.ink_line.proofs.Found.{finds, knows, over_is}
 use Rattle.ink_look.proofs.Steps.{kept_found}
@@ -119,12 +119,13 @@ module _ (s : StoryTree) (b : Bound) (start : Configuration) where
       | inr by ↦ elim by [ inl takes ↦ absurd (true≢false (sym takes.2)) | inr pressing ↦ absurd (true≢false (sym pressing)) ]
     ]
 
-  pub look_falls : (n : ℕ) (made : List Made) (w : ℕ) (kept old : Configuration) → n < MAX_STEPS → ComesTo n (search_at (Some w) kept old) made → LineShort s b start made old
-  look_falls n made w kept old below h = by (subst (λ answers. Knows s b MAX_STEPS (moment s b start answers) n (search_at (Some w) kept old [] made)) (append-nil (answers_of made))
+  pub look_falls : (n : ℕ) (made : List Made) (w : ℕ) (kept old : Configuration) → n < MAX_STEPS → is_call (step s b old) ≡ false → ComesTo n (search_at (Some w) kept old) made
+      → LineShort s b start made old
+  look_falls n made w kept old below quiet h = by (subst (λ answers. Knows s b MAX_STEPS (moment s b start answers) n (search_at (Some w) kept old [] made)) (append-nil (answers_of made))
       (known n made (search_at (Some w) kept old) below h []))
     where
       by : Knows s b MAX_STEPS (moment s b start (answers_of made)) n (search_at (Some w) kept old [] made) → LineShort s b start made old
-      by (p, opens, same, first, is, there) = inr (inr (record { steps = n; within = below; got_there = there; step = p; opens = opens; first = first }))
+      by (p, opens, same, first, is, there) = inr (inr (record { steps = n; within = below; got_there = there; calls_nothing = quiet; step = p; opens = opens; first = first }))
 
 -- ---- a step where no newline waits
 
@@ -232,8 +233,8 @@ module _ {P T W : Type 0} (turn_log : T → List Called) (watch_log : W → List
         grown_by (Some w) ran h.0 [] so.0 h.1,
         record {
           before = old;
-          kept = so.1.1;
-          why = inr (so.1.0, subst (λ all. LineShort s bound_first start all old) (sym (append-nil ran.made)) (look_falls s bound_first start n ran.made w kept old below ran.comes));
+          kept = so.1.2;
+          why = inr (so.1.0, subst (λ all. LineShort s bound_first start all old) (sym (append-nil ran.made)) (look_falls s bound_first start n ran.made w kept old below so.1.1 ran.comes));
         },
       )
 

@@ -58,7 +58,7 @@ abbrev pub QuietEnds : StoryTree → Stepped → List Event → Configuration �
 QuietEnds s o es old new (Ok ends.Went) = (es ≡ []) × (is_call o ≡ false) × ((left : List (Option Given)) (made : List Made) → came s old o left made ≡ At new left made)
 QuietEnds s o es old new (Ok ends.Stopped) = (es ≡ []) × (is_call o ≡ false) × ((left : List (Option Given)) (made : List Made) → came s old o left made ≡ Stopped new left made)
 QuietEnds s o es old new (Ok ends.WantsCall) = es ≡ []
-QuietEnds s o es old new (Err f) = (es ≡ []) × (new.shared.globals ≡ old.shared.globals)
+QuietEnds s o es old new (Err f) = (es ≡ []) × (is_call o ≡ false) × (new.shared.globals ≡ old.shared.globals)
 
 module _ (s : StoryTree) (b : Bound) (n : ℕ) (pressed asking : Bool) (es : List Event) (old new : Configuration) where
   pub quiet_ends : (o : Stepped) (r : Result StepEnd Fault) → Steps true s b n pressed asking o es old.shared.globals old new r → QuietEnds s o es old new r
@@ -69,7 +69,7 @@ module _ (s : StoryTree) (b : Bound) (n : ℕ) (pressed asking : Bool) (es : Lis
   quiet_ends (Comes o) (Ok ends.Went) h = (h.0, refl, went (pressed || asking) old new o h.1)
   quiet_ends (Comes o) (Ok ends.Stopped) h = (h.0, refl, stopped (pressed || asking) old new o h.1)
   quiet_ends (Comes o) (Ok ends.WantsCall) h = absurd (never_wants (pressed || asking) o old.shared.globals new h.1)
-  quiet_ends (Comes o) (Err f) h = (h.0, kept_globals (pressed || asking) old new f o h.1)
+  quiet_ends (Comes o) (Err f) h = (h.0, refl, kept_globals (pressed || asking) old new f o h.1)
 
   -- the same by what it returned
   pub quiet_so : (o : Stepped) (r k : Result StepEnd Fault) → r ≡ k → Steps true s b n pressed asking o es old.shared.globals old new r → QuietEnds s o es old new k

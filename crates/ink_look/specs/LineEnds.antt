@@ -1,5 +1,6 @@
 -- How lines end, with the calls that they made.
-use Rattle.std.specs.Prelude.{◌≡◌, ◌⊎◌, ⊤, List, [], Bool, true, false, Result, Ok, Err}
+use Rattle.std.specs.Prelude.{◌≡◌, ◌⊎◌, ⊤, ℕ, List, [], Bool, true, false, Result, Ok, Err}
+use Rattle.ink_host.specs.Desk.{DeskView}
 use Rattle.ink_model.specs.Line.{EndsLine, IsLineOf, goes_on}
 use Rattle.ink_model.specs.Memory.{LineFallsShort, LooksFrom, NoneSoFar}
 use Rattle.ink_look.specs.Ends.{EndsWith}
@@ -15,6 +16,7 @@ use Rattle.ink_model.specs.Tree.{StoryTree}
 use Rattle.ink_model.specs.declared.fault.Fault.{Fault}
 use Rattle.ink_model.specs.declared.fault.Fault.TheVariants.{OutOfMemory}
 use Rattle.ink_model.specs.declared.limits.TheConstants.{MAX_STEPS}
+use Rattle.ink_step.specs.Refusals.{KeepsRefusals, StopsAtRefusal}
 
 -- what was said, or the fault
 abbrev pub handed : LineEnd → Result Said Fault
@@ -62,3 +64,11 @@ abbrev pub RunsToLine : StoryTree → Bound → Configuration → List Made → 
 RunsToLine s b start made new (Ok true) = ComesToLine s b start made (At new [] made)
 RunsToLine s b start made new (Ok false) = ComesToLine s b start made (Stopped new [] made)
 RunsToLine s b start made new (Err f) = LineFalls s b start made new.shared.globals f
+
+-- ---- turn functions that were refused memory
+
+-- A line ends where a turn function is refused memory: it is not called again, and neither is another.
+abbrev pub LineStopsAtRefusal : {P T W : Type 0} → (T → ℕ) → DeskView P T W → DeskView P T W → LineEnd → Type 0
+LineStopsAtRefusal refusals old new (line_end.Line said) = KeepsRefusals refusals old new
+LineStopsAtRefusal refusals old new (line_end.Stopped said) = KeepsRefusals refusals old new
+LineStopsAtRefusal refusals old new (line_end.Fault f) = StopsAtRefusal refusals old new (f ≡ OutOfMemory)

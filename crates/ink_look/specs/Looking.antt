@@ -1,6 +1,6 @@
 -- Steps of a loop that looks for a line, by the definition of the search.
 use Rattle.std.specs.Prelude.{◌≡◌, ⊤, ℕ, List, [], Bool, true, false, if◌then◌else◌, Option, Some, None, Result, Ok, Err}
-use Rattle.ink_model.specs.Line.{at_least}
+use Rattle.ink_model.specs.Line.{at_least, is_call}
 use Rattle.ink_line.specs.Look.{Looking, Over, Search, Seeking, look_on, newline_between}
 use Rattle.ink_look.specs.declared.looking.Looked.{Looked}
 use Rattle.ink_look.specs.declared.looking.Looked.TheVariants as looked
@@ -90,10 +90,10 @@ FindsAs newline kept now (Ok looked.Stopped) = ⊤
 FindsAs newline kept now (Ok l) = (l ≡ found_of newline) × MarksHere l kept now
 FindsAs newline kept now (Err f) = ⊤
 
--- a step past a newline, which may be refused memory
+-- A step past a newline, which may be refused memory, unless it would call a turn function.
 abbrev pub LooksAs : StoryTree → Bound → ℕ → Configuration → Configuration → Configuration → Configuration → Result Looked Fault → Type 0
 LooksAs s b newline kept old kept_then new (Ok l) = (left : List (Option Given)) (made : List Made) → look_on s b (Looking (At kept left made) newline (At old left made)) ≡ search_after l kept_then new left made
-LooksAs s b newline kept old kept_then new (Err f) = (f ≡ OutOfMemory) × (new.shared.globals ≡ old.shared.globals)
+LooksAs s b newline kept old kept_then new (Err f) = (f ≡ OutOfMemory) × (is_call (step s b old) ≡ false) × (new.shared.globals ≡ old.shared.globals)
 
 -- A step, with its events, which count on from a stamp: where no newline waits, one of a run, by what it writes; else one that calls
 -- nothing.

@@ -4,7 +4,7 @@ ghost use Rattle.std.specs.Prelude.{◌≡◌, List};
 ghost use Rattle.ink_check.specs.Words.{story_tree};
 ghost use Rattle.ink_host.specs.Desk.{Grew, bound_by};
 ghost use Rattle.ink_host.specs.Telling.{log_of};
-ghost use Rattle.ink_look.specs.LineEnds.{RunsLine, SaysLine};
+ghost use Rattle.ink_look.specs.LineEnds.{LineStopsAtRefusal, RunsLine, SaysLine};
 ghost use Rattle.ink_look.specs.Words.{said, said_asks};
 ghost use Rattle.ink_model.specs.Events.{Made, calls};
 ghost use Rattle.ink_model.specs.Tree.{StoryTree};
@@ -30,9 +30,9 @@ pub enum LineEnd {
 /// what it finds there nothing is kept. Turn functions are called on the desk, once for each call of the line, and never past a
 /// newline that is shown; no watcher is told. The fault is that of the step that faulted with no newline open, `OutOfSteps` after
 /// 1,000,000 steps without one, or `OutOfMemory` where memory was refused to a step that asks for it, to what came of a call that it
-/// made, to a look past a newline, or at the end to a text of more than blanks or to tags. After a fault the globals are as they
-/// were before the step that faulted or was refused memory, which may be one past a newline, and the machine is of use for them
-/// alone (docs/RUNNING.md, "Lines", "Out of memory").
+/// made, to a look past a newline at a step that calls no turn function, or at the end to a text of more than blanks or to tags.
+/// After a fault the globals are as they were before the step that faulted or was refused memory, which may be one past a newline,
+/// and the machine is of use for them alone (docs/RUNNING.md, "Lines", "Out of memory").
 pub fn line<P: PureFn, F: TurnFn, O: Watcher>(
     machine: &mut Machine,
     story: &Story,
@@ -40,6 +40,7 @@ pub fn line<P: PureFn, F: TurnFn, O: Watcher>(
 ) -> LineEnd
     ensures line { let s = story_tree story.now in let b = bound_by P.meaning desk.old.functions in
         (made : List Made) × Grew F.log (log_of O.state) desk.old (calls desk.old.next made) desk.new × RunsLine said said_asks s b (config_of s machine.old) made (config_of s machine.new) result }
+    ensures refusals { LineStopsAtRefusal F.refusals desk.old desk.new result }
     ensures watchers { desk.new.watchers ≡ desk.old.watchers }
     ensures start { start_of machine.new ≡ globals_of machine.old }
     ensures aside { aside_in machine.new ≡ aside_in machine.old }

@@ -16,6 +16,7 @@ ghost use Rattle.ink_model.specs.Tree.{StoryTree};
 ghost use Rattle.ink_model.specs.declared.host.Event.{Event as Happening};
 ghost use Rattle.ink_model.specs.declared.host.Given.{Given as Gift};
 ghost use Rattle.ink_step.specs.Marks.{config_back, stood_of, unmarked};
+ghost use Rattle.ink_step.specs.Refusals.{RunStopsAtRefusal, StepStopsAtRefusal};
 ghost use Rattle.ink_step.specs.Words.{aside_in, config_of, start_of};
 
 use ink_check::Story;
@@ -53,6 +54,7 @@ pub(crate) fn find_line<P: PureFn, F: TurnFn, O: Watcher>(
     requires unmarked { stood_of machine.old ≡ unmarked }
     ensures line { let s = story_tree story.now in let b = bound_by P.meaning desk.old.functions in
         (made : List Made) × Grew F.log (log_of O.state) desk.old (calls desk.old.next made) desk.new × RunsToLine s b (config_of s machine.old) made (config_of s machine.new) result }
+    ensures refusals { RunStopsAtRefusal F.refusals desk.old desk.new result }
     ensures watchers { desk.new.watchers ≡ desk.old.watchers }
     ensures start { start_of machine.new ≡ start_of machine.old }
     ensures aside { aside_in machine.new ≡ aside_in machine.old }
@@ -85,6 +87,7 @@ fn step_on<P: PureFn, F: TurnFn, O: Watcher>(
     ensures steps { let s = story_tree story.now in let b = bound_by P.meaning desk.old.functions in
         (es : List Happening) × Grew F.log (log_of O.state) desk.old es desk.new
         × StepsOn s b desk.old.next waiting (config_back s machine.old) (config_of s machine.old) es (config_back s machine.new) (config_of s machine.new) result }
+    ensures refusals { StepStopsAtRefusal F.refusals desk.old desk.new result }
     ensures watchers { desk.new.watchers ≡ desk.old.watchers }
     ensures start { start_of machine.new ≡ start_of machine.old }
     ensures aside { aside_in machine.new ≡ aside_in machine.old }
@@ -106,6 +109,7 @@ fn seek<P: PureFn, F: TurnFn, O: Watcher>(
     ensures steps { let s = story_tree story.now in let b = bound_by P.meaning desk.old.functions in
         (es : List Happening) × Grew F.log (log_of O.state) desk.old es desk.new
         × StepsOn s b desk.old.next None (config_back s machine.old) (config_of s machine.old) es (config_back s machine.new) (config_of s machine.new) result }
+    ensures refusals { StepStopsAtRefusal F.refusals desk.old desk.new result }
     ensures watchers { desk.new.watchers ≡ desk.old.watchers }
     ensures start { start_of machine.new ≡ start_of machine.old }
     ensures aside { aside_in machine.new ≡ aside_in machine.old }
@@ -118,7 +122,8 @@ fn seek<P: PureFn, F: TurnFn, O: Watcher>(
     }
 }
 
-// A step past a newline, which calls no turn function. The one error is `OutOfMemory`; any other fault is left to the next line.
+// A step past a newline, which calls no turn function. The one error is `OutOfMemory`, never where the step would call one; any
+// other fault is left to the next line.
 fn look<P: PureFn, F: TurnFn, O: Watcher>(
     machine: &mut Machine,
     story: &Story,
@@ -129,6 +134,7 @@ fn look<P: PureFn, F: TurnFn, O: Watcher>(
     ensures steps { let s = story_tree story.now in let b = bound_by P.meaning desk.old.functions in
         (es : List Happening) × Grew F.log (log_of O.state) desk.old es desk.new
         × StepsOn s b desk.old.next (Some newline) (config_back s machine.old) (config_of s machine.old) es (config_back s machine.new) (config_of s machine.new) result }
+    ensures refusals { StepStopsAtRefusal F.refusals desk.old desk.new result }
     ensures watchers { desk.new.watchers ≡ desk.old.watchers }
     ensures start { start_of machine.new ≡ start_of machine.old }
     ensures aside { aside_in machine.new ≡ aside_in machine.old }

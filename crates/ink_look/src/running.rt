@@ -8,6 +8,7 @@ ghost use Rattle.ink_look.specs.Ends.{RunsThrough};
 ghost use Rattle.ink_look.specs.Words.{said, said_asks};
 ghost use Rattle.ink_model.specs.Events.{Made, calls};
 ghost use Rattle.ink_step.specs.Marks.{stood_of, unmarked};
+ghost use Rattle.ink_step.specs.Refusals.{RunStopsAtRefusal};
 ghost use Rattle.ink_step.specs.Words.{aside_in, config_of, globals_of, start_of};
 
 use crate::said::{Said, said_by};
@@ -28,6 +29,7 @@ pub fn through<P: PureFn, F: TurnFn, O: Watcher>(
 ) -> Result<Said, Fault>
     ensures runs { let s = story_tree story.now in let b = bound_by P.meaning desk.old.functions in
         (made : List Made) × Grew F.log (log_of O.state) desk.old (calls desk.old.next made) desk.new × RunsThrough said said_asks s b (config_of s machine.old) made (config_of s machine.new) result }
+    ensures refusals { RunStopsAtRefusal F.refusals desk.old desk.new result }
     ensures watchers { desk.new.watchers ≡ desk.old.watchers }
     ensures start { start_of machine.new ≡ globals_of machine.old }
     ensures aside { aside_in machine.new ≡ aside_in machine.old }

@@ -10,3 +10,4 @@ mod Settling
 mod Anew
 mod Flows
 mod Jumps
+mod Refusals

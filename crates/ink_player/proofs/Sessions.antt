@@ -21,7 +21,7 @@ use Rattle.ink_protocol.specs.Input.{Takes}
 use Rattle.ink_protocol.specs.Lines.{TakesLine, GivesLine}
 use Rattle.ink_player.specs.Serving.{ServesFront, RunEnds, Runs, Answered, Answers, ServesLine}
 use Rattle.ink_protocol.specs.Spelled.{IsLine, spelled, Splits, IsFirst, IsLongInput, HasRoom}
-use Rattle.ink_model.specs.Unread.{LineFails, PathFails}
+use Rattle.ink_model.specs.Unread.{PathFails}
 use Rattle.ink_model.specs.declared.limits.TheConstants.{MAX_LINE}
 use Rattle.ink_protocol.specs.declared.fault.RunFault.{RunFault}
 use Rattle.ink_protocol.specs.declared.fault.RunFault.TheVariants as fault
@@ -268,7 +268,7 @@ module _ (s : StoryTree) (host : Bindings) (made : List Event) where
 -- memory was refused for reading the path
 path_unread : (s : StoryTree) (host : Bindings) (line : List ℕ) (k : Option Command) (old : State) (reply : Reply) (new : State) → k ≡ command_of line → PathFails k old reply new → Serves s host [] line old reply new
 unfolding Serves
-path_unread s host line k old reply new e p = inr (refl, subst (λ x. LineFails x old reply new) e (inr p))
+path_unread s host line k old reply new e p = inr (refl, inr (subst (λ x. PathFails x old reply new) e p))
 
 pub serves_command : (s : StoryTree) (host : Bindings) (line : List ℕ) (k : Option Command) (old : State) (reply : Reply) (new : State) → k ≡ command_of line
     → (es : List Event) → Does s host es k old reply new ⊎ ((es ≡ []) × PathFails k old reply new) → Serves s host es line old reply new
@@ -277,7 +277,7 @@ serves_command s host line k old reply new e es (inr p) =
     subst (λ x. Serves s host x line old reply new) (sym p.0) (path_unread s host line k old reply new e p.1)
 
 -- memory was refused for reading the line
-pub serves_unread : (s : StoryTree) (host : Bindings) (line : List ℕ) (st : State) → line_asks (command_of line) ≡ true → Serves s host [] line st (Refuses refusal.OutOfMemory) st
+pub serves_unread : (s : StoryTree) (host : Bindings) (line : List ℕ) (st : State) → line_asks line ≡ true → Serves s host [] line st (Refuses refusal.OutOfMemory) st
 unfolding Serves
 serves_unread s host line st h = inr (refl, inl (h, (refl, refl)))
 

@@ -23,6 +23,7 @@ use Rattle.ink_model.specs.declared.host.Given.{Given}
 use Rattle.ink_model.specs.declared.value.Value.{Value}
 use Rattle.ink_sound.specs.Kept.{ConditionFits, StoryFits}
 use Rattle.ink_step.specs.Marks.{stood_of, unmarked}
+use Rattle.ink_step.specs.Refusals.{KeepsRefusals, StopsAtRefusal}
 use Rattle.ink_step.specs.Words.{aside_in, aside_of, config_of}
 use Rattle.ink_step.specs.declared.machine.Machine.{Machine}
 
@@ -118,6 +119,12 @@ module _ {P F O : Type 0} where
     pub events : es ≡ calls old.next made ++ saw
     pub tells : let n = later old.next (calls old.next made) in TellsOnce state n cs (all_told reply) saw old.watchers new.watchers
         ⊎ ((reply ≡ Breaks OutOfMemory es) × TellsOnce state n cs None saw old.watchers new.watchers)
+
+  -- A command that runs ends where a turn function is refused memory, and breaks the player: it is not called again, and neither is
+  -- another.
+  abbrev pub CommandStopsAtRefusal : (F → ℕ) → DeskView P F O → DeskView P F O → Reply → Type 0
+  CommandStopsAtRefusal refusals old new (Breaks f events) = StopsAtRefusal refusals old new (f ≡ OutOfMemory)
+  CommandStopsAtRefusal refusals old new reply = KeepsRefusals refusals old new
 
   -- The watchers were told these changes, those of them that are watched: all of them, or all but those for which a watcher found
   -- no memory. Or memory was refused for telling, with something to tell, and nothing has changed.

@@ -12,6 +12,7 @@ ghost use Rattle.ink_model.specs.Turns.{open_choices};
 ghost use Rattle.ink_player.specs.Extents.{RunsBy};
 ghost use Rattle.ink_player.specs.Passages.{passage_of};
 ghost use Rattle.ink_step.specs.Marks.{stood_of, unmarked};
+ghost use Rattle.ink_step.specs.Refusals.{RunStopsAtRefusal};
 ghost use Rattle.ink_step.specs.Words.{aside_in, config_of, globals_of, start_of};
 
 use ink_check::Story;
@@ -40,6 +41,7 @@ pub(crate) fn run_to<P: PureFn, F: TurnFn, O: Watcher>(
 ) -> Result<Passage, Fault>
     ensures runs { let s = story_tree story.now in let b = bound_by P.meaning desk.old.functions in
         (made : List Made) × Grew F.log (log_of O.state) desk.old (calls desk.old.next made) desk.new × RunsBy passage passage_asks extent s b (config_of s machine.old) made (config_of s machine.new) result }
+    ensures refusals { RunStopsAtRefusal F.refusals desk.old desk.new result }
     ensures watchers { desk.new.watchers ≡ desk.old.watchers }
     ensures start { start_of machine.new ≡ globals_of machine.old }
     ensures aside { aside_in machine.new ≡ aside_in machine.old }
@@ -59,6 +61,7 @@ fn say<P: PureFn, F: TurnFn, O: Watcher>(
 ) -> Result<Said, Fault>
     ensures runs { let s = story_tree story.now in let b = bound_by P.meaning desk.old.functions in
         (made : List Made) × Grew F.log (log_of O.state) desk.old (calls desk.old.next made) desk.new × RunsBy said said_asks extent s b (config_of s machine.old) made (config_of s machine.new) result }
+    ensures refusals { RunStopsAtRefusal F.refusals desk.old desk.new result }
     ensures watchers { desk.new.watchers ≡ desk.old.watchers }
     ensures start { start_of machine.new ≡ globals_of machine.old }
     ensures aside { aside_in machine.new ≡ aside_in machine.old }

@@ -23,7 +23,7 @@ ghost use Rattle.ink_sound.specs.Kept.{ConditionFits, StateFits};
 ghost use Rattle.ink_protocol.specs.Plain.{IsPlain};
 ghost use Rattle.ink_protocol.specs.Replies.{IsTextOf, reply_of_json, reply_of_text};
 ghost use Rattle.ink_player.specs.Extents.{GoesOn};
-ghost use Rattle.ink_player.specs.Words.{DealtByRun, DealtOnce, anew, bindings, desk_of, fault_told, state_of, story_of, told_from};
+ghost use Rattle.ink_player.specs.Words.{CommandStopsAtRefusal, DealtByRun, DealtOnce, anew, bindings, desk_of, fault_told, state_of, story_of, told_from};
 ghost use Rattle.ink_step.specs.Marks.{stood_of, unmarked};
 ghost use Rattle.ink_step.specs.Words.{config_of, game_of};
 ghost use Rattle.serde_json.specs.Data.{Data};
@@ -150,6 +150,7 @@ impl<P: PureFn, F: TurnFn, O: Watcher> Player<P, F, O> {
     pub fn continue_line(&mut self) -> Result<Passage, Halt>
         ensures does { (es : List Happening) × Continue (story_of self.old) (bindings P.meaning (desk_of self.old)) es (state_of self.old) (reply_of result) (state_of self.new)
             × DealtByRun F.log O.state (told_from (desk_of self.old) (state_of self.old) (globals_of (state_of self.new).condition)) (desk_of self.old) es (reply_of result) (desk_of self.new) }
+        ensures refusals { CommandStopsAtRefusal F.refusals (desk_of self.old) (desk_of self.new) (reply_of result) }
         ensures rest { Resting (rests O.state) (desk_of self.old).watchers → Resting (rests O.state) (desk_of self.new).watchers }
         ensures story { story_of self.new ≡ story_of self.old }
     {
@@ -164,6 +165,7 @@ impl<P: PureFn, F: TurnFn, O: Watcher> Player<P, F, O> {
     pub fn through(&mut self) -> Result<Passage, Halt>
         ensures does { (es : List Happening) × Through (story_of self.old) (bindings P.meaning (desk_of self.old)) es (state_of self.old) (reply_of result) (state_of self.new)
             × DealtByRun F.log O.state (told_from (desk_of self.old) (state_of self.old) (globals_of (state_of self.new).condition)) (desk_of self.old) es (reply_of result) (desk_of self.new) }
+        ensures refusals { CommandStopsAtRefusal F.refusals (desk_of self.old) (desk_of self.new) (reply_of result) }
         ensures rest { Resting (rests O.state) (desk_of self.old).watchers → Resting (rests O.state) (desk_of self.new).watchers }
         ensures story { story_of self.new ≡ story_of self.old }
     {
@@ -174,6 +176,7 @@ impl<P: PureFn, F: TurnFn, O: Watcher> Player<P, F, O> {
     fn go_on(&mut self, extent: Extent) -> Result<Passage, Halt>
         ensures does { (es : List Happening) × GoesOn extent (story_of self.old) (bindings P.meaning (desk_of self.old)) es (state_of self.old) (reply_of result) (state_of self.new)
             × DealtByRun F.log O.state (told_from (desk_of self.old) (state_of self.old) (globals_of (state_of self.new).condition)) (desk_of self.old) es (reply_of result) (desk_of self.new) }
+        ensures refusals { CommandStopsAtRefusal F.refusals (desk_of self.old) (desk_of self.new) (reply_of result) }
         ensures rest { Resting (rests O.state) (desk_of self.old).watchers → Resting (rests O.state) (desk_of self.new).watchers }
         ensures story { story_of self.new ≡ story_of self.old }
     {
@@ -206,6 +209,7 @@ impl<P: PureFn, F: TurnFn, O: Watcher> Player<P, F, O> {
     pub fn set(&mut self, name: &str, value: Given) -> Result<Seq<Event>, Halt>
         ensures does { (es : List Happening) × Set (bindings P.meaning (desk_of self.old)) es name.now (Some value) (state_of self.old) (reply_of_events result) (state_of self.new)
             × DealtOnce F.log O.state (told_from (desk_of self.old) (state_of self.old) ((name.now, host.value_given value) ∷ [])) (desk_of self.old) es (reply_of_events result) (desk_of self.new) }
+        ensures functions { (desk_of self.new).functions ≡ (desk_of self.old).functions }
         ensures rest { Resting (rests O.state) (desk_of self.old).watchers → Resting (rests O.state) (desk_of self.new).watchers }
         ensures story { story_of self.new ≡ story_of self.old }
     {
@@ -229,6 +233,7 @@ impl<P: PureFn, F: TurnFn, O: Watcher> Player<P, F, O> {
         ensures does { let c = config_of (story_of self.old) self.old.machine in let h = bindings P.meaning (desk_of self.old) in
             (es : List Happening) × TellsOrKeeps (told h.watches c.shared.globals ((name.now, value) ∷ [])) (Ready (with_globals (store name.now value c.shared.globals) c)) es (state_of self.old) (reply_of_events result) (state_of self.new)
             × DealtOnce F.log O.state (told h.watches c.shared.globals ((name.now, value) ∷ [])) (desk_of self.old) es (reply_of_events result) (desk_of self.new) }
+        ensures functions { (desk_of self.new).functions ≡ (desk_of self.old).functions }
         ensures rest { Resting (rests O.state) (desk_of self.old).watchers → Resting (rests O.state) (desk_of self.new).watchers }
         ensures story { story_of self.new ≡ story_of self.old }
     {
@@ -354,6 +359,7 @@ impl<P: PureFn, F: TurnFn, O: Watcher> Player<P, F, O> {
     pub fn load(&mut self, json: &Json) -> Result<Seq<Event>, Halt>
         ensures does { (es : List Happening) × Load (story_of self.old) (bindings P.meaning (desk_of self.old)) es (Some (view json.now)) (state_of self.old) (reply_of_events result) (state_of self.new)
             × DealtOnce F.log O.state (told_from (desk_of self.old) (state_of self.old) (globals_of (state_of self.new).condition)) (desk_of self.old) es (reply_of_events result) (desk_of self.new) }
+        ensures functions { (desk_of self.new).functions ≡ (desk_of self.old).functions }
         ensures rest { Resting (rests O.state) (desk_of self.old).watchers → Resting (rests O.state) (desk_of self.new).watchers }
         ensures story { story_of self.new ≡ story_of self.old }
         ensures stands { IfOk result (λ events. ReadsAsState (story_of self.new) (view json.now) (state_of self.new)) }
@@ -373,6 +379,7 @@ impl<P: PureFn, F: TurnFn, O: Watcher> Player<P, F, O> {
     pub fn restart(&mut self) -> Result<Seq<Event>, Halt>
         ensures does { (es : List Happening) × Restart (story_of self.old) (bindings P.meaning (desk_of self.old)) es (state_of self.old) (reply_of_events result) (state_of self.new)
             × DealtOnce F.log O.state (told_from (desk_of self.old) (state_of self.old) (globals_of (state_of self.new).condition)) (desk_of self.old) es (reply_of_events result) (desk_of self.new) }
+        ensures functions { (desk_of self.new).functions ≡ (desk_of self.old).functions }
         ensures rest { Resting (rests O.state) (desk_of self.old).watchers → Resting (rests O.state) (desk_of self.new).watchers }
         ensures story { story_of self.new ≡ story_of self.old }
     {
@@ -395,6 +402,7 @@ impl<P: PureFn, F: TurnFn, O: Watcher> Player<P, F, O> {
         ensures does { let s = story_of self.old in let was = config_of s self.old.machine in let c = config_of s machine in let h = bindings P.meaning (desk_of self.old) in
             (es : List Happening) × BeginsAnew (told h.watches was.shared.globals c.shared.globals) (game_of s machine) es (state_of self.old) (reply_of_events result) (state_of self.new)
             × DealtOnce F.log O.state (told_from (desk_of self.old) (state_of self.old) (globals_of (state_of self.new).condition)) (desk_of self.old) es (reply_of_events result) (desk_of self.new) }
+        ensures functions { (desk_of self.new).functions ≡ (desk_of self.old).functions }
         ensures rest { Resting (rests O.state) (desk_of self.old).watchers → Resting (rests O.state) (desk_of self.new).watchers }
         ensures story { story_of self.new ≡ story_of self.old }
     {

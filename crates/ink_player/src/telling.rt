@@ -21,6 +21,7 @@ pub(crate) fn tell<P, F: TurnFn, O: Watcher>(
     changes: &[Change],
 ) -> Result<bool, AllocError>
     ensures tells { TellsWatchers F.log O.state desk.old changes.now (filter (λ c. watches desk.old.watchers c.name) changes.now) result desk.new }
+    ensures functions { desk.new.functions ≡ desk.old.functions }
     ensures rest { Resting (rests O.state) desk.old.watchers → Resting (rests O.state) desk.new.watchers }
 {
     match desk.tell(changes) {
@@ -39,6 +40,7 @@ pub(crate) fn tell_one<P, F: TurnFn, O: Watcher>(
     value: &Value,
 ) -> Result<bool, AllocError>
     ensures tells { let cs = told (watches desk.old.watchers) (globals_of machine.now) ((name.now, value.now) ∷ []) in TellsWatchers F.log O.state desk.old cs cs result desk.new }
+    ensures functions { desk.new.functions ≡ desk.old.functions }
     ensures rest { Resting (rests O.state) desk.old.watchers → Resting (rests O.state) desk.new.watchers }
 {
     if !is_told(desk, machine, name, value) {
@@ -57,6 +59,7 @@ pub(crate) fn tell_between<P: PureFn, F: TurnFn, O: Watcher>(
     new: &Machine,
 ) -> Result<bool, AllocError>
     ensures tells { let cs = told (watches desk.old.watchers) (globals_of old.now) (globals_of new.now) in TellsWatchers F.log O.state desk.old cs cs result desk.new }
+    ensures functions { desk.new.functions ≡ desk.old.functions }
     ensures rest { Resting (rests O.state) desk.old.watchers → Resting (rests O.state) desk.new.watchers }
 {
     let changes = told_between(alloc, old.globals(), new.globals(), desk)?;
@@ -70,6 +73,7 @@ pub(crate) fn tell_changed<P: PureFn, F: TurnFn, O: Watcher>(
     machine: &Machine,
 ) -> Result<bool, AllocError>
     ensures tells { let cs = told (watches desk.old.watchers) (start_of machine.now) (globals_of machine.now) in TellsWatchers F.log O.state desk.old cs cs result desk.new }
+    ensures functions { desk.new.functions ≡ desk.old.functions }
     ensures rest { Resting (rests O.state) desk.old.watchers → Resting (rests O.state) desk.new.watchers }
 {
     let changes = machine.told(desk)?;

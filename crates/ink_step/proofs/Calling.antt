@@ -1,8 +1,10 @@
 -- Calls and returns: a frame is pushed or popped, and flow goes on from there.
-use Rattle.std.proofs.Common.{◌≡◌, ◌∙◌, sym, subst, refl, ◌∷◌, Bool, true, false, nat_lt, if◌then◌else◌, Option, Result, Ok, Err}
-use Rattle.ink_model.specs.Flow.{Written, Breaks, called, depth_of, enter_for, leave_for, number_for, or_breaks, reach, reach_or_on, returned}
+use Rattle.std.proofs.Common.{◌≡◌, ◌∙◌, is_ok, sym, subst, refl, ◌∷◌, Bool, true, false, nat_lt, if◌then◌else◌, Option, Result, Ok, Err}
+use Rattle.ink_model.specs.Flow.{Written, Breaks, called, depth_of, enter_for, leave_for, number_for, on_page, or_breaks, reach, reach_or_on, returned}
 use Rattle.ink_model.specs.Frames.{ThreadOf, ThreadsOf}
 use Rattle.ink_model.specs.MoveMemory.{popped_asks, returned_asks, went_asks}
+use Rattle.ink_model.specs.Output.{ends_function}
+use Rattle.ink_model.specs.Page.{Page}
 use Rattle.ink_model.specs.Threads.{frame_count, new_frame, popped, pushed, top_result}
 use Rattle.ink_model.specs.declared.fault.Fault.{Fault}
 use Rattle.ink_model.specs.declared.fault.Fault.TheVariants.{TooDeep}
@@ -59,14 +61,18 @@ module _ {P : Type 0} (after : P → Option P) (k : FrameKind) (to : Option P) (
       by (Ok t) (Err f) = refl
       by (Err f) l = refl
 
-  leaving_asks : (h : FrameKind) (p : Result (ThreadOf P) Fault) → left_asks h p ≡ true → popped_asks after h p to ts w ≡ true
-  leaving_asks Function (Ok t) asking = refl
+  leaving_asks : (h : FrameKind) (p : Result (ThreadOf P) Fault) → left_asks h p ts.thread.frame w ≡ true → popped_asks after h p to ts w ≡ true
+  leaving_asks Function (Ok t) asking = asking
   leaving_asks h p asking = absurd (cc)
 
   going_asks : (few : Bool) (u : Unit {0}) (h : FrameKind) (p : Result (ThreadOf P) Fault)
       → PassesAs few (or_breaks p Err (λ t. or_breaks (leave_for h ts.thread.frame.enter w) Err (λ x. Ok (record ts { thread = t }, x)))) us v (Ok u)
       → went_asks after to us v ≡ true → popped_asks after h p to ts w ≡ true
-  going_asks few u Function (Ok t) leaving asking = refl
+  going_asks few u Function (Ok t) leaving asking = by (ends_function ts.thread.frame.enter w.page) leaving
+    where
+      by : (page : Result Page Fault) → PassesAs few (or_breaks (on_page page w) Err (λ x. Ok (record ts { thread = t }, x))) us v (Ok u) → is_ok page ≡ true
+      by (Ok page) h = refl
+      by (Err g) h = absurd h
   going_asks few u h (Ok t) leaving asking = rw (leaving.0, leaving.1) at asking
   going_asks few u h (Err f) leaving asking = absurd leaving
 
@@ -76,7 +82,7 @@ module _ {P : Type 0} (after : P → Option P) (k : FrameKind) (to : Option P) (
       (sym (returned_then ∙ way_on (λ r. reach_or_on after to r.0 r.1) few (left k ts w) us v u leaving))
       (more_asks (went_asks after to us v) (returned_asks after k to ts w) (going_asks few u k (popped k (depth_of w) ts.thread) leaving) (reach_or_on after to us v) new x r h)
 
-  pub return_breaks : (f : Fault) → PassesAs (left_asks k (popped k (depth_of w) ts.thread)) (left k ts w) us v (Err f)
+  pub return_breaks : (f : Fault) → PassesAs (left_asks k (popped k (depth_of w) ts.thread) ts.thread.frame w) (left k ts w) us v (Err f)
       → ReachesAs (returned_asks after k to ts w) (returned after k to ts w) us v (Err f)
   return_breaks f leaving = subst (λ m. ReachesAs (returned_asks after k to ts w) m us v (Err f)) (sym returned_then)
       (way_off (λ r. reach_or_on after to r.0 r.1) _ (returned_asks after k to ts w) (leaving_asks k (popped k (depth_of w) ts.thread)) (left k ts w) us us v v f leaving)

@@ -34,7 +34,7 @@ use Rattle.ink_step.specs.Performs.{Performs}
 use Rattle.ink_stack.specs.declared.frame.CallKind.TheVariants as call
 use Rattle.ink_step.specs.declared.transfer.Transfer.{Transfer}
 use Rattle.ink_step.specs.declared.transfer.Transfer.TheVariants as transfer
-use Rattle.ink_step.proofs.Effects.{performs_more, short}
+use Rattle.ink_step.proofs.Effects.{performs_where, short}
 use Rattle.ink_tree.specs.Nodes.{node_place, place_of}
 use Rattle.ink_tree.specs.declared.spot.NodeId.{NodeId}
 use Rattle.ink_tree.specs.declared.spot.Spot.{Spot}
@@ -201,7 +201,7 @@ pub pure_gave : (s : StoryTree) (k : ℕ) (f new : Fields) (vs : List Value) (le
 pure_gave s k f new vs lends so given t gave h =
     let l = lent (arguments_on k f.stack) vs lends in
     let goes : Result (List Value × Fields) Fault → Effect = λ x. or_fault x (λ r. answering (so r.0) r.1) in
-    let on = performs_more s _ _ new t (h l.0 l.1) in
+    let on = performs_where s _ true (λ _. refl) _ new t (h l.0 l.1) in
     subst (λ a. Performs s a (goes (arguments_taken k f)) new t) (sym (taken_asks k f vs l.0 l.1 l.2))
     (subst (λ e. Performs s true e new t) (sym (ap goes (taken k f vs l.0 l.1 l.2) ∙ ap (λ o. answering o (record f { stack = l.0 })) gave)) on)
 

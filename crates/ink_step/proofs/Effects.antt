@@ -29,14 +29,13 @@ pub operated : {S : Type 0} (asks : Bool) (rule : Result S Fault) (with : S → 
 operated asks rule with old new (Ok u) h a s = subst (λ r. Performs s asks (or_fault r (λ v. Moves (with v))) (with new) (Ok transfer.Next)) (sym h.0) refl
 operated asks rule with old new (Err f) h a s = refused s asks (with new) rule (λ v. Moves (with v)) f h.0 (λ is. a (ap Err is))
 
--- where memory may be refused it may be so where less is asked for
-pub performs_more : (s : StoryTree) (asks : Bool) (e : Effect) (new : Fields) (r : Result Transfer Fault) → Performs s asks e new r → Performs s true e new r
-performs_more s asks (Fails g) new (Err f) h = elim h [ inl is ↦ inl is | inr refused ↦ inr (refused.0, refl) ]
-performs_more s asks (Stores t f) new (Ok (transfer.Store a)) h = (h.0, refl)
-performs_more s asks e new (Err f) h = (h.0, refl)
-performs_more s asks e new r h = h
+-- where more asks for memory
+pub performs_where : (s : StoryTree) (few many : Bool) → (few ≡ true → many ≡ true) → (e : Effect) (new : Fields) (r : Result Transfer Fault) → Performs s few e new r → Performs s many e new r
+performs_where s few many so (Fails g) new (Err f) h = elim h [ inl is ↦ inl is | inr refused ↦ inr (refused.0, so refused.1) ]
+performs_where s few many so (Stores t f) new (Ok (transfer.Store a)) h = (h.0, λ is_new. so (h.1 is_new))
+performs_where s few many so e new (Err f) h = (h.0, so h.1)
+performs_where s few many so e new r h = h
 
--- or where something else asks for it too
 pub performs_or : (s : StoryTree) (more asks : Bool) (e : Effect) (new : Fields) (r : Result Transfer Fault) → Performs s asks e new r → Performs s (more || asks) e new r
-performs_or s true asks e new r h = performs_more s asks e new r h
+performs_or s true asks e new r h = performs_where s asks true (λ _. refl) e new r h
 performs_or s false asks e new r h = h

@@ -22,7 +22,6 @@ pub mod Keys
 pub mod Visits
 pub mod Goings
 pub mod Places
-pub mod Settings
 pub mod Stored
 pub mod Asked
 pub mod Offered
@@ -36,3 +35,4 @@ pub mod Finished
 pub mod Closing
 pub mod Backs
 pub mod Marked
+pub mod Refusals

@@ -17,7 +17,7 @@ use Rattle.ink_model.specs.declared.content.Leaf.TheVariants as leaves
 use Rattle.ink_model.specs.declared.value.Value.{Value}
 use Rattle.ink_model.specs.declared.place.Part.{Part}
 use Rattle.ink_stack.specs.Undo.{threads_spare, threads_stood}
-use Rattle.ink_step.specs.Marks.{Stood, choices_lack, counts_lack, lacks, landing_lacks, own_lacks, own_spare, pressed, presses, stack_lacks, stood_of, takes_first, takes_there, threads_lack, unmarked}
+use Rattle.ink_step.specs.Marks.{Stood, choices_lack, counts_lack, keeps_mark, lacks, landing_lacks, own_lacks, own_spare, pressed, presses, stack_lacks, stood_of, takes_first, takes_there, threads_lack, unmarked}
 use Rattle.ink_step.specs.Words.{config_of}
 use Rattle.ink_step.specs.declared.flow.TheConstants.{MOVING}
 use Rattle.ink_step.specs.declared.machine.Machine.{Machine}
@@ -42,7 +42,7 @@ or_split : (a b : Bool) → a || b ≡ true → (a ≡ true) ⊎ (b ≡ true)
 or_split true b h = inl refl
 or_split false b h = inr h
 
-and_both : (a b : Bool) → a ≡ true → b ≡ true → a && b ≡ true
+pub and_both : (a b : Bool) → a ≡ true → b ≡ true → a && b ≡ true
 and_both true b h k = k
 and_both false b h k = absurd (cc)
 
@@ -133,7 +133,7 @@ and_none false = refl
 -- so no step is
 pub not_presses : (s : StoryTree) (old new : Machine) → stood_of old ≡ unmarked → stood_of new ≡ unmarked → presses s old new ≡ false
 not_presses s old new free left =
-    ap (λ (t : Stood). (takes_first s (config_of s old) && is_some t.stack) || pressed s new) free
+    ap (λ (t : Stood). (takes_first s (config_of s old) && keeps_mark t) || pressed s new) free
     ∙ ap (λ b. b || pressed s new) (and_none (takes_first s (config_of s old))) ∙ not_pressed s new left
 
 -- ---- a content that takes a value

@@ -1,13 +1,13 @@
 -- Choice points: what is made of spots and of places, and what it comes to.
-use Rattle.std.proofs.Common.{◌≡◌, ◌∙◌, ℕ, List, [], ◌∷◌, ◌++◌, length, map, reverse, nat_lt, if◌then◌else◌, Bool, true, false, Option, Some, None, option_map, Result, Ok, Err, OnOk, ap, sym, subst, refl, inl, inr}
+use Rattle.std.proofs.Common.{◌≡◌, ◌∙◌, ℕ, List, [], ◌∷◌, ◌++◌, length, map, reverse, nat_lt, if◌then◌else◌, Bool, true, false, Option, Some, None, option_map, ◌||◌, Result, Ok, Err, OnOk, is_ok, true≢false, ap, sym, subst, refl, inl, inr}
 use Rattle.std.proofs.lemmas.List.{length-map, map-append}
 use Rattle.ink_choice.specs.Words.{Adds, Makes}
 use Rattle.ink_model.specs.Acceptance.{content_counted, counted_container, lands, leaf_counted, written_target}
 use Rattle.ink_model.specs.Bytes.{fits_text}
-use Rattle.ink_model.specs.Choices.{Operands, added, choice, choice_of, choice_text, is_offered, make, operands, then_pop}
+use Rattle.ink_model.specs.Choices.{Operands, added, choice, choice_asks, choice_of, choice_text, has_any, is_offered, make, operands, then_pop}
 use Rattle.ink_model.specs.Configuration.{ChoiceOf, map_choice}
 use Rattle.ink_model.specs.Effect.{Context, Effect, Fields, Offers, or_else, or_fault}
-use Rattle.ink_model.specs.Frames.{ThreadOf, ThreadsOf, map_thread}
+use Rattle.ink_model.specs.Frames.{FrameOf, ThreadOf, ThreadsOf, map_frame, map_thread}
 use Rattle.ink_model.specs.Asks.{makes_choice, offer_asks}
 use Rattle.ink_model.specs.Page.{Page}
 use Rattle.ink_model.specs.Step.Choices.{is_visited, offer, offering, visited_at, was_visited}
@@ -20,6 +20,7 @@ use Rattle.ink_model.specs.declared.limits.TheConstants.{MAX_CHOICES}
 use Rattle.ink_model.specs.declared.place.Part.{Part}
 use Rattle.ink_model.specs.declared.value.Value.{Value}
 use Rattle.ink_step.proofs.Effects.{short}
+use Rattle.ink_step.proofs.Follows.{or_first, or_more}
 use Rattle.ink_step.proofs.Landings.{leaf_landing}
 use Rattle.ink_step.specs.Asked.{visits_in}
 use Rattle.ink_step.specs.Performs.{KeepsChoices, Performs, fields, moving}
@@ -72,6 +73,14 @@ module _ {P Q : Type 0} (g : P → Q) where
   added_renamed c cs =
       ap (λ n. if nat_lt n MAX_CHOICES then Ok (map (map_choice g) cs ++ map_choice g c ∷ []) else Err TooDeep) (length-map cs (map_choice g)) ∙ added_by c cs (nat_lt (length cs) MAX_CHOICES)
 
+  -- what it asks for is the same
+  below_renamed : (fs : List (FrameOf P)) → has_any (map (map_frame g) fs) ≡ has_any fs
+  below_renamed [] = refl
+  below_renamed (f ∷ fs) = refl
+
+  pub choice_asks_renamed : (c : ChoiceOf P) → choice_asks (map_choice g c) ≡ choice_asks c
+  choice_asks_renamed c = ap (λ b. has_any c.text || (has_any c.tags || (has_any c.thread.frame.temps || b))) (below_renamed c.thread.below)
+
 -- ---- a choice point
 
 module _ (s : StoryTree) (p : List Part) (rest : Rest) (ts : ThreadsOf Spot) (text : List ℕ) (flags : ℕ) (stands : at s p ≡ Some (leaf (Choice text flags)))
@@ -99,6 +108,9 @@ module _ (s : StoryTree) (p : List Part) (rest : Rest) (ts : ThreadsOf Spot) (te
     -- of what is made of spots
     abbrev made : Result (Option (ChoiceOf Spot) × List Value) Fault
     made = make flags spot visited ts.thread old
+
+    abbrev others : ℕ
+    others = length seen.choices
 
     abbrev so : Option (ChoiceOf (List Part)) × List Value → Effect
     so r = offering s p seen r.0 (with r.1)
@@ -128,16 +140,16 @@ module _ (s : StoryTree) (p : List Part) (rest : Rest) (ts : ThreadsOf Spot) (te
         ap (λ o. or_else BadTarget o (λ q. or_fault (make flags q (was_visited s p seen text flags) seen.thread old) so)) leads_there
         ∙ ap (λ m. or_fault m so) makes
 
-    asking_is : asking ≡ makes_choice (made_at (place_of s) made)
-    asking_is = ap (offer_asks s p seen text flags (with old)) leads_there ∙ ap makes_choice makes
+    asking_is : asking ≡ makes_choice others (made_at (place_of s) made)
+    asking_is = ap (offer_asks s p seen text flags (with old)) leads_there ∙ ap (makes_choice others) makes
 
     module _ (t : StoryTree) (new : List Value) where
       abbrev Comes : Result (Option (ChoiceOf Spot) × List Value) Fault → Result Transfer Fault → Type 0
-      Comes m result = Performs t (makes_choice (made_at (place_of s) m)) (comes_to m) (with new) result
+      Comes m result = Performs t (makes_choice others (made_at (place_of s) m)) (comes_to m) (with new) result
 
       offers_so : (result : Result Transfer Fault) → Comes made result → Performs t asking offers (with new) result
       offers_so result h =
-          subst (λ b. Performs t b offers (with new) result) (sym asking_is) (subst (λ e. Performs t (makes_choice (made_at (place_of s) made)) e (with new) result) (sym offers_is) h)
+          subst (λ b. Performs t b offers (with new) result) (sym asking_is) (subst (λ e. Performs t (makes_choice others (made_at (place_of s) made)) e (with new) result) (sym offers_is) h)
 
       -- none is made
       none_by : (m : Result (Option (ChoiceOf Spot) × List Value) Fault) → Makes Short m old new (Ok None) → Comes m (Ok transfer.Next)
@@ -154,7 +166,11 @@ module _ (s : StoryTree) (p : List Part) (rest : Rest) (ts : ThreadsOf Spot) (te
         | inl asks ↦ absurd (let no : false ≡ true = asks in cc)
         | inr few ↦ absurd (never few)
       ]
-      fails_by never (Ok (Some c, left)) g h = subst (λ x. Performs t true (so (Some (map_choice (place_of s) c), left)) (with new) (Err x)) (sym h.0) (short t true (with new) _ refl)
+      fails_by never (Ok (Some c, left)) g h =
+          let asks : Bool = choice_asks (map_choice (place_of s) c) || nat_lt others MAX_CHOICES in
+          let memory : choice_asks c ≡ true = elim h.1 [ inl asking ↦ asking | inr few ↦ absurd (never few) ] in
+          subst (λ x. Performs t asks (so (Some (map_choice (place_of s) c), left)) (with new) (Err x)) (sym h.0)
+          (short t asks (with new) _ (or_first _ _ (choice_asks_renamed (place_of s) c ∙ memory)))
       fails_by never (Err x) g h = inl h.0
 
       pub offers_fault : (never : Short → ⊥) (g : Fault) → Makes Short made old new (Err g) → Performs t asking offers (with new) (Err g)
@@ -162,19 +178,28 @@ module _ (s : StoryTree) (p : List Part) (rest : Rest) (ts : ThreadsOf Spot) (te
 
       -- one is made
       module _ (c : ChoiceOf Spot) (after : List (ChoiceOf Spot)) (result : Result (Unit {0}) Fault) where
-        one_added : (left : List Value) → new ≡ left → (r : Result (List (ChoiceOf Spot)) Fault) (x : Result (Unit {0}) Fault) → Adds r rest.choices after x
-            → Performs t true (or_fault (offered_at (place_of s) r) (λ choices. Offers choices (with left))) (with new) (moving x)
-        one_added left e (Ok ds) (Ok u) h = ap with e
-        one_added left e (Ok ds) (Err f) h = (h.0, refl)
-        one_added left e (Err g) (Ok u) h = absurd h
-        one_added left e (Err g) (Err f) h = inl h.0
+        one_added : (asks : Bool) (left : List Value) → new ≡ left → (r : Result (List (ChoiceOf Spot)) Fault) (x : Result (Unit {0}) Fault) → (is_ok r ≡ true → asks ≡ true) → Adds r rest.choices after x
+            → Performs t asks (or_fault (offered_at (place_of s) r) (λ choices. Offers choices (with left))) (with new) (moving x)
+        one_added asks left e (Ok ds) (Ok u) there h = ap with e
+        one_added asks left e (Ok ds) (Err f) there h = (h.0, there refl)
+        one_added asks left e (Err g) (Ok u) there h = absurd h
+        one_added asks left e (Err g) (Err f) there h = inl h.0
+
+        -- there is room for it
+        room_there : (d : ChoiceOf Spot) → is_ok (added d rest.choices) ≡ true → choice_asks (map_choice (place_of s) d) || nat_lt others MAX_CHOICES ≡ true
+        room_there d h = or_more (choice_asks (map_choice (place_of s) d)) _ (ap (λ n. nat_lt n MAX_CHOICES) (length-map rest.choices (map_choice (place_of s))) ∙ by (nat_lt (length rest.choices) MAX_CHOICES) h)
+          where
+            by : (b : Bool) → (let r : Result (List (ChoiceOf Spot)) Fault = if b then Ok (rest.choices ++ d ∷ []) else Err TooDeep in is_ok r ≡ true) → b ≡ true
+            by true h = refl
+            by false h = absurd (true≢false (sym h))
 
         one_by : (m : Result (Option (ChoiceOf Spot) × List Value) Fault) → Makes Short m old new (Ok (Some c)) → Adds (added c rest.choices) rest.choices after result → Comes m (moving result)
         one_by (Ok (None, left)) h adds = absurd (let no : Some c ≡ None = h.0 in cc)
         one_by (Ok (Some d, left)) h adds =
             let same : c ≡ d = let both : Some c ≡ Some d = h.0 in cc in
-            subst (λ r. Performs t true (or_fault r (λ choices. Offers choices (with left))) (with new) (moving result)) (sym (added_renamed (place_of s) d rest.choices))
-            (one_added left h.1 (added d rest.choices) result (subst (λ x. Adds (added x rest.choices) rest.choices after result) same adds))
+            let asks : Bool = choice_asks (map_choice (place_of s) d) || nat_lt others MAX_CHOICES in
+            subst (λ r. Performs t asks (or_fault r (λ choices. Offers choices (with left))) (with new) (moving result)) (sym (added_renamed (place_of s) d rest.choices))
+            (one_added asks left h.1 (added d rest.choices) result (room_there d) (subst (λ x. Adds (added x rest.choices) rest.choices after result) same adds))
         one_by (Err g) h adds = absurd h
 
         pub offers_one : Makes Short made old new (Ok (Some c)) → Adds (added c rest.choices) rest.choices after result → Performs t asking offers (with new) (moving result)

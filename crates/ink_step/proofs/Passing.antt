@@ -1,9 +1,10 @@
 -- Calls that change threads, or what is written to, beside the definitions over places.
-use Rattle.std.proofs.Common.{◌≡◌, ap, sym, subst, refl, inl, inr, ℕ, ◌+◌, List, [], ◌∷◌, length, map, Bool, true, false, if◌then◌else◌, nat_eq, nat_lt, Result, Ok, Err}
+use Rattle.std.proofs.Common.{◌≡◌, ap, sym, subst, refl, inl, inr, ℕ, ◌+◌, List, [], ◌∷◌, length, map, Bool, true, false, if◌then◌else◌, nat_eq, nat_lt, is_ok, Result, Ok, Err, IfErr}
 use Rattle.std.proofs.lemmas.List.{length-map}
 use Rattle.ink_model.specs.Flow.{Written, on_page, or_breaks}
 use Rattle.ink_model.specs.Frames.{FrameOf, ThreadOf, ThreadsOf, map_frame, map_thread, map_threads}
 use Rattle.ink_model.specs.Memory.{Gives, leaving}
+use Rattle.ink_model.specs.Output.{ends_function}
 use Rattle.ink_model.specs.Page.{Page}
 use Rattle.ink_model.specs.Threads.{back_to, new_frame, popped, pushed, same_kind, top_result}
 use Rattle.ink_model.specs.declared.fault.Fault.{Fault}
@@ -84,12 +85,20 @@ module _ {P : Type 0} where
   writes_beside ts v (Err g) (Err f) (inl h) = inr (h.0, refl)
   writes_beside ts v rule (Err f) (inr h) = subst (λ r. PassesAs true (or_breaks r Err (λ x. Ok (ts, x))) ts v (Err f)) (sym h) (inl refl)
 
+  -- The same of a mark, which asks for memory only where it has room: a limit is found before.
+  marks_beside : (ts : ThreadsOf P) (w v : Written) (page : Result Page Fault) (result : Result (Unit {0}) Fault) → Gives (leaving v result) (on_page page w) → IfErr page (λ f. result ≡ Err f)
+      → PassesAs (is_ok page) (or_breaks (on_page page w) Err (λ u. Ok (ts, u))) ts v result
+  marks_beside ts w v (Ok page) result g limit = writes_beside ts v (Ok (record w { page = page })) result g
+  marks_beside ts w v (Err e) result g limit = subst (PassesAs false (Err e) ts v) (sym limit) (inl refl)
+
   -- a frame was popped, and its mark written
-  pub left_marked : {U : Type 0} (ts us : ThreadsOf P) (v : Written) (r : Result (ThreadOf P) Fault) (rule : Result Written Fault) (u : U) (result : Result (Unit {0}) Fault)
-      → Changes (top_result r ts) ts us (Ok u) → Gives (leaving v result) rule
-      → PassesAs (left_asks Function r) (or_breaks r Err (λ t. or_breaks rule Err (λ x. Ok (record ts { thread = t }, x)))) us v result
-  left_marked ts us v (Ok t) rule u result h g = subst (λ x. PassesAs true (or_breaks rule Err (λ y. Ok (x, y))) us v result) h (writes_beside us v rule result g)
-  left_marked ts us v (Err e) rule u result h g = absurd h
+  pub left_marked : {U : Type 0} (ts us : ThreadsOf P) (w v : Written) (r : Result (ThreadOf P) Fault) (u : U) (result : Result (Unit {0}) Fault)
+      → Changes (top_result r ts) ts us (Ok u) → let page = ends_function ts.thread.frame.enter w.page in Gives (leaving v result) (on_page page w) → IfErr page (λ f. result ≡ Err f)
+      → PassesAs (left_asks Function r ts.thread.frame w) (or_breaks r Err (λ t. or_breaks (on_page page w) Err (λ x. Ok (record ts { thread = t }, x)))) us v result
+  left_marked ts us w v (Ok t) u result h g limit =
+      let page = ends_function ts.thread.frame.enter w.page in
+      subst (λ x. PassesAs (is_ok page) (or_breaks (on_page page w) Err (λ y. Ok (x, y))) us v result) h (marks_beside us w v page result g limit)
+  left_marked ts us w v (Err e) u result h g limit = absurd h
 
   -- a frame that has none
   pub left_unmarked : {U : Type 0} (asks : Bool) (ts us : ThreadsOf P) (w : Written) (r : Result (ThreadOf P) Fault) (u : U) → Changes (top_result r ts) ts us (Ok u)
@@ -99,6 +108,6 @@ module _ {P : Type 0} where
 
   -- a frame that is not popped
   pub not_left : (k : FrameKind) (ts us : ThreadsOf P) (w : Written) (r : Result (ThreadOf P) Fault) (rule : Result Written Fault) (f : Fault)
-      → Changes {U = Unit {0}} (top_result r ts) ts us (Err f) → PassesAs (left_asks k r) (or_breaks r Err (λ t. or_breaks rule Err (λ x. Ok (record ts { thread = t }, x)))) us w (Err f)
+      → Changes {U = Unit {0}} (top_result r ts) ts us (Err f) → PassesAs (left_asks k r ts.thread.frame w) (or_breaks r Err (λ t. or_breaks rule Err (λ x. Ok (record ts { thread = t }, x)))) us w (Err f)
   not_left k ts us w (Ok t) rule f h = absurd h
   not_left k ts us w (Err e) rule f h = inl h.0

@@ -1,5 +1,5 @@
 -- Where flow stops it may follow a choice, and then a global is stored.
-use Rattle.std.proofs.Common.{◌≡◌, ◌≢◌, ◌∙◌, ◌||◌, ap, sym, refl, subst, inl, inr, List, Bool, Option, Some, None, Result, Ok, Err}
+use Rattle.std.proofs.Common.{◌≡◌, ◌≢◌, ◌∙◌, ◌||◌, ◌⊎◌, ap, sym, refl, subst, inl, inr, List, Bool, true, false, is_some, Option, Some, None, Result, Ok, Err}
 use Rattle.ink_model.specs.Choosing.{default_asks, default_choice, following, following_asks, stopped_by}
 use Rattle.ink_model.specs.Configuration.{ChoiceOf, Configuration, with_globals}
 use Rattle.ink_model.specs.Effect.{Fields, Effect, Stores, with_fields, with_thread}
@@ -7,17 +7,19 @@ use Rattle.ink_model.specs.Flow.{Reached, Reaches, Halts, Breaks, moved_on}
 use Rattle.ink_model.specs.Frames.{ThreadOf}
 use Rattle.ink_model.specs.Move.{Outcome, Next, Stop, Faults, move, reached_in, written_in}
 use Rattle.ink_model.specs.Place.{next_place}
-use Rattle.ink_model.specs.Store.{Values}
+use Rattle.ink_model.specs.Store.{Values, stored}
 use Rattle.ink_model.specs.Tree.{StoryTree}
 use Rattle.ink_model.specs.declared.fault.Fault.{Fault}
+use Rattle.ink_model.specs.declared.fault.Fault.TheVariants.{OutOfMemory}
 use Rattle.ink_model.specs.declared.place.Part.{Part}
-use Rattle.ink_step.specs.Performs.{Performs, storing_in, unstored}
+use Rattle.ink_step.specs.Performs.{AsksToStore, Performs, storing_in, unstored}
 use Rattle.ink_step.specs.Steps.{StepEnds}
 use Rattle.ink_step.specs.declared.flow.StepEnd.{StepEnd}
 use Rattle.ink_step.specs.declared.flow.StepEnd.TheVariants as ends
 use Rattle.ink_step.specs.declared.transfer.Assignment.{Assignment}
 use Rattle.ink_step.specs.declared.transfer.Transfer.{Transfer}
 use Rattle.ink_step.specs.declared.transfer.Transfer.TheVariants as transfer
+use Rattle.ink_vars.specs.Words.{name_of}
 use Rattle.ink_step.proofs.Follows.{ends_short, ends_where, or_between, or_first}
 
 module _ (s : StoryTree) where
@@ -98,3 +100,11 @@ module _ (s : StoryTree) where
     stores_none (Stores t k) o end (transfer.Store a) other p h = absurd (other a refl)
     stores_none (Stores t k) o end u other p h = absurd p
     stores_none e o end t other p h = h
+
+  -- a global is not stored, for which memory was refused: it is new, or a mark stands
+  pub stored_short : (asks whole marked : Bool) (e : Effect) (f : Fields) (o : Outcome) (a : Assignment) (globals : Values) (d : Configuration) → (asks ≡ true → whole ≡ true) → Performs s asks e f (Ok (transfer.Store a))
+      → (marked ≡ true → AsksToStore e asks) → (is_some (stored (name_of a.name) f.globals) ≡ false) ⊎ (marked ≡ true) → d.shared.globals ≡ globals → StepEnds whole (storing_in e o) globals d (Err OutOfMemory)
+  stored_short asks whole marked (Stores t k) f o a globals d allows performs stores short kept =
+      let asking : asks ≡ true = elim short [ inl is_new ↦ performs.1 is_new | inr under ↦ stores under ] in
+      ends_short whole (storing_in (Stores t k) o) globals d OutOfMemory (refl, allows asking) kept
+  stored_short asks whole marked e f o a globals d allows performs stores short kept = absurd performs

@@ -1,5 +1,5 @@
 -- What reading, declaring and assigning do, by the variable that is read or written.
-use Rattle.std.proofs.Common.{◌≡◌, ◌∙◌, ℕ, List, Bool, true, false, ◌&&◌, ◌||◌, Some, Result, Ok, Err, OnOk, ap, inl, inr, is_ok, refl, subst, sym}
+use Rattle.std.proofs.Common.{◌≡◌, ◌∙◌, ℕ, List, Bool, true, false, not, ◌&&◌, ◌||◌, Some, Result, Ok, Err, OnOk, ap, inl, inr, is_ok, refl, subst, sym}
 use Rattle.ink_model.specs.Asks.{has_room}
 use Rattle.ink_model.specs.Effect.{Fields, Effect, Stores}
 use Rattle.ink_model.specs.Frames.{ThreadOf, ThreadsOf, fresh_depth, map_thread}
@@ -14,7 +14,6 @@ use Rattle.ink_model.specs.VariableMemory.{assign_asks, declare_asks, is_pointer
 use Rattle.ink_model.specs.Variables.{assign, declare, declared, kept, read}
 use Rattle.ink_model.specs.declared.fault.Fault.{Fault}
 use Rattle.ink_model.specs.declared.fault.Fault.TheVariants.{OutOfMemory}
-use Rattle.ink_model.specs.declared.place.Part.{Part}
 use Rattle.ink_model.specs.declared.scope.Scope.{Scope}
 use Rattle.ink_model.specs.declared.scope.Scope.TheVariants.{Global, Temporary}
 use Rattle.ink_model.specs.declared.value.Value.{Value}
@@ -22,8 +21,8 @@ use Rattle.ink_step.specs.Performs.{Changes, Keeps, Performs, fields}
 use Rattle.ink_step.specs.Words.{Rest, seen_by}
 use Rattle.ink_step.specs.declared.transfer.Transfer.{Transfer}
 use Rattle.ink_step.specs.declared.transfer.Transfer.TheVariants as transfer
-use Rattle.ink_step.proofs.Effects.{operated, short}
-use Rattle.ink_step.proofs.Settings.{assigning_noted, declaring_noted}
+use Rattle.ink_step.proofs.Effects.{operated, performs_where, short}
+use Rattle.ink_step.proofs.Follows.{or_first, or_more}
 use Rattle.ink_step.proofs.Places.{assign_renamed, declare_renamed, left_as, read_renamed}
 use Rattle.ink_tree.specs.Nodes.{place_of}
 use Rattle.ink_tree.specs.declared.spot.Spot.{Spot}
@@ -32,13 +31,6 @@ use Rattle.ink_vars.specs.declared.places.Variable.{Variable}
 
 -- ---- by cases
 
-or_first : (a b : Bool) → a ≡ true → a || b ≡ true
-or_first a b h = subst (λ x. x || b ≡ true) (sym h) refl
-
-or_second : (a b : Bool) → b ≡ true → a || b ≡ true
-or_second true b h = refl
-or_second false b h = h
-
 handed : {A : Type 0} (asks : Bool) (rule : Result A Fault) (a : A) → HandsOut asks rule (Ok a) → rule ≡ Ok a
 handed asks (Ok b) a h = ap Ok (sym h)
 handed asks (Err f) a h = absurd h
@@ -46,13 +38,6 @@ handed asks (Err f) a h = absurd h
 asks_renamed : (s : StoryTree) (globals : Values) (t : ThreadOf Spot) (scope : Scope) (name : List ℕ) → setting_asks globals (map_thread (place_of s) t) scope name ≡ setting_asks globals t scope name
 asks_renamed s globals t Global name = refl
 asks_renamed s globals t Temporary name = refl
-
--- what is stored, where more asks for memory
-stored_more : (s : StoryTree) (less asks : Bool) (t : ThreadOf (List Part)) (f new : Fields) (result : Result Transfer Fault) → (less ≡ true → asks ≡ true)
-    → Performs s less (Stores t f) new result → Performs s asks (Stores t f) new result
-stored_more s less asks t f new (Ok (transfer.Store a)) so h = (h.0, so h.1)
-stored_more s less asks t f new (Err g) so h = (h.0, so h.1)
-stored_more s less asks t f new result so h = h
 
 on_ok : {A : Type 0} (r : Result A Fault) (B C : Type 0) → (B → C) → OnOk r B → OnOk r C
 on_ok (Ok a) B C so h = so h
@@ -102,11 +87,8 @@ module _ (s : StoryTree) (ts : ThreadsOf Spot) (rest : Rest) (f : Fields) where
         → Performs s (writing_asks f.globals ts.thread x) (wrote left x v) (record f { stack = left }) result
         → Performs s assigning_asks assigning (record f { stack = left }) result
     assigns_there x result leads h =
-        let so : assign f.globals (map_thread (place_of s) ts.thread) name v ≡ left_as (place_of s) f.globals ts.thread (Ok (with_variable f.globals ts.thread x v)) =
-        assign_renamed (place_of s) f.globals ts.thread name v ∙ ap (left_as (place_of s) f.globals ts.thread) (leads.2 v) in
-        let asking : writing_asks f.globals ts.thread x ≡ true → assigning_asks ≡ true = λ asks. rw (pops, so) (assigning_noted f.globals ts.thread name x leads.2 leads.1 asks) in
         subst (λ e. Performs s assigning_asks e (record f { stack = left }) result) (sym (assigns _ (leads.2 v)))
-        (stored_more s _ assigning_asks (map_thread (place_of s) (with_variable f.globals ts.thread x v).1) _ _ result asking h)
+        (performs_where s (writing_asks f.globals ts.thread x) assigning_asks (λ is_new. absurd (let no : false ≡ true = rw leads.1 at is_new in cc)) (wrote left x v) _ result h)
 
     pub assigns_keeping : (x : Variable) (new : ThreadsOf Spot) (result : Result (Unit {0}) Fault) → LeadsTo f.globals ts.thread name (Ok x)
         → OnOk result (new ≡ record ts { thread = (with_variable f.globals ts.thread x v).1 }) → OnOk result (Keeps s assigning ts new)
@@ -151,9 +133,9 @@ module _ (s : StoryTree) (ts : ThreadsOf Spot) (rest : Rest) (f : Fields) where
         → Performs s declaring_asks declaring (record f { stack = left }) result
     declares_there w x result keeping there h =
         let asking : writing_asks f.globals ts.thread x ≡ true → declaring_asks ≡ true =
-        λ asks. asks_to_declare w (handed _ _ w keeping) (or_second (is_pointer (Some v)) _ (declaring_noted f.globals ts.thread scope name x there asks)) in
+        λ is_new. asks_to_declare w (handed _ _ w keeping) (or_more (is_pointer (Some v)) _ (sym (ap not there.0) ∙ is_new)) in
         subst (λ e. Performs s declaring_asks e (record f { stack = left }) result) (sym (wrote_there w x keeping there))
-        (stored_more s _ declaring_asks (map_thread (place_of s) (with_variable f.globals ts.thread x w).1) _ _ result asking h)
+        (performs_where s (writing_asks f.globals ts.thread x) declaring_asks asking (wrote left x w) _ result h)
 
     pub declares_keeping : (w : Value) (x : Variable) (new : ThreadsOf Spot) (result : Result (Unit {0}) Fault) → HandsOut (is_pointer (Some v)) (kept f.globals ts.thread v) (Ok w)
         → Declares f.globals ts.thread scope name x → OnOk result (new ≡ record ts { thread = (with_variable f.globals ts.thread x w).1 }) → OnOk result (Keeps s declaring ts new)

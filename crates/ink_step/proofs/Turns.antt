@@ -1,8 +1,10 @@
 -- One turn of where flow goes, by what is at its end.
-use Rattle.std.proofs.Common.{◌≡◌, ◌∙◌, sym, subst, refl, inl, inr, ℕ, ◌+◌, List, [], ◌∷◌, length, Bool, true, false, nat_eq, Option, Some, None, option_and_then, Result, Ok, Err}
-use Rattle.ink_model.specs.Flow.{Written, Reached, Reaches, Halts, Breaks, depth_of, leave_for, moved_on, or_breaks, reach, thread_of, void_for}
+use Rattle.std.proofs.Common.{◌≡◌, ◌∙◌, ap, is_ok, sym, subst, refl, inl, inr, ℕ, ◌+◌, List, [], ◌∷◌, length, Bool, true, false, nat_eq, Option, Some, None, option_and_then, Result, Ok, Err}
+use Rattle.ink_model.specs.Flow.{Written, Reached, Reaches, Halts, Breaks, depth_of, leave_for, moved_on, on_page, or_breaks, reach, thread_of, void_for}
 use Rattle.ink_model.specs.Frames.{FrameOf, ThreadOf, ThreadsOf, gone, map_threads}
 use Rattle.ink_model.specs.MoveMemory.{moved_asks}
+use Rattle.ink_model.specs.Output.{ends_function}
+use Rattle.ink_model.specs.Page.{Page}
 use Rattle.ink_model.specs.Threads.{popped}
 use Rattle.ink_model.specs.declared.fault.Fault.{Fault}
 use Rattle.ink_model.specs.declared.fault.Fault.TheVariants.{OutOfMemory}
@@ -45,14 +47,14 @@ module _ {P : Type 0} (after : P → Option P) where
         by (u ∷ us) true depth (Err e) leave = rw (next, kind, depth, leave) refl
         by us true depth (Ok v) leave = void us depth v leave (void_for g.evaluating v) refl
 
-    pub leave_asks : (fs : List (FrameOf P)) (us : List (ThreadOf P)) → left_asks Function (popped Function (depth_of w) (thread_of f fs o)) ≡ true
+    pub leave_asks : (fs : List (FrameOf P)) (us : List (ThreadOf P)) → left_asks Function (popped Function (depth_of w) (thread_of f fs o)) f w ≡ true
         → moved_asks after (record { thread = thread_of f fs o; below = us }) w ≡ true
     leave_asks [] us asking = absurd (let no : false ≡ true = rw kind at asking in cc)
     leave_asks (g ∷ gs) us asking = by us (nat_eq f.depth (depth_of w)) refl
       where
         by : (us : List (ThreadOf P)) (b : Bool) → nat_eq f.depth (depth_of w) ≡ b → moved_asks after (record { thread = thread_of f (g ∷ gs) o; below = us }) w ≡ true
-        by [] true depth = rw (next, kind, depth) refl
-        by (u ∷ us) true depth = rw (next, kind, depth) refl
+        by [] true depth = rw (next, kind, depth) (rw (kind, depth) at asking)
+        by (u ∷ us) true depth = rw (next, kind, depth) (rw (kind, depth) at asking)
         by us false depth = absurd (let no : false ≡ true = rw (kind, depth) at asking in cc)
 
 -- ---- what is left of a way that begins with calls
@@ -95,17 +97,18 @@ frames_in (t ∷ ts) = length t.below + 1 + frames_in ts
 abbrev pub all_frames : {P : Type 0} → ThreadsOf P → ℕ
 all_frames ts = frames_in (ts.thread ∷ ts.below)
 
--- a function that ended could be popped
+-- a function that ended could be popped, and its mark had room
 module _ {P : Type 0} where
   ended_asks : (asks : Bool) (ts us : ThreadsOf P) (w v : Written) (u : Unit {0}) → PassesAs asks (ended ts w) us v (Ok u)
-      → left_asks Function (popped Function (depth_of w) ts.thread) ≡ true
-  ended_asks asks ts us w v u = by (popped Function (depth_of w) ts.thread)
+      → left_asks Function (popped Function (depth_of w) ts.thread) ts.thread.frame w ≡ true
+  ended_asks asks ts us w v u = by (popped Function (depth_of w) ts.thread) (ends_function ts.thread.frame.enter w.page) refl
     where
-      by : (r : Result (ThreadOf P) Fault)
-          → PassesAs asks (or_breaks (or_breaks r Err (λ t. or_breaks (leave_for Function ts.thread.frame.enter w) Err (λ x. Ok (record ts { thread = t }, x)))) Err void_given) us v (Ok u)
-          → left_asks Function r ≡ true
-      by (Ok t) h = refl
-      by (Err g) h = absurd h
+      by : (r : Result (ThreadOf P) Fault) (page : Result Page Fault) → ends_function ts.thread.frame.enter w.page ≡ page
+          → PassesAs asks (or_breaks (or_breaks r Err (λ t. or_breaks (on_page page w) Err (λ x. Ok (record ts { thread = t }, x)))) Err void_given) us v (Ok u)
+          → left_asks Function r ts.thread.frame w ≡ true
+      by (Ok t) (Ok page) is h = ap is_ok is
+      by (Ok t) (Err g) is h = absurd h
+      by (Err g) page is h = absurd h
 
 -- ---- the way from a start
 
@@ -123,17 +126,17 @@ module _ {P Q : Type 0} (f : P → Q) (after : Q → Option Q) (start : ThreadsO
 
   module _ (next : option_and_then after (map_threads f ts).thread.frame.place ≡ None) where
     module _ (kind : ts.thread.frame.kind ≡ Function) (us : ThreadsOf Q) (v : Written) where
-      asking : left_asks Function (popped Function (depth_of w) (map_threads f ts).thread) ≡ true → moved_asks after start begun ≡ true
+      asking : left_asks Function (popped Function (depth_of w) (map_threads f ts).thread) (map_threads f ts).thread.frame w ≡ true → moved_asks after start begun ≡ true
       asking h = way.asks (leave_asks after _ _ w next kind _ _ h)
 
       -- a function ends
-      pub function_ended : (u : Unit {0}) → PassesAs (left_asks Function (popped Function (depth_of w) (map_threads f ts).thread)) (ended (map_threads f ts) w) us v (Ok u)
+      pub function_ended : (u : Unit {0}) → PassesAs (left_asks Function (popped Function (depth_of w) (map_threads f ts).thread) (map_threads f ts).thread.frame w) (ended (map_threads f ts) w) us v (Ok u)
           → OnTheWay after start begun us v
       function_ended u h =
           let there = leaves after _ _ w next kind _ _ ∙ way_on (λ r. moved_on after r.0 r.1) _ (ended (map_threads f ts) w) us v u h in
           record { same = sym there ∙ way.same; asks = λ _. asking (ended_asks _ (map_threads f ts) us w v u h) }
 
-      pub function_broke : (g : Fault) (ended_in : ThreadsOf Q) (x : Written) → PassesAs (left_asks Function (popped Function (depth_of w) (map_threads f ts).thread)) (ended (map_threads f ts) w) us v (Err g)
+      pub function_broke : (g : Fault) (ended_in : ThreadsOf Q) (x : Written) → PassesAs (left_asks Function (popped Function (depth_of w) (map_threads f ts).thread) (map_threads f ts).thread.frame w) (ended (map_threads f ts) w) us v (Err g)
           → ReachesAs (moved_asks after start begun) (moved_on after start begun) ended_in x (Err g)
       function_broke g ended_in x h = subst (λ m. ReachesAs (moved_asks after start begun) m ended_in x (Err g)) (sym (leaves after _ _ w next kind _ _) ∙ way.same)
           (way_off (λ r. moved_on after r.0 r.1) _ (moved_asks after start begun) asking (ended (map_threads f ts) w) us ended_in v x g h)

@@ -3,6 +3,7 @@ pub mod Marks
 pub mod MarkExamples
 pub mod Performs
 pub mod External
+pub mod Refusals
 pub mod Stacks
 pub mod Reaches
 pub mod Steps

@@ -77,7 +77,11 @@ stood_of m = record {
 abbrev pub unmarked : Stood
 unmarked = record { own = None; threads = None; stack = None; choices = None; globals = None; counts = None; page = None }
 
--- a content takes a value off the stack and keeps it, so that while a mark stands it takes a copy
+-- a mark stands where values are taken from, or where they are kept
+abbrev pub keeps_mark : Stood → Bool
+keeps_mark t = is_some t.stack || is_some t.globals
+
+-- a content takes a value off the stack and keeps it, so that while a mark stands it copies the value, or the one before
 abbrev pub takes_value : Leaf → Bool
 takes_value (leaves.Declare name) = true
 takes_value (leaves.DeclareTemp name) = true
@@ -132,9 +136,9 @@ pressed s m =
     || (landing_lacks s m
     || (is_some (choices_stood m.flow.choices) && only_invisible m.flow.choices.items))))))
 
--- the same of the whole step from one machine to another, which takes a copy of a value where the stack keeps a mark
+-- the same of the whole step from one machine to another, which copies a value while a mark stands
 abbrev pub presses : StoryTree → Machine → Machine → Bool
-presses s old new = (takes_first s (config_of s old) && is_some (stack_stood old.flow.stack)) || pressed s new
+presses s old new = (takes_first s (config_of s old) && keeps_mark (stood_of old)) || pressed s new
 
 -- a turn begins, from a machine, for which so many containers are entered
 abbrev pub turn_lacks : ℕ → Machine → Bool

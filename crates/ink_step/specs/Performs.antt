@@ -1,11 +1,11 @@
 -- What performing a content does, beside its effect.
-use Rattle.std.specs.Prelude.{◌≡◌, ◌⊎◌, ℕ, List, length, map, Bool, true, false, Option, Some, None, option_map, Result, Ok, Err}
+use Rattle.std.specs.Prelude.{◌≡◌, ◌⊎◌, ⊤, ℕ, List, length, map, Bool, true, false, Option, Some, None, is_some, option_map, Result, Ok, Err}
 use Rattle.ink_model.specs.Configuration.{ChoiceOf, map_choice, with_globals}
 use Rattle.ink_model.specs.Effect.{Fields, Effect, Landing as Goal, Moves, Stores, Offers, Lands, Calls, Returns, Forks, Done, Ends, Fails}
 use Rattle.ink_model.specs.Frames.{FrameOf, ThreadOf, ThreadsOf, fresh_depth, map_threads, mode_in, on_top}
 use Rattle.ink_model.specs.Move.{Outcome, Next, Stop}
 use Rattle.ink_model.specs.Page.{Page}
-use Rattle.ink_model.specs.Store.{Values, store}
+use Rattle.ink_model.specs.Store.{Values, store, stored}
 use Rattle.ink_model.specs.Tree.{StoryTree}
 use Rattle.ink_model.specs.declared.fault.Fault.{Fault}
 use Rattle.ink_model.specs.declared.fault.Fault.TheVariants.{OutOfMemory}
@@ -47,13 +47,13 @@ led_back_as s (Ok to) = Ok (option_map (landing_of s) to)
 led_back_as s (Err f) = Err f
 
 -- Performing has an effect: it leaves the effect's fields, but for the end of freshness that a text makes, and for a global that
--- is stored last, which asks for memory, since its change is noted; or it is its fault. Where it asks for memory it may be
--- OutOfMemory instead. Temporaries are stored at once (`stored_by`).
+-- is stored last, which asks for memory where it is new; or it is its fault. Where it asks for memory it may be OutOfMemory
+-- instead. Temporaries are stored at once (`stored_by`).
 abbrev pub Performs : StoryTree → Bool → Effect → Fields → Result Transfer Fault → Type 0
 Performs s asks (Moves f) new (Ok transfer.Next) = new ≡ f
 Performs s asks (Moves f) new (Ok transfer.Wrote) = f ≡ with_text new
 Performs s asks (Stores t f) new (Ok transfer.Next) = new ≡ f
-Performs s asks (Stores t f) new (Ok (transfer.Store a)) = (f ≡ record new { globals = store (name_of a.name) a.value new.globals }) × (asks ≡ true)
+Performs s asks (Stores t f) new (Ok (transfer.Store a)) = (f ≡ record new { globals = store (name_of a.name) a.value new.globals }) × (is_some (stored (name_of a.name) new.globals) ≡ false → asks ≡ true)
 Performs s asks (Offers choices f) new (Ok transfer.Next) = new ≡ f
 Performs s asks (Lands l f) new (Ok (transfer.Land to)) = (l ≡ landing_of s to) × (new ≡ f)
 Performs s asks (Calls k l f) new (Ok (transfer.Call kind to)) = (k ≡ frame_kind kind) × (l ≡ landing_of s to) × (new ≡ f)
@@ -69,6 +69,11 @@ Performs s asks e new result = ⊥
 abbrev pub stored_by : Effect → ThreadOf (List Part) → ThreadOf (List Part)
 stored_by (Stores t f) u = t
 stored_by e u = u
+
+-- an effect that stores something asks for memory
+abbrev pub AsksToStore : Effect → Bool → Type 0
+AsksToStore (Stores t f) asks = asks ≡ true
+AsksToStore e asks = ⊤
 
 -- An effect that stores a global, before that is done: the globals are still these.
 abbrev pub unstored : Values → Effect → Effect

@@ -1,7 +1,8 @@
 -- How flow goes on, beside the definitions: its results, and where memory may be refused on the way.
 use Rattle.std.specs.Prelude.{◌≡◌, ◌⊎◌, Bool, true, false, Result, Ok, Err}
 use Rattle.ink_model.specs.Flow.{Written, Reached, Reaches, Halts, Breaks, depth_of, enter_for, leave_for, number_for, or_breaks, void_for}
-use Rattle.ink_model.specs.Frames.{ThreadOf, ThreadsOf}
+use Rattle.ink_model.specs.Frames.{FrameOf, ThreadOf, ThreadsOf}
+use Rattle.ink_model.specs.MoveMemory.{has_end_room}
 use Rattle.ink_model.specs.Threads.{popped}
 use Rattle.ink_model.specs.declared.fault.Fault.{Fault}
 use Rattle.ink_model.specs.declared.fault.Fault.TheVariants.{OutOfMemory}
@@ -33,10 +34,10 @@ PassesAs asks (Ok r) threads written (Err f) = (f ≡ OutOfMemory) × (asks ≡ 
 PassesAs asks (Err g) threads written (Ok u) = ⊥
 PassesAs asks (Err g) threads written (Err f) = (f ≡ g) ⊎ ((f ≡ OutOfMemory) × (asks ≡ true))
 
--- a frame that can be popped asks for memory where it is a function's, whose mark is written
-abbrev pub left_asks : {P : Type 0} → FrameKind → Result (ThreadOf P) Fault → Bool
-left_asks Function (Ok t) = true
-left_asks k r = false
+-- a frame that can be popped asks for memory where it is a function's, whose mark has room
+abbrev pub left_asks : {P : Type 0} → FrameKind → Result (ThreadOf P) Fault → FrameOf P → Written → Bool
+left_asks Function (Ok t) f w = has_end_room f w
+left_asks k r f w = false
 
 module _ {P : Type 0} where
   -- the frame that was pushed has its mark

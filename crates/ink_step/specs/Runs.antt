@@ -17,8 +17,8 @@ use Rattle.ink_step.specs.Marks.{takes_first}
 abbrev pub AreBound : Bound → List Made → Type 0
 AreBound b made = AllByRecursion (λ m. b m.name ≡ Some turn_function) made
 
--- A run got to a configuration whose step takes a value off the stack, of which it takes a copy while a mark stands, within the
--- steps of a command.
+-- A run got to a configuration whose step takes a value off the stack and keeps it, and so copies values while a mark stands,
+-- within the steps of a command.
 pub record TakesAt (s : StoryTree) (b : Bound) (c : Configuration) (made : List Made) (reached : Configuration) : Type 0 where
   pub steps : ℕ
   pub within : steps < MAX_STEPS
@@ -26,8 +26,8 @@ pub record TakesAt (s : StoryTree) (b : Bound) (c : Configuration) (made : List 
   pub takes : takes_first s reached ≡ true
 
 -- A run, with these calls made, ended with a fault, or memory was refused to a step that asks for it, or for what came of its
--- last call, at a configuration with these globals. Where the stack keeps a mark memory may be refused for the copy of a value,
--- and where the machine is pressed by a mark, for that.
+-- last call, at a configuration with these globals. While a mark stands memory may be refused for the copy of a value, and where
+-- the machine is pressed by it, for that.
 pub record RunFalls (s : StoryTree) (b : Bound) (marked pressed : Bool) (start : Configuration) (made : List Made) (globals : Values) (f : Fault) : Type 0 where
   pub before : Configuration
   pub kept : globals ≡ before.shared.globals

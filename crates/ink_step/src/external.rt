@@ -20,6 +20,7 @@ ghost use Rattle.ink_model.specs.declared.host.Event.{Event as Happening};
 ghost use Rattle.ink_model.specs.declared.value.Value.{Value as Data};
 ghost use Rattle.ink_step.specs.External.{PerformsCall, call_of, is_asking, is_true_of, lent_arguments};
 ghost use Rattle.ink_step.specs.Performs.{Performs, fields};
+ghost use Rattle.ink_step.specs.Refusals.{StepStopsAtRefusal};
 
 use crate::diverting::is_wanted;
 use crate::operands::put_over;
@@ -74,7 +75,8 @@ pub(crate) fn external_in<'a>(found: Option<&'a Leaf>) -> Option<External<'a>>
 /// where they are, `Unbound` where there is none. A turn function is called once, which is an event, and `UnsafeInString` where a
 /// string is open; a pure function is asked. The arguments are taken for that: `StackEmpty` where there are not so many,
 /// `BadOperands` for another value than an integer, a boolean or a text. `HostRefused` where the host gives no answer; `TooDeep`
-/// for a text over its limit and where the stack is full; `OutOfMemory` for a refused request for memory.
+/// for a text over its limit and where the stack is full; `OutOfMemory` for a refused request for memory, after which nothing is
+/// called again.
 pub(crate) fn call_external<'a, P: PureFn, T: TurnFn, W: Watcher>(
     story: &Story,
     call: &External<'_>,
@@ -87,6 +89,7 @@ pub(crate) fn call_external<'a, P: PureFn, T: TurnFn, W: Watcher>(
         → let f = fields evaluating fresh stack.old.items output.now.page globals in
         (es : List Happening) × Grew T.log (log_of W.state) desk.old es desk.new
         × PerformsCall s desk.old.next (external_asks (b k.name) k.arguments k.conditional f) (rules.call_external s b k.name k.arguments k.conditional f) es (fields evaluating fresh stack.new.items output.now.page globals) result }
+    ensures refusals { StepStopsAtRefusal T.refusals desk.old desk.new result }
     ensures watchers { desk.new.watchers ≡ desk.old.watchers }
     ensures mark { stack_stood stack.new ≡ stack_stood stack.old }
 {
@@ -110,6 +113,7 @@ fn call_bound<'a, P: PureFn, T: TurnFn, W: Watcher>(
         → let f = fields evaluating fresh stack.old.items output.now.page globals in
         (es : List Happening) × Grew T.log (log_of W.state) desk.old es desk.new
         × PerformsCall s desk.old.next (binding_asks bound k.arguments f) (rules.call_bound s bound k.name k.arguments f) es (fields evaluating fresh stack.new.items output.now.page globals) result }
+    ensures refusals { StepStopsAtRefusal T.refusals desk.old desk.new result }
     ensures watchers { desk.new.watchers ≡ desk.old.watchers }
     ensures mark { stack_stood stack.new ≡ stack_stood stack.old }
 {
@@ -154,6 +158,7 @@ fn call_turn<'a, P, T: TurnFn, W: Watcher>(
         → let f = fields evaluating fresh stack.old.items output.now.page globals in
         (es : List Happening) × Grew T.log (log_of W.state) desk.old es desk.new
         × PerformsCall s desk.old.next (binding_asks turn k.arguments f) (rules.call_bound s turn k.name k.arguments f) es (fields evaluating fresh stack.new.items output.now.page globals) result }
+    ensures refusals { StepStopsAtRefusal T.refusals desk.old desk.new result }
     ensures watchers { desk.new.watchers ≡ desk.old.watchers }
     ensures mark { stack_stood stack.new ≡ stack_stood stack.old }
 {

@@ -272,7 +272,7 @@ fn end_function(
 ) -> Result<(), Fault>
     requires room { 1 ≤ threads_spare threads.old }
     ensures flow { (s : StoryTree) → let ts = map_threads (place_of s) threads.old.threads in let w = written stack.old output.old in
-        PassesAs (left_asks kind.Function (popped kind.Function (depth_of w) ts.thread)) (ended ts w) (map_threads (place_of s) threads.new.threads) (written stack.new output.new) result }
+        PassesAs (left_asks kind.Function (popped kind.Function (depth_of w) ts.thread) ts.thread.frame w) (ended ts w) (map_threads (place_of s) threads.new.threads) (written stack.new output.new) result }
     ensures threads_mark { threads_stood threads.new ≡ threads_stood threads.old }
     ensures stack_mark { stack_stood stack.new ≡ stack_stood stack.old }
     ensures output_mark { output_stood output.new ≡ output_stood output.old }
@@ -322,7 +322,7 @@ fn enter(threads: &mut Threads<Spot>, output: &mut Output, kind: CallKind) -> Re
 fn leave(threads: &mut Threads<Spot>, output: &mut Output, kind: FrameKind) -> Result<(), Fault>
     requires room { 1 ≤ threads_spare threads.old }
     ensures flow { (s : StoryTree) (values : List Data) → let ts = map_threads (place_of s) threads.old.threads in let w : Written = record { stack = values; page = output.old.page } in
-        PassesAs (left_asks kind (popped kind (depth_of w) ts.thread)) (left kind ts w) (map_threads (place_of s) threads.new.threads) (record { stack = values; page = output.new.page }) result }
+        PassesAs (left_asks kind (popped kind (depth_of w) ts.thread) ts.thread.frame w) (left kind ts w) (map_threads (place_of s) threads.new.threads) (record { stack = values; page = output.new.page }) result }
     ensures threads_mark { threads_stood threads.new ≡ threads_stood threads.old }
     ensures output_mark { output_stood output.new ≡ output_stood output.old }
     ensures spare { threads_spare threads.old ≤ threads_spare threads.new + 1 }

@@ -1,15 +1,15 @@
 //! The run of a command: steps to the stop, and the choices that are open there (docs/RUNNING.md, "Runs").
 
-ghost use Rattle.std.specs.Prelude.{◌≡◌, ◌≢◌, [], List, IfOk, OnErr, is_some};
+ghost use Rattle.std.specs.Prelude.{◌≡◌, ◌≢◌, [], List, IfOk, OnErr};
 ghost use Rattle.ink_check.specs.Words.{story_tree};
 ghost use Rattle.ink_host.specs.Desk.{Grew, bound_by};
 ghost use Rattle.ink_host.specs.Telling.{log_of};
 ghost use Rattle.ink_model.specs.Events.{Made, calls};
 ghost use Rattle.ink_model.specs.Tree.{StoryTree};
 ghost use Rattle.ink_model.specs.Turns.{open_choices};
-ghost use Rattle.ink_step.specs.Marks.{pressed, stood_of};
+ghost use Rattle.ink_step.specs.Marks.{keeps_mark, pressed, stood_of};
+ghost use Rattle.ink_step.specs.Refusals.{RunStopsAtRefusal};
 ghost use Rattle.ink_step.specs.Runs.{AreBound, RunsToStop};
-ghost use Rattle.ink_value.specs.Undo.{stack_stood};
 
 use crate::machine::Machine;
 use ink_check::Story;
@@ -30,7 +30,8 @@ impl Machine {
         desk: &mut Desk<P, T, W>,
     ) -> Result<(), Fault>
         ensures runs { let s = story_tree story.now in let b = bound_by P.meaning desk.old.functions in
-            (made : List Made) × Grew T.log (log_of W.state) desk.old (calls desk.old.next made) desk.new × RunsToStop s b (is_some (stack_stood self.old.flow.stack)) (pressed s self.new) (config_of s self.old) made (config_of s self.new) result × AreBound b made }
+            (made : List Made) × Grew T.log (log_of W.state) desk.old (calls desk.old.next made) desk.new × RunsToStop s b (keeps_mark (stood_of self.old)) (pressed s self.new) (config_of s self.old) made (config_of s self.new) result × AreBound b made }
+        ensures refusals { RunStopsAtRefusal T.refusals desk.old desk.new result }
         ensures watchers { desk.new.watchers ≡ desk.old.watchers }
         ensures start { start_of self.new ≡ start_of self.old }
         ensures aside { aside_in self.new ≡ aside_in self.old }

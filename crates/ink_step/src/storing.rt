@@ -152,8 +152,8 @@ pub(crate) fn assign<'a>(
     }
 }
 
-/// A temporary is set at once; a global is handed on, to be stored after flow has moved, which asks for memory. The one error is
-/// `OutOfMemory` for a refused request for memory, which is made only for a temporary that is not there, and leaves all as it was.
+/// A temporary is set at once; a global is handed on, to be stored after flow has moved. The one error is `OutOfMemory` for a
+/// refused request for memory, which is made only for a temporary that is not there, and leaves all as it was.
 #[inline(always)]
 fn store<'a>(
     threads: &mut Threads<Spot>,

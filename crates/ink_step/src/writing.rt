@@ -2,10 +2,11 @@
 
 ghost use Rattle.ink_out.specs.Undo.{output_stood};
 ghost use Rattle.ink_value.specs.Undo.{stack_spare, stack_stood};
-ghost use Rattle.std.specs.Prelude.{◌≡◌, ℕ, List, Bool, not, Option, if◌then◌else◌, length, ◌≤◌};
+ghost use Rattle.std.specs.Prelude.{◌≡◌, ◌&&◌, ℕ, List, Bool, false, not, is_ok, Option, if◌then◌else◌, length, ◌≤◌};
 ghost use Rattle.ink_model.specs.Asks.{has_bytes, has_room};
 ghost use Rattle.ink_model.specs.Effect.{is_fresh_at};
 ghost use Rattle.ink_model.specs.Memory.{output_asks};
+ghost use Rattle.ink_model.specs.Output.{writes_glue, writes_newline};
 ghost use Rattle.ink_model.specs.Stack.{popped};
 ghost use Rattle.ink_model.specs.Step.Evaluation.{output_value};
 ghost use Rattle.ink_model.specs.Step.Text.{write_text, write_newline, write_glue};
@@ -50,7 +51,7 @@ pub(crate) fn write_newline(
     evaluating: bool,
     fresh: Option<usize>,
 ) -> Result<(), Fault>
-    ensures effect { (globals : Values) → Changes (if evaluating then has_room stack.old.items else not (is_fresh_at fresh (length output.old.page.sections))) (write_newline (fields evaluating fresh stack.old.items output.old.page globals)) (fields evaluating fresh stack.new.items output.new.page globals) result }
+    ensures effect { (globals : Values) → Changes (if evaluating then has_room stack.old.items else not (is_fresh_at fresh (length output.old.page.sections)) && is_ok (writes_newline false output.old.page)) (write_newline (fields evaluating fresh stack.old.items output.old.page globals)) (fields evaluating fresh stack.new.items output.new.page globals) result }
     ensures stack_mark { stack_stood stack.new ≡ stack_stood stack.old }
     ensures output_mark { output_stood output.new ≡ output_stood output.old }
 {
@@ -66,7 +67,7 @@ pub(crate) fn write_newline(
 #[inline(never)]
 pub(crate) fn write_glue(output: &mut Output, evaluating: bool) -> Result<(), Fault>
     ensures effect { (fresh : Option ℕ) (stack : List Data) (globals : Values)
-        → Changes (not evaluating) (write_glue (fields evaluating fresh stack output.old.page globals)) (fields evaluating fresh stack output.new.page globals) result }
+        → Changes (not evaluating && is_ok (writes_glue output.old.page)) (write_glue (fields evaluating fresh stack output.old.page globals)) (fields evaluating fresh stack output.new.page globals) result }
     ensures mark { output_stood output.new ≡ output_stood output.old }
 {
     if evaluating {

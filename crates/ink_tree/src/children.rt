@@ -7,6 +7,9 @@ use std::cmp::Ordering;
 /// So many names have slots of their own.
 const MOST: usize = 0x8000_0000;
 
+/// So many slots there are at least, so that the few names of a small story seldom share one.
+const LEAST: usize = 1024;
+
 /// An odd number whose bits are without order: what is multiplied by it has in its upper half bits of all that it was.
 const SPREAD: usize = 0x9e37_79b9_7f4a_7c15;
 
@@ -129,7 +132,8 @@ fn note(numbers: &mut Vec<u32>, place: usize, number: usize) {
 
 // How many slots so many names have: four times as many or more, a power of two, so that a slot is found without a division.
 fn slots_for(count: usize) -> usize {
-    count.min(MOST).saturating_mul(4).next_power_of_two()
+    let slots = count.min(MOST).saturating_mul(4).next_power_of_two();
+    slots.max(LEAST)
 }
 
 // The slot of a container and a name, of so many. Names of one form, with a number each, are spread as any others.

@@ -4,7 +4,7 @@ use Rattle.ink_host.specs.Desk.{bound_by}
 use Rattle.ink_look.specs.LineEnds.{RunsLine}
 use Rattle.ink_look.specs.Words.{said, said_asks}
 use Rattle.ink_look.specs.declared.lines.LineEnd.TheVariants.{Fault}
-use Rattle.ink_look.proofs.LineEnding.{falls, says}
+use Rattle.ink_look.proofs.LineEnding.{falls, says, line_kept}
 use Rattle.ink_look.proofs.lines.line.Goals as goal
 use Rattle.ink_step.specs.Words.{config_of}
 
@@ -38,3 +38,7 @@ returns-in-Ok-clause-start g c = c.say.ensures.start ∙ c.in-Ok.ensures.start �
 
 pub returns-in-Err-clause-start : goal.returns-in-Err-clause-start
 returns-in-Err-clause-start g c = c.forget.ensures.start ∙ c.in-Err.ensures.start ∙ c.begin.ensures.start
+
+-- what is said calls nothing
+pub returns-in-Ok-clause-refusals : goal.returns-in-Ok-clause-refusals
+returns-in-Ok-clause-refusals g c = line_kept g.F.TurnFn.refusals c.args.desk.now c.find_line.new.desk c.say.result c.in-Ok.ensures.refusals

@@ -1,4 +1,4 @@
-use Rattle.std.proofs.Common.{◌≡◌, ◌∙◌, ◌+◌, ap, arith, refl, rules, subst, sym, Err}
+use Rattle.std.proofs.Common.{◌≡◌, ◌∙◌, ◌+◌, ap, arith, refl, rules, subst, sym, Err, inl}
 use Rattle.ink_check.specs.Words.{story_tree}
 use Rattle.ink_host.specs.Telling.{log_of}
 use Rattle.ink_look.specs.Looking.{waiting_after}
@@ -7,7 +7,9 @@ use Rattle.ink_look.proofs.Marks.{waits_as, waits_for}
 use Rattle.ink_look.proofs.Searches.{EndsLine, ran_back, ran_none, ran_on, ran_out, ran_past, ran_to, ran_to_cut, ran_to_fault, ran_to_stop}
 use Rattle.ink_look.proofs.looking.find_line.Goals as goal
 use Rattle.ink_look.proofs.looking.find_line.Goals.{in-Nothing, in-Newline}
+use Rattle.ink_step.proofs.Refusals.{keeps_all, keeps_then, run_stops}
 use Rattle.ink_step.specs.Marks.{config_back}
+use Rattle.ink_step.specs.Refusals.{RunStopsAtRefusal}
 use Rattle.ink_step.specs.Words.{config_of}
 
 pub loop-step-init : goal.loop-step-init
@@ -16,6 +18,7 @@ loop-step-init g c =
     record {
       ran = ran_none g.F.TurnFn.log (log_of g.O.Watcher.state) g.P.PureFn.meaning s c.args.desk.now (config_of s c.args.machine.now) (config_back s c.args.machine.now);
       watchers = refl;
+      refusals = keeps_all g.F.TurnFn.refusals c.args.desk.now;
       start = refl;
       aside = refl;
       waits = c.requires.unmarked;
@@ -30,11 +33,13 @@ loop-step-preserved g c =
     let ran = ran_on g.F.TurnFn.log (log_of g.O.Watcher.state) g.P.PureFn.meaning s c.args.desk.now (config_of s c.args.machine.now) c.loop-step._step c.loop-step.desk c.step_on.new.desk
     (config_back s c.loop-step.machine) (config_of s c.loop-step.machine) (config_back s c.step_on.new.machine) (config_of s c.step_on.new.machine) c.loop-step.waiting inv.ran l
     c.in_ok-step_on.ensures.steps in
+    let kept = keeps_then g.F.TurnFn.refusals c.args.desk.now c.loop-step.desk c.step_on.new.desk inv.refusals c.in_ok-step_on.ensures.refusals in
     elim c.match-branch-2.branch [
       | in-Nothing w ↦ record {
         ran = ran_past g.F.TurnFn.log (log_of g.O.Watcher.state) g.P.PureFn.meaning s c.args.desk.now (config_of s c.args.machine.now) (c.loop-step._step + 1) c.step_on.new.desk
             (config_back s c.step_on.new.machine) (config_of s c.step_on.new.machine) l _ w.in-Nothing.is w.waiting-is ran;
         watchers = c.in_ok-step_on.ensures.watchers ∙ inv.watchers;
+        refusals = kept;
         start = c.in_ok-step_on.ensures.start ∙ inv.start;
         aside = c.in_ok-step_on.ensures.aside ∙ inv.aside;
         waits = waits_for l _ c.step_on.new.machine (w.waiting-is ∙ ap waiting_after (sym w.in-Nothing.is)) c.in_ok-step_on.ensures.waits;
@@ -43,6 +48,7 @@ loop-step-preserved g c =
         ran = ran_to g.F.TurnFn.log (log_of g.O.Watcher.state) g.P.PureFn.meaning s c.args.desk.now (config_of s c.args.machine.now) (c.loop-step._step + 1) c.step_on.new.desk
             (config_back s c.step_on.new.machine) (config_of s c.step_on.new.machine) l w.in-Newline.newline _ w.in-Newline.is w.waiting-is ran;
         watchers = c.in_ok-step_on.ensures.watchers ∙ inv.watchers;
+        refusals = kept;
         start = c.in_ok-step_on.ensures.start ∙ inv.start;
         aside = c.in_ok-step_on.ensures.aside ∙ inv.aside;
         waits = waits_for l _ c.step_on.new.machine (w.waiting-is ∙ ap waiting_after (sym w.in-Newline.is)) c.in_ok-step_on.ensures.waits;
@@ -131,3 +137,22 @@ returns-clause-watchers g c = c.loop-step.invariant.watchers
 
 pub returns-clause-start : goal.returns-clause-start
 returns-clause-start g c = c.back-changes.ensures.start ∙ c.loop-step.invariant.start
+
+-- turn functions that were refused memory
+pub returns-in-Cut-clause-refusals : goal.returns-in-Cut-clause-refusals
+returns-in-Cut-clause-refusals g c = keeps_then g.F.TurnFn.refusals c.args.desk.now c.loop-step.desk c.step_on.new.desk c.loop-step.invariant.refusals c.in_ok-step_on.ensures.refusals
+
+pub returns-in-Stopped-clause-refusals : goal.returns-in-Stopped-clause-refusals
+returns-in-Stopped-clause-refusals g c = keeps_then g.F.TurnFn.refusals c.args.desk.now c.loop-step.desk c.step_on.new.desk c.loop-step.invariant.refusals c.in_ok-step_on.ensures.refusals
+
+pub returns-in_err-step_on-clause-refusals : goal.returns-in_err-step_on-clause-refusals
+returns-in_err-step_on-clause-refusals g c =
+    let is : c.from_residual.result ≡ Err c.in_err-step_on.field-0.0 = search rules in
+    subst (RunStopsAtRefusal g.F.TurnFn.refusals c.args.desk.now c.step_on.new.desk) (sym is)
+    (run_stops g.F.TurnFn.refusals c.args.desk.now c.loop-step.desk c.step_on.new.desk c.in_err-step_on.field-0.0 c.loop-step.invariant.refusals c.in_err-step_on.ensures.refusals)
+
+pub returns-in_default-clause-refusals : goal.returns-in_default-clause-refusals
+returns-in_default-clause-refusals g c = inl c.loop-step.invariant.refusals
+
+pub returns-clause-refusals : goal.returns-clause-refusals
+returns-clause-refusals g c = c.loop-step.invariant.refusals

@@ -8,6 +8,7 @@ use Rattle.ink_look.proofs.looking.look.Goals as goal
 use Rattle.ink_model.specs.Asks.{asks}
 use Rattle.ink_model.specs.Step.{step}
 use Rattle.ink_model.specs.declared.fault.Fault.TheVariants.{OutOfMemory}
+use Rattle.ink_step.proofs.Refusals.{kept_unless}
 use Rattle.ink_step.specs.Marks.{config_back, presses}
 use Rattle.ink_step.specs.Words.{config_of}
 use Rattle.ink_step.specs.declared.flow.StepEnd.TheVariants as ends
@@ -60,7 +61,7 @@ returns-in-Err-OutOfMemory-clause-steps g c =
     let new = config_of s c.step.new.self in
     let h = c.in-Err-OutOfMemory.ensures.step in
     let q = quiet_so s b c.args.desk.now.next (presses s c.args.machine.now c.step.new.self) (asks s b old) h.0 old new (step s b old) (Err c.in-Err-OutOfMemory.field-0) (Err OutOfMemory) (ap Err c.in-Err-OutOfMemory.field-0-is) h.2 in
-    (h.0, h.1, (q.0, (refl, q.1)))
+    (h.0, h.1, (q.0, (refl, q.1, q.2)))
 
 pub returns-in-Ok-WantsCall-clause-steps : goal.returns-in-Ok-WantsCall-clause-steps
 returns-in-Ok-WantsCall-clause-steps g c =
@@ -98,3 +99,9 @@ returns-in-Err-clause-steps g c =
             (c.cut-in-Err.ensures.config s ∙ back_stays s c.args.machine.now c.step.new.self c.requires.waits c.step.ensures.mark),
       ),
     )
+
+-- what is not OutOfMemory was no refusal of memory
+pub returns-in-Err-clause-refusals : goal.returns-in-Err-clause-refusals
+returns-in-Err-clause-refusals g c =
+    let other : c.in-Err.field-0 ≡ OutOfMemory → ⊥ = search rules in
+    kept_unless g.F.TurnFn.refusals c.args.desk.now c.step.new.desk c.step.result c.in-Err.field-0 c.in-Err.is other c.step.ensures.refusals

@@ -1,4 +1,4 @@
-use Rattle.std.proofs.Common.{◌≡◌, ◌∙◌, false, is_some, rules, subst, sym, Err}
+use Rattle.std.proofs.Common.{◌≡◌, ◌∙◌, false, rules, subst, sym, Err, inl}
 use Rattle.ink_check.specs.Words.{story_tree}
 use Rattle.ink_host.specs.Desk.{bound_by}
 use Rattle.ink_look.proofs.Comes.{comes_to, comes_to_fault, falls_after}
@@ -6,9 +6,10 @@ use Rattle.ink_look.proofs.running.through.Goals as goal
 use Rattle.ink_look.specs.Ends.{RunsThrough}
 use Rattle.ink_look.specs.Words.{said, said_asks}
 use Rattle.ink_model.specs.declared.fault.Fault.TheVariants.{OutOfMemory}
-use Rattle.ink_step.specs.Marks.{Stood, pressed}
+use Rattle.ink_step.specs.Marks.{Stood, keeps_mark, pressed}
 use Rattle.ink_step.proofs.Marks.{not_pressed}
 use Rattle.ink_step.specs.Runs.{RunFalls}
+use Rattle.ink_step.specs.Refusals.{RunStopsAtRefusal}
 use Rattle.ink_step.specs.Words.{config_of}
 
 pub returns-in_err-run-clause-runs : goal.returns-in_err-run-clause-runs
@@ -24,7 +25,7 @@ returns-in_err-run-clause-runs g c =
       subst (RunsThrough said said_asks s b old ran.0 new) (sym is)
           (comes_to_fault s b ran.0 old (config_of s c.begin.new.self) (c.begin.ensures.begun s) new c.in_err-run.field-0.0
           (subst (λ pressed. RunFalls s b false pressed (config_of s c.begin.new.self) ran.0 new.shared.globals c.in_err-run.field-0.0) (not_pressed s c.run.new.self (c.in_err-run.ensures.mark ∙ c.begin.ensures.mark))
-          (subst (λ (t : Stood). RunFalls s b (is_some t.stack) (pressed s c.run.new.self) (config_of s c.begin.new.self) ran.0 new.shared.globals c.in_err-run.field-0.0) c.begin.ensures.mark ran.2))),
+          (subst (λ (t : Stood). RunFalls s b (keeps_mark t) (pressed s c.run.new.self) (config_of s c.begin.new.self) ran.0 new.shared.globals c.in_err-run.field-0.0) c.begin.ensures.mark ran.2))),
     )
 
 pub returns-in_err-said-clause-runs : goal.returns-in_err-said-clause-runs
@@ -64,3 +65,14 @@ returns-in_err-run-clause-mark g c = c.in_err-run.ensures.mark ∙ c.begin.ensur
 
 pub returns-in_err-said-clause-mark : goal.returns-in_err-said-clause-mark
 returns-in_err-said-clause-mark g c = c.in_ok-run.ensures.mark ∙ c.begin.ensures.mark
+
+-- a turn function that was refused memory ended the run
+pub returns-in_err-run-clause-refusals : goal.returns-in_err-run-clause-refusals
+returns-in_err-run-clause-refusals g c =
+    let is : c.from_residual.result ≡ Err c.in_err-run.field-0.0 = search rules in
+    subst (RunStopsAtRefusal g.F.TurnFn.refusals c.args.desk.now c.run.new.desk) (sym is) c.in_err-run.ensures.refusals
+
+pub returns-in_err-said-clause-refusals : goal.returns-in_err-said-clause-refusals
+returns-in_err-said-clause-refusals g c =
+    let is : c.from_residual-in_err-said.result ≡ Err OutOfMemory = search rules in
+    subst (RunStopsAtRefusal g.F.TurnFn.refusals c.args.desk.now c.run.new.desk) (sym is) (inl c.in_ok-run.ensures.refusals)

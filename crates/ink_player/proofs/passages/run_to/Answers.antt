@@ -1,4 +1,4 @@
-use Rattle.std.proofs.Common.{◌≡◌, rules, subst, sym, Err}
+use Rattle.std.proofs.Common.{◌≡◌, rules, subst, sym, Err, inl}
 use Rattle.ink_check.specs.Words.{story_tree}
 use Rattle.ink_host.specs.Desk.{bound_by}
 use Rattle.ink_model.specs.Passage.{passage, passage_asks}
@@ -6,6 +6,7 @@ use Rattle.ink_model.specs.declared.fault.Fault.TheVariants.{OutOfMemory}
 use Rattle.ink_player.specs.Extents.{RunsBy}
 use Rattle.ink_player.proofs.Settling.{passes, passes_fault, passes_short}
 use Rattle.ink_player.proofs.passages.run_to.Goals as goal
+use Rattle.ink_step.specs.Refusals.{RunStopsAtRefusal}
 use Rattle.ink_step.specs.Words.{config_of}
 
 pub returns-in_err-said-clause-runs : goal.returns-in_err-said-clause-runs
@@ -34,3 +35,14 @@ returns-clause-runs g c =
     let b = bound_by g.P.PureFn.meaning c.args.desk.now.functions in
     let ran = c.in_ok-said.ensures.runs in
     (ran.0, ran.1, passes c.args.extent s b (config_of s c.args.machine.now) ran.0 (config_of s c.say.new.machine) _ _ ran.2 (c.in_ok-passage.ensures.passage s))
+
+-- what comes after the run calls nothing
+pub returns-in_err-said-clause-refusals : goal.returns-in_err-said-clause-refusals
+returns-in_err-said-clause-refusals g c =
+    let is : c.from_residual.result ≡ Err c.in_err-said.field-0.0 = search rules in
+    subst (RunStopsAtRefusal g.F.TurnFn.refusals c.args.desk.now c.say.new.desk) (sym is) c.in_err-said.ensures.refusals
+
+pub returns-in_err-passage-clause-refusals : goal.returns-in_err-passage-clause-refusals
+returns-in_err-passage-clause-refusals g c =
+    let is : c.from_residual-in_err-passage.result ≡ Err OutOfMemory = search rules in
+    subst (RunStopsAtRefusal g.F.TurnFn.refusals c.args.desk.now c.say.new.desk) (sym is) (inl c.in_ok-said.ensures.refusals)

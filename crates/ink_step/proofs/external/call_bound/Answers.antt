@@ -5,6 +5,7 @@ use Rattle.ink_host.specs.Telling.{log_of}
 use Rattle.ink_step.specs.Performs.{fields}
 use Rattle.ink_step.proofs.Asking.{none_called, pure_called, turn_called}
 use Rattle.ink_step.proofs.Calls.{pure_there}
+use Rattle.ink_step.proofs.Refusals.{keeps_all, stops_kept}
 use Rattle.ink_step.proofs.external.call_bound.Goals as goal
 
 pub returns-in-None-clause-call : goal.returns-in-None-clause-call
@@ -38,3 +39,10 @@ returns-in-Some-Pure-clause-call g c evaluating fresh globals =
       grew-none g.T.TurnFn.log (log_of g.W.Watcher.state) desk,
       pure_called g.P.PureFn.meaning desk.functions s call.name.now call.arguments false _ desk.next _ _ p.0 p.1 (c.ask_pure.ensures.effect p.0 p.1 s evaluating fresh c.args.output.now.page globals),
     )
+
+-- what is asked, or not bound, is not called
+pub returns-in-None-clause-refusals : goal.returns-in-None-clause-refusals
+returns-in-None-clause-refusals g c = stops_kept g.T.TurnFn.refusals c.args.desk.now c.args.desk.now c.fall_back.result (keeps_all g.T.TurnFn.refusals c.args.desk.now)
+
+pub returns-in-Some-Pure-clause-refusals : goal.returns-in-Some-Pure-clause-refusals
+returns-in-Some-Pure-clause-refusals g c = stops_kept g.T.TurnFn.refusals c.args.desk.now c.args.desk.now c.ask_pure.result (keeps_all g.T.TurnFn.refusals c.args.desk.now)

@@ -1,10 +1,11 @@
-use Rattle.std.proofs.Common.{◌≤◌, [], None, arith, false, length}
+use Rattle.std.proofs.Common.{◌≤◌, [], None, arith, false, length, inl}
 use Rattle.ink_check.specs.Words.{story_tree}
 use Rattle.ink_host.proofs.Laws.{grew-none}
 use Rattle.ink_host.specs.Desk.{bound_by}
 use Rattle.ink_host.specs.Telling.{log_of}
 use Rattle.ink_step.specs.Performs.{fields}
 use Rattle.ink_step.proofs.Calls.{condition_below, where_fault, where_unwanted, where_wanted}
+use Rattle.ink_step.proofs.Refusals.{keeps_all}
 use Rattle.ink_step.proofs.external.call_external.Goals as goal
 
 pub call_bound-requires : goal.call_bound-requires
@@ -55,3 +56,10 @@ returns-in-Err-clause-call g c evaluating fresh globals =
       grew-none g.T.TurnFn.log (log_of g.W.Watcher.state) desk,
       where_fault s desk.next o call.name.now call.arguments _ c.in-Err.fault new (c.in-Err.ensures.wanted evaluating fresh page globals),
     )
+
+-- nothing is called without a condition that is true
+pub returns-in-Ok-false-clause-refusals : goal.returns-in-Ok-false-clause-refusals
+returns-in-Ok-false-clause-refusals g c = keeps_all g.T.TurnFn.refusals c.args.desk.now
+
+pub returns-in-Err-clause-refusals : goal.returns-in-Err-clause-refusals
+returns-in-Err-clause-refusals g c = inl (keeps_all g.T.TurnFn.refusals c.args.desk.now)

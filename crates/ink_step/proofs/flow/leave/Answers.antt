@@ -1,4 +1,4 @@
-use Rattle.std.proofs.Common.{◌≡◌, ◌∙◌, ap, inl, inr, rules, Ok, Err}
+use Rattle.std.proofs.Common.{◌≡◌, ◌∙◌, ap, inl, inr, rules, Ok, Err, IfErr}
 use Rattle.ink_model.specs.Flow.{Written, depth_of}
 use Rattle.ink_model.specs.Frames.{map_threads}
 use Rattle.ink_model.specs.Memory.{Gives, leaving}
@@ -18,8 +18,9 @@ returns-in-Function-clause-flow c s values =
     let number : c.number-number.result ≡ old.thread.frame.enter = c.number-number.ensures ∙ ap (λ t. t.frame.enter) c.top.ensures in
     let writes : Gives (leaving c.leave.new.self.page c.leave.result) (ends_function old.thread.frame.enter w.page) = rw number at c.leave.ensures.page.0 in
     let pops_one : Changes (top_result (popped kind.Function (depth_of w) old.thread) old) old c.pop_frame.new.self.threads (Ok c.in_ok-pop_frame.field-0) = rw (c.in-Function.is, c.depth.ensures) at c.in_ok-pop_frame.ensures.threads in
-    rw c.in-Function.is (left_marked (map_threads f old) (map_threads f c.pop_frame.new.self.threads) _ _ _ c.in_ok-pop_frame.field-0 c.leave.result (pops f kind.Function (depth_of w) old c.pop_frame.new.self.threads (Ok c.in_ok-pop_frame.field-0) pops_one)
-    (gives_page w _ _ _ writes))
+    let limit : IfErr (ends_function old.thread.frame.enter w.page) (λ e. c.leave.result ≡ Err e) = rw number at c.leave.ensures.limit in
+    rw c.in-Function.is (left_marked (map_threads f old) (map_threads f c.pop_frame.new.self.threads) w _ _ c.in_ok-pop_frame.field-0 c.leave.result (pops f kind.Function (depth_of w) old c.pop_frame.new.self.threads (Ok c.in_ok-pop_frame.field-0) pops_one)
+    (gives_page w _ _ _ writes) limit)
 
 pub returns-in-Base-clause-flow : goal.returns-in-Base-clause-flow
 returns-in-Base-clause-flow c s values =

@@ -7,6 +7,7 @@ use Rattle.ink_player.specs.Words.{PlayerView, TellsWatchers, desk_of, is_empty,
 use Rattle.ink_step.specs.Words.{config_of, globals_of}
 use Rattle.ink_player.proofs.Tellings.{broken-as, goes-broken, goes-fault, goes-told, goes-untold, goes-where, none-left, run-none, stops, told-state, with_parts}
 use Rattle.ink_player.proofs.Standing.{aside-stays, free-stands, run-stands, stands-told}
+use Rattle.ink_player.proofs.Refusals.{broke, kept_with, none_called, replied}
 use Rattle.ink_player.proofs.player.Player.go_on.Goals as goal
 
 pub returns-in-Some-clause-does : goal.returns-in-Some-clause-does
@@ -76,3 +77,34 @@ invariant_of-self-in-Ok-tell_changed g c =
     stands-told s kept.story c.run_to.new.machine c.end_run.new.desk.events c.in-Ok-tell_changed.all c.end_run.new.broken p.broken (ap (λ d. is_empty d.events) c.end_run.ensures.desk) c.in_default.is c.end_run.ensures.broken c.in-Ok.ensures.mark
     (run-stands s kept.story before (free-stands s kept.story p.broken before c.in_default.is kept.fits) c.args.extent (bound_by g.P.PureFn.meaning p.desk.functions) runs.0 stopped.0 (config_of s c.run_to.new.machine) goes stopped.1 stopped.3)
     (aside-stays s kept.story p.machine c.run_to.new.machine c.in-Ok.ensures.aside kept.aside)
+
+-- ---- turn functions that were refused memory
+
+pub returns-in-Some-clause-refusals : goal.returns-in-Some-clause-refusals
+returns-in-Some-clause-refusals g c =
+    let p : PlayerView g.row.P.Denot g.row.F.Denot g.row.O.Denot = record { story = c.self.inside.story; desk = c.self.inside.desk; machine = c.self.inside.machine; broken = c.self.inside.broken } in
+    rw (sym c.self.view_is) (none_called g.F.TurnFn.refusals (desk_of p))
+
+pub returns-then-not-can_go_on-clause-refusals : goal.returns-then-not-can_go_on-clause-refusals
+returns-then-not-can_go_on-clause-refusals g c =
+    let p : PlayerView g.row.P.Denot g.row.F.Denot g.row.O.Denot = record { story = c.self.inside.story; desk = c.self.inside.desk; machine = c.self.inside.machine; broken = c.self.inside.broken } in
+    rw (sym c.self.view_is) (none_called g.F.TurnFn.refusals (desk_of p))
+
+pub returns-in-Ok-tell_changed-clause-refusals : goal.returns-in-Ok-tell_changed-clause-refusals
+returns-in-Ok-tell_changed-clause-refusals g c =
+    let p : PlayerView g.row.P.Denot g.row.F.Denot g.row.O.Denot = record { story = c.self.inside.story; desk = c.self.inside.desk; machine = c.self.inside.machine; broken = c.self.inside.broken } in
+    let same = ap (λ d. d.functions) c.end_run.ensures.desk ∙ c.in-Ok-tell_changed.ensures.functions in
+    rw (sym c.self.view_is) (replied g.F.TurnFn.refusals (desk_of p) c.end_run.new.desk (reply_of c.end_run.result) (kept_with g.F.TurnFn.refusals (desk_of p) c.run_to.new.desk c.end_run.new.desk same c.in-Ok.ensures.refusals))
+
+pub returns-in-Err-tell_changed-clause-refusals : goal.returns-in-Err-tell_changed-clause-refusals
+returns-in-Err-tell_changed-clause-refusals g c =
+    let p : PlayerView g.row.P.Denot g.row.F.Denot g.row.O.Denot = record { story = c.self.inside.story; desk = c.self.inside.desk; machine = c.self.inside.machine; broken = c.self.inside.broken } in
+    let broken = c.break_by-in-Err-tell_changed in
+    let same = ap (λ d. d.functions) broken.ensures.desk ∙ c.in-Err-tell_changed.ensures.functions in
+    rw (sym c.self.view_is) (replied g.F.TurnFn.refusals (desk_of p) broken.new.desk (reply_of_halt broken.result) (kept_with g.F.TurnFn.refusals (desk_of p) c.run_to.new.desk broken.new.desk same c.in-Ok.ensures.refusals))
+
+pub returns-in-Err-clause-refusals : goal.returns-in-Err-clause-refusals
+returns-in-Err-clause-refusals g c =
+    let p : PlayerView g.row.P.Denot g.row.F.Denot g.row.O.Denot = record { story = c.self.inside.story; desk = c.self.inside.desk; machine = c.self.inside.machine; broken = c.self.inside.broken } in
+    let mid = c.run_to.new.desk in
+    rw (sym c.self.view_is) (broke g.F.TurnFn.refusals (desk_of p) mid c.break_by.new.desk c.in-Err.fault mid.events (reply_of_halt c.break_by.result) c.break_by.ensures.reply (ap (λ d. d.functions) c.break_by.ensures.desk) c.in-Err.ensures.refusals)

@@ -1,4 +1,4 @@
-use Rattle.std.proofs.Common.{◌&&◌, ◌||◌, ◌∙◌, ◌≡◌, Err, Ok, is_some, option_map, rules, subst, sym}
+use Rattle.std.proofs.Common.{◌&&◌, ◌||◌, ◌∙◌, ◌≡◌, Err, Ok, ap, is_some, option_map, rules, subst, sym, true}
 use Rattle.ink_check.specs.Words.{story_tree}
 use Rattle.ink_model.specs.Asks.{acting_asks}
 use Rattle.ink_model.specs.Effect.{context_of, fields_of}
@@ -8,17 +8,18 @@ use Rattle.ink_model.specs.Move.{move}
 use Rattle.ink_model.specs.MoveMemory.{move_asks}
 use Rattle.ink_model.specs.Step.{acted, effect}
 use Rattle.ink_model.specs.Tree.{leaf}
-use Rattle.ink_step.specs.Marks.{pressed, takes_there}
+use Rattle.ink_step.specs.Marks.{Stood, keeps_mark, pressed, stood_of, takes_there}
 use Rattle.ink_step.specs.Steps.{StepEnds}
 use Rattle.ink_step.specs.declared.flow.StepEnd.TheVariants as ends
 use Rattle.ink_step.specs.Words.{config_of}
-use Rattle.ink_step.specs.Performs.{Performs}
+use Rattle.ink_step.specs.Performs.{AsksToStore, Performs}
 use Rattle.ink_step.proofs.Finished.{finished}
 use Rattle.ink_step.proofs.Follows.{ends_any, ends_unperformed, ends_where, or_apart, or_first, or_where, or_whole}
+use Rattle.ink_step.proofs.Plain.{performs_marked, stores_marked}
 use Rattle.ink_step.proofs.Stopping.{broke}
 use Rattle.ink_step.proofs.machine.Machine.act.Goals as goal
 use Rattle.ink_tree.specs.Nodes.{place_of}
-use Rattle.ink_value.specs.Undo.{stack_stood}
+use Rattle.ink_vars.specs.Undo.{globals_stood}
 
 pub returns-in_err-perform-clause-ends : goal.returns-in_err-perform-clause-ends
 returns-in_err-perform-clause-ends c =
@@ -27,7 +28,7 @@ returns-in_err-perform-clause-ends c =
     let old = c.args.self.now in
     let before = config_of s old in
     let found = option_map (λ x. leaf x.now) c.args.found in
-    let takes = takes_there found && is_some (stack_stood old.flow.stack) in
+    let takes = takes_there found && keeps_mark (stood_of old) in
     let there = pressed s c.perform.new.self in
     let asking = content_asks s p found (context_of before) (fields_of before) in
     let e = effect s p found (context_of before) (fields_of before) in
@@ -38,7 +39,7 @@ returns-in_err-perform-clause-ends c =
     subst (λ r. StepEnds ((takes || there) || acting) (acted s e before) before.shared.globals new r) (sym is)
     (ends_where (takes || acting) ((takes || there) || acting) (or_where takes (takes || there) acting (or_first takes there)) (acted s e before) before.shared.globals new (Err f)
     (subst (λ b. StepEnds b (acted s e before) before.shared.globals new (Err f)) (or_whole takes asking (move_asks s e before) (following_asks s (move s e before)))
-    (broke s _ (move s e before) _ new _ (ends_unperformed s (takes || asking) _ e _ before new before.shared.globals _ c.in_err-perform.ensures.effect c.in_err-perform.ensures.globals))))
+    (broke s _ (move s e before) _ new _ (ends_unperformed s (takes || asking) _ e _ before new before.shared.globals _ (performs_marked s old found asking e _ _ c.in_err-perform.ensures.effect) c.in_err-perform.ensures.globals))))
 
 pub returns-clause-ends : goal.returns-clause-ends
 returns-clause-ends c =
@@ -49,13 +50,13 @@ returns-clause-ends c =
     let mid = c.perform.new.self in
     let new = c.go_to_next.new.self in
     let found = option_map (λ x. leaf x.now) c.args.found in
-    let takes = takes_there found && is_some (stack_stood old.flow.stack) in
+    let takes = takes_there found && keeps_mark (stood_of old) in
     let asking = content_asks s p found (context_of before) (fields_of before) in
     let e = effect s p found (context_of before) (fields_of before) in
     let performs = c.in_ok-perform.ensures in
     ends_any _ ((takes || pressed s new) || acting_asks s asking e before) (acted s e before) before.shared.globals (config_of s new) ends.Went
     (finished s old mid new performs.safe performs.counts performs.turn performs.globals c.go_to_next.ensures.globals (takes || asking) e
-    (subst (λ t. Performs s (takes || asking) e (fields_of (config_of s mid)) (Ok t)) c.in-Some.ensures.0 performs.effect) performs.threads performs.choices c.go_to_next.ensures.ends)
+    (subst (λ t. Performs s (takes || asking) e (fields_of (config_of s mid)) (Ok t)) c.in-Some.ensures.0 (performs_marked s old found asking e _ _ performs.effect)) performs.threads performs.choices c.go_to_next.ensures.ends)
 
 pub returns-in_default-clause-ends : goal.returns-in_default-clause-ends
 returns-in_default-clause-ends c =
@@ -65,11 +66,14 @@ returns-in_default-clause-ends c =
     let before = config_of s old in
     let new = config_of s c.finish.new.self in
     let found = option_map (λ x. leaf x.now) c.args.found in
-    let takes = takes_there found && is_some (stack_stood old.flow.stack) in
+    let takes = takes_there found && keeps_mark (stood_of old) in
     let performs = c.in_ok-perform.ensures in
     let asking = content_asks s p found (context_of before) (fields_of before) in
     let e = effect s p found (context_of before) (fields_of before) in
-    let ends = c.finish.ensures.ends old (takes || asking) e performs.effect performs.threads performs.choices performs.safe performs.counts performs.turn performs.globals in
+    let stores : is_some (globals_stood c.perform.new.self.shared.globals) ≡ true → AsksToStore e (takes || asking) =
+    λ marked. stores_marked s old found asking p (context_of before) (fields_of before) (sym (ap (λ (t : Stood). is_some t.globals) performs.mark) ∙ marked) in
+    let ends =
+    c.finish.ensures.ends old (takes || asking) e (performs_marked s old found asking e _ _ performs.effect) performs.threads performs.choices performs.safe performs.counts performs.turn performs.globals stores in
     subst (λ b. StepEnds b (acted s e before) before.shared.globals new c.finish.result) (or_apart takes (pressed s c.finish.new.self) asking (move_asks s e before) (following_asks s (move s e before))) ends
 
 -- ---- what stays

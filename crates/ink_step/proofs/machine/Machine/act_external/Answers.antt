@@ -10,7 +10,9 @@ use Rattle.ink_step.specs.Marks.{pressed}
 use Rattle.ink_step.specs.Steps.{StepMakes}
 use Rattle.ink_step.specs.Words.{config_of}
 use Rattle.ink_step.proofs.Makes.{external_call, makes_broken, makes_ended}
-use Rattle.ink_step.proofs.Plain.{keeps_plain, offers_plain}
+use Rattle.ink_step.proofs.Plain.{keeps_plain, offers_plain, stores_plain}
+use Rattle.ink_step.specs.Refusals.{StepStopsAtRefusal}
+use Rattle.ink_step.proofs.Refusals.{stops_kept}
 use Rattle.ink_step.proofs.machine.Machine.act_external.Goals as goal
 
 pub returns-in_err-transfer-clause-step : goal.returns-in_err-transfer-clause-step
@@ -48,6 +50,14 @@ returns-clause-step g c =
       called.0,
       called.1,
       makes_ended s b desk.next (pressed s c.finish.new.self) asking before (config_of s c.finish.new.self) _ before.shared.globals _ c.finish.result
-          (λ asks e plain performs. c.finish.ensures.ends old asks e performs (keeps_plain s e old.flow.threads.threads old.flow.threads.threads plain refl) (offers_plain s e old.flow.choices.items plain) refl refl refl refl)
+          (λ asks e plain performs. c.finish.ensures.ends old asks e performs (keeps_plain s e old.flow.threads.threads old.flow.threads.threads plain refl) (offers_plain s e old.flow.choices.items plain) refl refl refl refl (λ marked. stores_plain e asks plain))
           e called.0 (external_call b s k.name k.arguments k.conditional f) called.2,
     )
+
+pub returns-in_err-transfer-clause-refusals : goal.returns-in_err-transfer-clause-refusals
+returns-in_err-transfer-clause-refusals g c =
+    let is : c.from_residual.result ≡ Err c.in_err-transfer.field-0.0 = search rules in
+    subst (StepStopsAtRefusal g.T.TurnFn.refusals c.args.desk.now c.call_external.new.desk) (sym is) c.in_err-transfer.ensures.refusals
+
+pub returns-clause-refusals : goal.returns-clause-refusals
+returns-clause-refusals g c = stops_kept g.T.TurnFn.refusals c.args.desk.now c.call_external.new.desk c.finish.result c.in_ok-transfer.ensures.refusals

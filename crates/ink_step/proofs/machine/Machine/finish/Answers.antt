@@ -1,10 +1,10 @@
-use Rattle.std.proofs.Common.{◌≡◌, ◌||◌, rules, sym, subst, true, Ok, Err}
+use Rattle.std.proofs.Common.{◌≡◌, ◌∙◌, ◌||◌, ap, is_some, rules, sym, subst, true, Ok, Err}
 use Rattle.ink_check.specs.Words.{story_tree}
 use Rattle.ink_model.specs.Choosing.{following, following_asks}
 use Rattle.ink_model.specs.Effect.{fields_of}
 use Rattle.ink_model.specs.Move.{move}
 use Rattle.ink_model.specs.MoveMemory.{move_asks}
-use Rattle.ink_step.specs.Marks.{pressed}
+use Rattle.ink_step.specs.Marks.{Stood, pressed}
 use Rattle.ink_step.specs.Performs.{storing_in, unstored}
 use Rattle.ink_step.specs.Steps.{StepEnds}
 use Rattle.ink_step.specs.Words.{config_of}
@@ -13,7 +13,7 @@ use Rattle.ink_step.proofs.Stopping.{broke_storing, ends_stored}
 use Rattle.ink_step.proofs.machine.Machine.finish.Goals as goal
 
 pub returns-in_err-end-clause-ends : goal.returns-in_err-end-clause-ends
-returns-in_err-end-clause-ends c old asking e performs keeps offers safely counted turned kept =
+returns-in_err-end-clause-ends c old asking e performs keeps offers safely counted turned kept stores =
     let s = story_tree c.args.story.now in
     let mid = c.args.self.now in
     let m = pressed s c.go.new.self in
@@ -34,7 +34,7 @@ returns-in_err-end-clause-ends c old asking e performs keeps offers safely count
     (subst (λ vs. StepEnds (m || ((asking || move_asks s e before) || following_asks s (move s e before))) (following s (move s e before)) vs new (Err f)) kept whole)
 
 pub returns-clause-ends : goal.returns-clause-ends
-returns-clause-ends c old asking e performs keeps offers safely counted turned same =
+returns-clause-ends c old asking e performs keeps offers safely counted turned same stores =
     let s = story_tree c.args.story.now in
     let mid = c.args.self.now in
     let m = pressed s c.store.new.self in
@@ -50,7 +50,7 @@ returns-clause-ends c old asking e performs keeps offers safely counted turned s
     let by_parts = subst (λ b. StepEnds b (following s o) mid.shared.globals.rows (config_of s flowed) (Ok c.in_ok-end.end)) (sym (or_assoc m (asking || move_asks s e during) (following_asks s o))) flows in
     let kept = c.in_ok-end.ensures.globals in
     let stores = c.store.ensures.stored s asking whole e (fields_of during) (following s o) allows (sym kept) performs
-    (subst (λ vs. StepEnds whole (following s o) vs (config_of s flowed) (Ok c.in_ok-end.end)) (sym kept) by_parts) in
+    (λ marked. stores (sym (ap (λ (t : Stood). is_some t.globals) c.in_ok-end.ensures.mark) ∙ marked)) (subst (λ vs. StepEnds whole (following s o) vs (config_of s flowed) (Ok c.in_ok-end.end)) (sym kept) by_parts) in
     let stored = ends_stored s mid.shared.globals.rows during (m || (asking || move_asks s e during)) e mid.shared.globals.rows new c.store.result
     (subst (λ vs. StepEnds whole (storing_in e (following s o)) vs new c.store.result) kept stores) in
     let together = subst (λ b. StepEnds (b || following_asks s (move s e during)) (following s (move s e during)) mid.shared.globals.rows new c.store.result) (sym (or_assoc m asking (move_asks s e during))) stored in

@@ -1,20 +1,20 @@
-use Rattle.std.proofs.Common.{◌≡◌, ◌∙◌, ◌&&◌, ◌||◌, ap, is_some, option_map, refl, rules, subst, sym, [], Err, Ok}
+use Rattle.std.proofs.Common.{◌≡◌, ◌∙◌, ◌&&◌, ◌||◌, ap, option_map, refl, rules, subst, sym, [], Err, Ok}
 use Rattle.ink_check.specs.Words.{story_tree}
 use Rattle.ink_host.proofs.Laws.{grew-none}
 use Rattle.ink_host.specs.Desk.{bound_by}
 use Rattle.ink_host.specs.Telling.{log_of}
 use Rattle.ink_model.specs.Asks.{asks}
 use Rattle.ink_model.specs.Step.{step}
-use Rattle.ink_step.specs.Marks.{Stood, pressed, presses, takes_first}
+use Rattle.ink_step.specs.Marks.{Stood, keeps_mark, pressed, presses, stood_of, takes_first}
 use Rattle.ink_step.specs.Steps.{StepMakes, ended}
 use Rattle.ink_step.specs.Words.{config_of}
 use Rattle.ink_step.specs.declared.flow.StepEnd.TheVariants as ends
 use Rattle.ink_step.proofs.Follows.{or_first, or_more, ready_alike, stands_still}
 use Rattle.ink_step.proofs.Makes.{makes_short}
 use Rattle.ink_step.proofs.Marks.{step_pressed}
+use Rattle.ink_step.proofs.Refusals.{keeps_all, stops_kept}
 use Rattle.ink_step.proofs.machine.Machine.forward.Goals as goal
 use Rattle.ink_tree.specs.Nodes.{place_of}
-use Rattle.ink_value.specs.Undo.{stack_stood}
 
 pub returns-in_default-clause-step : goal.returns-in_default-clause-step
 returns-in_default-clause-step g c =
@@ -57,9 +57,16 @@ returns-clause-step g c =
     let new = config_of s c.forward_from.new.self in
     let step_by = c.forward_from.ensures.step in
     let left = c.forward_from.new.self in
-    let made = subst (λ (t : Stood). StepMakes s b desk.next ((takes_first s (config_of s ready) && is_some t.stack) || pressed s left) (asks s b (config_of s ready)) (step s b (config_of s ready)) step_by.0 ready.shared.globals.rows new (ended c.forward_from.result)) c.make_step_room.ensures.mark step_by.2 in
+    let made = subst (λ (t : Stood). StepMakes s b desk.next ((takes_first s (config_of s ready) && keeps_mark t) || pressed s left) (asks s b (config_of s ready)) (step s b (config_of s ready)) step_by.0 ready.shared.globals.rows new (ended c.forward_from.result)) c.make_step_room.ensures.mark step_by.2 in
     let same : config_of s ready ≡ before = ready_alike s machine ready c.make_step_room.ensures.same c.make_step_room.ensures.threads c.make_step_room.ensures.items in (
       step_by.0,
       step_by.1,
-      subst (λ d. StepMakes s b desk.next ((takes_first s d && is_some (stack_stood machine.flow.stack)) || pressed s left) (asks s b d) (step s b d) step_by.0 d.shared.globals new (ended c.forward_from.result)) same made,
+      subst (λ d. StepMakes s b desk.next ((takes_first s d && keeps_mark (stood_of machine)) || pressed s left) (asks s b d) (step s b d) step_by.0 d.shared.globals new (ended c.forward_from.result)) same made,
     )
+
+-- nothing is called before there is room
+pub returns-in_default-clause-refusals : goal.returns-in_default-clause-refusals
+returns-in_default-clause-refusals g c = keeps_all g.T.TurnFn.refusals c.args.desk.now
+
+pub returns-in_err-make_step_room-clause-refusals : goal.returns-in_err-make_step_room-clause-refusals
+returns-in_err-make_step_room-clause-refusals g c = stops_kept g.T.TurnFn.refusals c.args.desk.now c.args.desk.now _ (keeps_all g.T.TurnFn.refusals c.args.desk.now)

@@ -9,6 +9,7 @@ use Rattle.ink_step.specs.Marks.{presses}
 use Rattle.ink_step.specs.Steps.{Passes, StepMakes, ended}
 use Rattle.ink_step.specs.Words.{config_of}
 use Rattle.ink_step.proofs.Makes.{makes_plainly, makes_went}
+use Rattle.ink_step.proofs.Refusals.{keeps_all, stops_kept}
 use Rattle.ink_step.proofs.machine.Machine.forward_from.Goals as goal
 
 pub returns-in_err-end-clause-step : goal.returns-in_err-end-clause-step
@@ -40,3 +41,10 @@ returns-in-Some-clause-step g c =
       subst (λ on. StepMakes s b desk.next (presses s c.args.self.now c.pass.new.self) (asks s b before) (step s b before) [] before.shared.globals new (ended (Ok on))) (sym c.went.ensures)
           (makes_went s b desk.next (presses s c.args.self.now c.pass.new.self) [] before.shared.globals new (asks s b before) (step s b before) end (makes_plainly s b desk.next (presses s c.args.self.now c.pass.new.self) (asks s b before) (step s b before) before.shared.globals new (Ok end) passes)),
     )
+
+-- most steps call nothing
+pub returns-in_err-end-clause-refusals : goal.returns-in_err-end-clause-refusals
+returns-in_err-end-clause-refusals g c = stops_kept g.T.TurnFn.refusals c.args.desk.now c.args.desk.now _ (keeps_all g.T.TurnFn.refusals c.args.desk.now)
+
+pub returns-in-Some-clause-refusals : goal.returns-in-Some-clause-refusals
+returns-in-Some-clause-refusals g c = keeps_all g.T.TurnFn.refusals c.args.desk.now

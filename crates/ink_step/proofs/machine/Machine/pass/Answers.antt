@@ -7,7 +7,7 @@ use Rattle.ink_model.specs.Step.{acted, effect, step}
 use Rattle.ink_model.specs.Step.Host.{call_at}
 use Rattle.ink_model.specs.Tree.{at, leaf}
 use Rattle.ink_model.specs.declared.fault.Fault.{Fault}
-use Rattle.ink_step.specs.Marks.{pressed, presses, takes_there}
+use Rattle.ink_step.specs.Marks.{keeps_mark, pressed, presses, stood_of, takes_there}
 use Rattle.ink_step.specs.Steps.{EndsPlainly, Passes, StepEnds}
 use Rattle.ink_step.specs.Words.{config_of}
 use Rattle.ink_step.specs.declared.flow.StepEnd.{StepEnd}
@@ -17,7 +17,6 @@ use Rattle.ink_step.proofs.machine.Machine.pass.Goals as goal
 use Rattle.ink_step.proofs.machine.Machine.pass.Goals.{In-Some}
 use Rattle.ink_tree.specs.Kept.{leaf_in}
 use Rattle.ink_tree.specs.Nodes.{place_of}
-use Rattle.ink_value.specs.Undo.{stack_stood}
 
 -- what stands there
 stands : (c : In-Some) → let s = story_tree c.args.story.now in leaf_in (at s (place_of s c.args.place)) ≡ Some c.in-Some.content.now
@@ -28,14 +27,14 @@ stands c =
 passes_there : (c : In-Some) (b : Bound) (new : Machine) (r : Result StepEnd Fault) → let s = story_tree c.args.story.now in let old = c.args.self.now in let before = config_of s old in let p = place_of s c.args.place in
     let found = Some (leaf c.in-Some.content.now) in let e = effect s p found (context_of before) (fields_of before) in
     is_some (call_at found) ≡ false
-    → StepEnds (((takes_there found && is_some (stack_stood old.flow.stack)) || pressed s new) || acting_asks s (content_asks s p found (context_of before) (fields_of before)) e before) (acted s e before) old.shared.globals.rows (config_of s new) r
+    → StepEnds (((takes_there found && keeps_mark (stood_of old)) || pressed s new) || acting_asks s (content_asks s p found (context_of before) (fields_of before)) e before) (acted s e before) old.shared.globals.rows (config_of s new) r
     → EndsPlainly (presses s old new || asks s b before) (step s b before) old.shared.globals.rows (config_of s new) r
 passes_there c b new r other acts =
     let s = story_tree c.args.story.now in
     let old = c.args.self.now in
     let l = c.in-Some.content.now in
     let here = stands c in
-    let marked = is_some (stack_stood old.flow.stack) in
+    let marked = keeps_mark (stood_of old) in
     subst (λ t. EndsPlainly (((t && marked) || pressed s new) || asks s b (config_of s old)) (step s b (config_of s old)) old.shared.globals.rows (config_of s new) r)
     (sym (takes_here s (config_of s old) (place_of s c.args.place) l (ap (option_map (place_of s)) c.requires.at) here))
     (passed s b old new c.args.place l c.requires.at here (not_external _ other) ((takes_there (Some (leaf l)) && marked) || pressed s new) r acts)

@@ -1,24 +1,26 @@
-use Rattle.std.proofs.Common.{◌≡◌, ◌∙◌, ap, arith, is_some, refl, rules, subst, sym, Err}
+use Rattle.std.proofs.Common.{◌≡◌, ◌∙◌, ap, arith, refl, rules, subst, sym, Err, inl}
 use Rattle.ink_host.specs.Telling.{log_of}
 use Rattle.ink_check.specs.Words.{story_tree}
-use Rattle.ink_step.specs.Marks.{Stood, pressed}
+use Rattle.ink_step.specs.Marks.{keeps_mark, pressed, stood_of}
 use Rattle.ink_step.specs.Words.{config_of}
 use Rattle.ink_step.proofs.Runnings.{EndsRun, ran_none, ran_on, ran_out, ran_to_fault, ran_to_stop}
+use Rattle.ink_step.specs.Refusals.{RunStopsAtRefusal}
+use Rattle.ink_step.proofs.Refusals.{keeps_all, keeps_then, run_stops}
 use Rattle.ink_step.proofs.machine.Machine.run.Goals as goal
-use Rattle.ink_value.specs.Undo.{stack_stood}
 
 pub loop-step-init : goal.loop-step-init
 loop-step-init g c =
     let s = story_tree c.args.story.now in
-    record { ran = ran_none g.T.TurnFn.log (log_of g.W.Watcher.state) g.P.PureFn.meaning s c.args.desk.now (config_of s c.args.self.now); watchers = refl; start = refl; aside = refl; mark = refl }
+    record { ran = ran_none g.T.TurnFn.log (log_of g.W.Watcher.state) g.P.PureFn.meaning s c.args.desk.now (config_of s c.args.self.now); watchers = refl; refusals = keeps_all g.T.TurnFn.refusals c.args.desk.now; start = refl; aside = refl; mark = refl }
 
 pub loop-step-preserved : goal.loop-step-preserved
 loop-step-preserved g c =
     let s = story_tree c.args.story.now in
     record {
-      ran = ran_on g.T.TurnFn.log (log_of g.W.Watcher.state) g.P.PureFn.meaning s c.args.desk.now (config_of s c.args.self.now) c.loop-step._step _ _ _ (ap (λ (t : Stood). is_some t.stack) c.loop-step.invariant.mark) c.loop-step.desk c.forward.new.desk
+      ran = ran_on g.T.TurnFn.log (log_of g.W.Watcher.state) g.P.PureFn.meaning s c.args.desk.now (config_of s c.args.self.now) c.loop-step._step _ _ _ (ap keeps_mark c.loop-step.invariant.mark) c.loop-step.desk c.forward.new.desk
           (config_of s c.loop-step.self) (config_of s c.forward.new.self) c.loop-step.invariant.ran _ c.if-not-branch.false c.in_ok-forward.ensures.step;
       watchers = c.in_ok-forward.ensures.watchers ∙ c.loop-step.invariant.watchers;
+      refusals = keeps_then g.T.TurnFn.refusals c.args.desk.now c.loop-step.desk c.forward.new.desk c.loop-step.invariant.refusals c.in_ok-forward.ensures.refusals;
       start = c.in_ok-forward.ensures.start ∙ c.loop-step.invariant.start;
       aside = c.in_ok-forward.ensures.aside ∙ c.loop-step.invariant.aside;
       mark = c.in_ok-forward.ensures.mark ∙ c.loop-step.invariant.mark;
@@ -27,8 +29,8 @@ loop-step-preserved g c =
 pub returns-then-not-branch-clause-runs : goal.returns-then-not-branch-clause-runs
 returns-then-not-branch-clause-runs g c =
     let s = story_tree c.args.story.now in
-    ran_to_stop g.T.TurnFn.log (log_of g.W.Watcher.state) g.P.PureFn.meaning s c.args.desk.now (config_of s c.args.self.now) c.loop-step._step _ _ _ (ap (λ (t : Stood). is_some t.stack) c.loop-step.invariant.mark) c.loop-step.desk c.forward.new.desk
-    (config_of s c.loop-step.self) (config_of s c.forward.new.self) c.loop-step.invariant.ran _ (omega arith) c.if-not-branch.true c.in_ok-forward.ensures.step (is_some (stack_stood c.args.self.now.flow.stack)) (pressed s c.forward.new.self)
+    ran_to_stop g.T.TurnFn.log (log_of g.W.Watcher.state) g.P.PureFn.meaning s c.args.desk.now (config_of s c.args.self.now) c.loop-step._step _ _ _ (ap keeps_mark c.loop-step.invariant.mark) c.loop-step.desk c.forward.new.desk
+    (config_of s c.loop-step.self) (config_of s c.forward.new.self) c.loop-step.invariant.ran _ (omega arith) c.if-not-branch.true c.in_ok-forward.ensures.step (keeps_mark (stood_of c.args.self.now)) (pressed s c.forward.new.self)
 
 pub returns-then-not-branch-clause-watchers : goal.returns-then-not-branch-clause-watchers
 returns-then-not-branch-clause-watchers g c = c.in_ok-forward.ensures.watchers ∙ c.loop-step.invariant.watchers
@@ -40,8 +42,8 @@ pub returns-in_err-forward-clause-runs : goal.returns-in_err-forward-clause-runs
 returns-in_err-forward-clause-runs g c =
     let s = story_tree c.args.story.now in
     let is : c.from_residual.result ≡ Err c.in_err-forward.field-0.0 = search rules in
-    subst (λ r. EndsRun g.T.TurnFn.log (log_of g.W.Watcher.state) g.P.PureFn.meaning s c.args.desk.now (config_of s c.args.self.now) (is_some (stack_stood c.args.self.now.flow.stack)) (pressed s c.forward.new.self) c.forward.new.desk (config_of s c.forward.new.self) r) (sym is)
-    (ran_to_fault g.T.TurnFn.log (log_of g.W.Watcher.state) g.P.PureFn.meaning s c.args.desk.now (config_of s c.args.self.now) c.loop-step._step _ _ _ (ap (λ (t : Stood). is_some t.stack) c.loop-step.invariant.mark) c.loop-step.desk c.forward.new.desk
+    subst (λ r. EndsRun g.T.TurnFn.log (log_of g.W.Watcher.state) g.P.PureFn.meaning s c.args.desk.now (config_of s c.args.self.now) (keeps_mark (stood_of c.args.self.now)) (pressed s c.forward.new.self) c.forward.new.desk (config_of s c.forward.new.self) r) (sym is)
+    (ran_to_fault g.T.TurnFn.log (log_of g.W.Watcher.state) g.P.PureFn.meaning s c.args.desk.now (config_of s c.args.self.now) c.loop-step._step _ _ _ (ap keeps_mark c.loop-step.invariant.mark) c.loop-step.desk c.forward.new.desk
     (config_of s c.loop-step.self) (config_of s c.forward.new.self) c.loop-step.invariant.ran _ (omega arith) c.in_err-forward.ensures.step)
 
 pub returns-in_err-forward-clause-watchers : goal.returns-in_err-forward-clause-watchers
@@ -53,7 +55,7 @@ returns-in_err-forward-clause-start g c = c.in_err-forward.ensures.start ∙ c.l
 pub returns-clause-runs : goal.returns-clause-runs
 returns-clause-runs g c =
     let s = story_tree c.args.story.now in
-    ran_out g.T.TurnFn.log (log_of g.W.Watcher.state) g.P.PureFn.meaning s c.args.desk.now (config_of s c.args.self.now) (is_some (stack_stood c.args.self.now.flow.stack)) (pressed s c.loop-step.self) c.loop-step._step c.loop-step.desk (config_of s c.loop-step.self) (omega arith) c.loop-step.invariant.ran
+    ran_out g.T.TurnFn.log (log_of g.W.Watcher.state) g.P.PureFn.meaning s c.args.desk.now (config_of s c.args.self.now) (keeps_mark (stood_of c.args.self.now)) (pressed s c.loop-step.self) c.loop-step._step c.loop-step.desk (config_of s c.loop-step.self) (omega arith) c.loop-step.invariant.ran
 
 pub returns-clause-watchers : goal.returns-clause-watchers
 returns-clause-watchers g c = c.loop-step.invariant.watchers
@@ -69,3 +71,15 @@ returns-in_err-forward-clause-mark g c = c.in_err-forward.ensures.mark ∙ c.loo
 
 pub returns-clause-mark : goal.returns-clause-mark
 returns-clause-mark g c = c.loop-step.invariant.mark
+
+pub returns-then-not-branch-clause-refusals : goal.returns-then-not-branch-clause-refusals
+returns-then-not-branch-clause-refusals g c = keeps_then g.T.TurnFn.refusals c.args.desk.now c.loop-step.desk c.forward.new.desk c.loop-step.invariant.refusals c.in_ok-forward.ensures.refusals
+
+pub returns-in_err-forward-clause-refusals : goal.returns-in_err-forward-clause-refusals
+returns-in_err-forward-clause-refusals g c =
+    let is : c.from_residual.result ≡ Err c.in_err-forward.field-0.0 = search rules in
+    subst (RunStopsAtRefusal g.T.TurnFn.refusals c.args.desk.now c.forward.new.desk) (sym is)
+    (run_stops g.T.TurnFn.refusals c.args.desk.now c.loop-step.desk c.forward.new.desk c.in_err-forward.field-0.0 c.loop-step.invariant.refusals c.in_err-forward.ensures.refusals)
+
+pub returns-clause-refusals : goal.returns-clause-refusals
+returns-clause-refusals g c = inl c.loop-step.invariant.refusals

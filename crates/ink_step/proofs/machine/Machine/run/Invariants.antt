@@ -2,6 +2,7 @@ use Rattle.std.proofs.Common.{◌≡◌}
 use Rattle.ink_host.specs.Telling.{log_of}
 use Rattle.ink_check.specs.Words.{story_tree}
 use Rattle.ink_step.specs.Marks.{stood_of}
+use Rattle.ink_step.specs.Refusals.{KeepsRefusals}
 use Rattle.ink_step.specs.Words.{aside_in, config_of, start_of}
 use Rattle.ink_step.proofs.Runnings.{Ran}
 use Rattle.ink_step.proofs.machine.Machine.run.Given as goal
@@ -13,6 +14,7 @@ invariant-loop-step g l =
     record {
       ran : Ran g.T.TurnFn.log (log_of g.W.Watcher.state) g.P.PureFn.meaning s l.initial.desk (config_of s l.initial.self) l._step l.desk (config_of s l.self);
       watchers : l.desk.watchers ≡ l.initial.desk.watchers;
+      refusals : KeepsRefusals g.T.TurnFn.refusals l.initial.desk l.desk;
       start : start_of l.self ≡ start_of l.initial.self;
       aside : aside_in l.self ≡ aside_in l.initial.self;
       mark : stood_of l.self ≡ stood_of l.initial.self;

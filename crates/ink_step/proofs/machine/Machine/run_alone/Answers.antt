@@ -1,6 +1,6 @@
-use Rattle.std.proofs.Common.{◌∙◌, ap, is_some}
+use Rattle.std.proofs.Common.{◌∙◌, ap}
 use Rattle.ink_check.specs.Words.{story_tree}
-use Rattle.ink_step.specs.Marks.{Stood}
+use Rattle.ink_step.specs.Marks.{keeps_mark}
 use Rattle.ink_step.specs.Words.{config_of}
 use Rattle.ink_step.proofs.Marks.{not_pressed}
 use Rattle.ink_step.proofs.Runnings.{runs_alone_at}
@@ -9,4 +9,4 @@ use Rattle.ink_step.proofs.machine.Machine.run_alone.Goals as goal
 pub returns-clause-runs : goal.returns-clause-runs
 returns-clause-runs c =
     let s = story_tree c.args.story.now in
-    runs_alone_at _ _ _ s _ _ c.new-desk.result c.run-outcome.new.desk (config_of s c.args.self.now) (config_of s c.run-outcome.new.self) c.run-outcome.result c.new-desk.ensures (ap (λ (t : Stood). is_some t.stack) c.requires.unmarked) (not_pressed s c.run-outcome.new.self (c.run-outcome.ensures.mark ∙ c.requires.unmarked)) c.run-outcome.ensures.runs
+    runs_alone_at _ _ _ s _ _ c.new-desk.result c.run-outcome.new.desk (config_of s c.args.self.now) (config_of s c.run-outcome.new.self) c.run-outcome.result c.new-desk.ensures (ap keeps_mark c.requires.unmarked) (not_pressed s c.run-outcome.new.self (c.run-outcome.ensures.mark ∙ c.requires.unmarked)) c.run-outcome.ensures.runs

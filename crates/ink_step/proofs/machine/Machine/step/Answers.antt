@@ -11,6 +11,7 @@ use Rattle.ink_step.specs.Words.{config_of}
 use Rattle.ink_step.specs.declared.flow.StepEnd.TheVariants as ends
 use Rattle.ink_step.proofs.Makes.{said}
 use Rattle.ink_step.proofs.machine.Machine.step.Given as given
+use Rattle.ink_step.proofs.Refusals.{keeps_all}
 use Rattle.ink_step.proofs.machine.Machine.step.Goals as goal
 use Rattle.ink_step.proofs.machine.Machine.step.Goals.{After-forward, else-quiet-via-then-quiet+else-wants_call, else-quiet-via-else-quiet}
 
@@ -33,3 +34,7 @@ returns-then-wants_call-clause-step g c =
       subst (λ q. Steps q s b desk.next (presses s c.args.self.now c.args.self.now) (asks s b before) (step s b before) [] before.shared.globals before before (Ok ends.WantsCall)) (sym c.if-quiet.true)
           (said s b desk.next (presses s c.args.self.now c.args.self.now) (asks s b before) (step s b before) before.shared.globals before (sym c.wants_call.ensures ∙ c.if-wants_call.true)),
     )
+
+-- a step that wants a call makes none
+pub returns-then-wants_call-clause-refusals : goal.returns-then-wants_call-clause-refusals
+returns-then-wants_call-clause-refusals g c = keeps_all g.T.TurnFn.refusals c.args.desk.now

@@ -1,4 +1,4 @@
-use Rattle.std.proofs.Common.{◌≡◌, ◌∙◌, ◌&&◌, ◌||◌, List, Bool, Option, Some, None, Result, ap, is_some, option_map, rules, subst, sym, true, refl, [], Err}
+use Rattle.std.proofs.Common.{◌≡◌, ◌∙◌, ◌&&◌, ◌||◌, List, Bool, Option, Some, None, Result, ap, option_map, rules, subst, sym, true, refl, [], Err}
 use Rattle.ink_check.specs.Words.{story_tree}
 use Rattle.ink_host.proofs.Laws.{grew-none}
 use Rattle.ink_host.specs.Desk.{bound_by}
@@ -12,7 +12,7 @@ use Rattle.ink_model.specs.Tree.{at, leaf}
 use Rattle.ink_model.specs.declared.fault.Fault.{Fault}
 use Rattle.ink_model.specs.declared.host.Event.{Event}
 use Rattle.ink_step.specs.External.{call_of}
-use Rattle.ink_step.specs.Marks.{counts_lack, pressed, presses, takes_first, takes_there}
+use Rattle.ink_step.specs.Marks.{counts_lack, keeps_mark, pressed, presses, stood_of, takes_first, takes_there}
 use Rattle.ink_step.specs.Steps.{StepMakes}
 use Rattle.ink_step.specs.Words.{config_of}
 use Rattle.ink_step.specs.declared.flow.StepEnd.{StepEnd}
@@ -21,11 +21,11 @@ use Rattle.ink_step.proofs.Landed.{Performing, ends_outside, ends_performed, per
 use Rattle.ink_step.proofs.Makes.{found_leaves, makes_more, makes_short, makes_where}
 use Rattle.ink_step.proofs.Marks.{pressed_counts, takes_alike, takes_at}
 use Rattle.ink_step.proofs.machine.Machine.step_from.Given as given
+use Rattle.ink_step.proofs.Refusals.{keeps_all, stops_kept}
 use Rattle.ink_step.proofs.machine.Machine.step_from.Goals as goal
 use Rattle.ink_step.proofs.machine.Machine.step_from.Goals.{In_ok-here}
 use Rattle.ink_tree.specs.Kept.{leaf_in}
 use Rattle.ink_tree.specs.Nodes.{place_of}
-use Rattle.ink_value.specs.Undo.{stack_stood}
 
 -- what is performed inside is what the step comes to
 goes_in : (g : given.Over) (c : In_ok-here g) → let s = story_tree c.args.story.now in let desk = c.args.desk.now in let b = bound_by g.P.PureFn.meaning desk.functions in let before = config_of s c.args.self.now in
@@ -110,11 +110,18 @@ returns-in-None-clause-step g c =
     let left = c.act.new.self in
     let found = option_map (λ x. leaf x.now) c.in_ok-here.found in
     let at = (goal.at.returns-in-None-clause-step g c).In_ok-here in
-    let marked : is_some (stack_stood inside.flow.stack) ≡ is_some (stack_stood machine.flow.stack) = ap (λ v. is_some (stack_stood v)) c.in_ok-here.ensures.stack in
-    let takes : ((takes_there found && is_some (stack_stood inside.flow.stack)) || pressed s left) ≡ presses s machine left =
-    ap (λ k. (takes_there found && k) || pressed s left) marked ∙ ap (λ t. (t && is_some (stack_stood machine.flow.stack)) || pressed s left) (sym (takes_inside g at)) in (
+    let marked : keeps_mark (stood_of inside) ≡ keeps_mark (stood_of machine) = ap keeps_mark c.go_in.ensures.mark in
+    let takes : ((takes_there found && keeps_mark (stood_of inside)) || pressed s left) ≡ presses s machine left =
+    ap (λ k. (takes_there found && k) || pressed s left) marked ∙ ap (λ t. (t && keeps_mark (stood_of machine)) || pressed s left) (sym (takes_inside g at)) in (
       [],
       grew-none g.T.TurnFn.log (log_of g.W.Watcher.state) c.args.desk.now,
       subst (λ short. StepMakes s b c.args.desk.now.next short (asks s b before) (step s b before) [] before.shared.globals (config_of s left) c.act.result) takes
-          (goes_in g at None (sym c.external_in.ensures ∙ ap (option_map call_of) c.in-None.is) ((takes_there found && is_some (stack_stood inside.flow.stack)) || pressed s left) [] (config_of s left) c.act.result (refl, c.act.ensures.ends)),
+          (goes_in g at None (sym c.external_in.ensures ∙ ap (option_map call_of) c.in-None.is) ((takes_there found && keeps_mark (stood_of inside)) || pressed s left) [] (config_of s left) c.act.result (refl, c.act.ensures.ends)),
     )
+
+-- nothing is called on the way in, nor by another content
+pub returns-in_err-here-clause-refusals : goal.returns-in_err-here-clause-refusals
+returns-in_err-here-clause-refusals g c = stops_kept g.T.TurnFn.refusals c.args.desk.now c.args.desk.now _ (keeps_all g.T.TurnFn.refusals c.args.desk.now)
+
+pub returns-in-None-clause-refusals : goal.returns-in-None-clause-refusals
+returns-in-None-clause-refusals g c = stops_kept g.T.TurnFn.refusals c.args.desk.now c.args.desk.now c.act.result (keeps_all g.T.TurnFn.refusals c.args.desk.now)
