@@ -1,5 +1,5 @@
 -- The index of the current flow, at which alone nothing stands.
-use Rattle.std.proofs.Common.{◌≡◌, ◌∙◌, ◌+◌, ◌-◌, ◌<◌, ◌≤◌, ◌⊎◌, inl, inr, ◌++◌, eq-or-lt_of_le, subst, true≢false, ap, arith, refl, sym, ℕ, zero, suc, List, [], ◌∷◌, Bool, true, false, is_none, is_some, IfSome, length, map, option_and_then, if◌then◌else◌, Option, Some, None, String, Global, bytes_eq, string_bytes, slice_get, get_or, position}
+use Rattle.std.proofs.Common.{◌≡◌, ◌∙◌, ◌+◌, ◌-◌, ◌<◌, ◌≤◌, ◌⊎◌, inl, inr, ◌++◌, eq-or-lt_of_le, subst, true≢false, ap, arith, refl, sym, ℕ, zero, suc, List, [], ◌∷◌, Bool, true, false, IfSome, length, if◌then◌else◌, Option, Some, None, String, Global, bytes_eq, string_bytes, slice_get, get_or, position}
 use Rattle.std.proofs.lemmas.Bool.{cond_both}
 use Rattle.std.proofs.lemmas.List.Quantifiers.{position-Some}
 use Rattle.std.proofs.lemmas.Slice.Eq.{bytes_eq-Decides}
@@ -10,7 +10,7 @@ use Rattle.ink_flows.specs.Words.{CurrentAt, NamedAt, part_at, parts_of, rows_of
 use Rattle.ink_flows.specs.declared.flow.Flow.{Flow}
 use Rattle.ink_flows.proofs.Laws.{same_name}
 use Rattle.ink_flows.proofs.Mapped.{holes_seen}
-use Rattle.ink_model.specs.Flows.{AsideOf, begins_with_default, current_name, default_flow, filled, holes, one_flow}
+use Rattle.ink_model.specs.Flows.{AsideOf, begins_with_default, current_name, default_flow, filled, holes}
 use Rattle.ink_model.specs.Named.{at, each, put, without}
 
 module _ {F : Type 0} where

@@ -1,5 +1,5 @@
 -- The index at which nothing stands, looked for from the first on.
-use Rattle.std.proofs.Common.{◌≡◌, ◌∙◌, ◌+◌, ap, arith, refl, subst, true, false, ℕ, zero, suc, List, [], ◌∷◌, is_some, unwrap_or, Option, Some, None, String, Global}
+use Rattle.std.proofs.Common.{◌≡◌, ◌∙◌, ◌+◌, ap, arith, refl, subst, true, false, ℕ, suc, List, [], ◌∷◌, is_some, unwrap_or, Option, Some, None, String, Global}
 use Rattle.std.specs.Option.{option_map}
 use Rattle.ink_flows.specs.Words.{CurrentAt, hole_in, parts_of, rows_of, shown_rows}
 use Rattle.ink_flows.specs.declared.flow.Flow.{Flow}

@@ -67,7 +67,7 @@ RunsToLine s b start made new (Err f) = LineFalls s b start made new.shared.glob
 
 -- ---- turn functions that were refused memory
 
--- A line ends where a turn function is refused memory: it is not called again, and neither is another.
+-- A line ends with OutOfMemory where a turn function was refused memory: one at the most was, and once.
 abbrev pub LineStopsAtRefusal : {P T W : Type 0} → (T → ℕ) → DeskView P T W → DeskView P T W → LineEnd → Type 0
 LineStopsAtRefusal refusals old new (line_end.Line said) = KeepsRefusals refusals old new
 LineStopsAtRefusal refusals old new (line_end.Stopped said) = KeepsRefusals refusals old new

@@ -2,7 +2,7 @@
 use Rattle.std.specs.Prelude.{◌≡◌, ◌⊎◌, ℕ, List, [], true, MatchBool, bytes_eq, is_none, Option, Some, None, Result, Ok, Err}
 use Rattle.ink_model.specs.Answer.{Reply, Acts, Refuses}
 use Rattle.ink_model.specs.Changed.{FailsAllocation, Keeps}
-use Rattle.ink_model.specs.Configuration.{Configuration, FlowOf}
+use Rattle.ink_model.specs.Configuration.{FlowOf}
 use Rattle.ink_model.specs.Flows.{Game, default_flow, has_room, in_flow, is_flow_name, without_flow}
 use Rattle.ink_model.specs.Named.{at, names}
 use Rattle.ink_model.specs.State.{State, Condition, Ready, Broken, in_game}

@@ -1,6 +1,6 @@
 -- Where flow asks for memory on its way from a content: calls push frames, marks and void are written where functions end, and
 -- a landing may be the first visit of a container (docs/RUNNING.md, "Out of memory"; docs/FRAMES.md).
-use Rattle.std.specs.Prelude.{ℕ, List, [], ◌∷◌, Bool, true, false, not, ◌||◌, ◌&&◌, nat_eq, nat_lt, if◌then◌else◌, Option, Some, None, is_some, option_and_then, Result, Ok, Err, is_ok}
+use Rattle.std.specs.Prelude.{List, [], ◌∷◌, Bool, true, false, not, ◌||◌, ◌&&◌, nat_eq, nat_lt, if◌then◌else◌, Option, Some, None, is_some, option_and_then, Result, Ok, Err, is_ok}
 use Rattle.ink_model.specs.Configuration.{Configuration, with_choices}
 use Rattle.ink_model.specs.Effect.{Effect, Moves, Stores, Offers, Lands, Calls, Returns, Forks, Done, Ends, Fails, with_fields, with_thread}
 use Rattle.ink_model.specs.Counts.{CountsOf}

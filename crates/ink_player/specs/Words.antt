@@ -120,8 +120,7 @@ module _ {P F O : Type 0} where
     pub tells : let n = later old.next (calls old.next made) in TellsOnce state n cs (all_told reply) saw old.watchers new.watchers
         ⊎ ((reply ≡ Breaks OutOfMemory es) × TellsOnce state n cs None saw old.watchers new.watchers)
 
-  -- A command that runs ends where a turn function is refused memory, and breaks the player: it is not called again, and neither is
-  -- another.
+  -- A command that runs breaks the player with OutOfMemory where a turn function was refused memory: one at the most was, and once.
   abbrev pub CommandStopsAtRefusal : (F → ℕ) → DeskView P F O → DeskView P F O → Reply → Type 0
   CommandStopsAtRefusal refusals old new (Breaks f events) = StopsAtRefusal refusals old new (f ≡ OutOfMemory)
   CommandStopsAtRefusal refusals old new reply = KeepsRefusals refusals old new

@@ -144,9 +144,9 @@ impl<P: PureFn, F: TurnFn, O: Watcher> Player<P, F, O> {
     /// stop. What lies past the newline is left for the next command: nothing that was found there is kept, and no turn function
     /// was called there. Refused with `Broken` after a fault, and with `CannotContinue` where flow has stopped; nothing has changed
     /// then. A fault breaks the player: that of a step that faulted with no newline open, `OutOfSteps` after 1,000,000 steps without
-    /// one, and `OutOfMemory` where memory was refused to a step, to a look past a newline, to the passage, or to a watcher that is
-    /// told: then the line stands, and all others are told. What happened with the objects of the host is among the answer's
-    /// events, also after a fault, which tells no watcher (docs/HOST.md).
+    /// one, and `OutOfMemory` where memory was refused to a step, to a look past a newline at a step that calls no turn function, to
+    /// the passage, or to a watcher that is told: then the line stands, and all others are told. What happened with the objects of
+    /// the host is among the answer's events, also after a fault, which tells no watcher (docs/HOST.md).
     pub fn continue_line(&mut self) -> Result<Passage, Halt>
         ensures does { (es : List Happening) × Continue (story_of self.old) (bindings P.meaning (desk_of self.old)) es (state_of self.old) (reply_of result) (state_of self.new)
             × DealtByRun F.log O.state (told_from (desk_of self.old) (state_of self.old) (globals_of (state_of self.new).condition)) (desk_of self.old) es (reply_of result) (desk_of self.new) }

@@ -20,7 +20,6 @@ use Rattle.ink_model.specs.declared.value.Value.{Value}
 use Rattle.ink_step.specs.Performs.{Changes, Keeps, Performs, fields}
 use Rattle.ink_step.specs.Words.{Rest, seen_by}
 use Rattle.ink_step.specs.declared.transfer.Transfer.{Transfer}
-use Rattle.ink_step.specs.declared.transfer.Transfer.TheVariants as transfer
 use Rattle.ink_step.proofs.Effects.{operated, performs_where, short}
 use Rattle.ink_step.proofs.Follows.{or_first, or_more}
 use Rattle.ink_step.proofs.Places.{assign_renamed, declare_renamed, left_as, read_renamed}

@@ -23,7 +23,7 @@ module _ {P T W : Type 0} (refusals : T → ℕ) where
   abbrev pub StopsAtRefusal : DeskView P T W → DeskView P T W → Type 0 → Type 0
   StopsAtRefusal old new ended = KeepsRefusals old new ⊎ (ended × RefusedOnce old new)
 
-  -- A run ends where a turn function is refused memory, with OutOfMemory: it is not called again, and neither is another.
+  -- A run ends with OutOfMemory where a turn function was refused memory: one at the most was, and once.
   abbrev pub RunStopsAtRefusal : {A : Type 0} → DeskView P T W → DeskView P T W → Result A Fault → Type 0
   RunStopsAtRefusal old new (Ok a) = KeepsRefusals old new
   RunStopsAtRefusal old new (Err f) = StopsAtRefusal old new (f ≡ OutOfMemory)

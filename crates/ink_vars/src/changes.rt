@@ -70,7 +70,7 @@ impl Changes {
     }
 
     /// Notes what the global of a name is, which may have a number, where it was not noted since the moment; called before it is
-    /// put. There is a slot then for each global, also after that. The one error is a refused request for memory, which is made only
+    /// put. After that there is a slot for each global, the new one too. The one error is a refused request for memory, which is made only
     /// for the first note of a global, and leaves all as it was.
     pub(crate) fn note(
         &mut self,

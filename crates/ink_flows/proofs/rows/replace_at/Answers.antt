@@ -1,4 +1,4 @@
-use Rattle.std.proofs.Common.{◌∙◌, sym}
+use Rattle.std.proofs.Common.{sym}
 use Rattle.ink_flows.proofs.Current.{beyond}
 use Rattle.ink_flows.proofs.rows.replace_at.Goals as goal
 

@@ -1,4 +1,4 @@
-use Rattle.std.proofs.Common.{◌≡◌, ◌∙◌, ap, bytes_eq, sym}
+use Rattle.std.proofs.Common.{◌∙◌, ap, bytes_eq, sym}
 use Rattle.std.specs.Option.{option_map}
 use Rattle.ink_host.proofs.Entries.{removed}
 use Rattle.ink_model.specs.Flows.{current_name}

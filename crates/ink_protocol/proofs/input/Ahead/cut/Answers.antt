@@ -1,4 +1,4 @@
-use Rattle.std.proofs.Common.{◌≡◌, ◌-◌, length, take, ap, arith}
+use Rattle.std.proofs.Common.{◌≡◌, length, take, ap, arith}
 use Rattle.std.proofs.lemmas.List.{take_all}
 use Rattle.ink_protocol.proofs.Reading.{as_slice, cuts_all, cuts_newline}
 use Rattle.ink_protocol.proofs.input.Ahead.cut.Goals as goal
