@@ -1,11 +1,11 @@
 -- The numbers of names, where one is added.
-use Rattle.std.proofs.Common.{◌≡◌, ◌∙◌, ◌<◌, ℕ, zero, suc, Bool, true, false, bytes_eq, if◌then◌else◌, List, [], ◌∷◌, ◌++◌, Option, None, Some, String, Global, ap, arith, cond, is_some, length, option_map, refl, slice_get, slice_index_or, string_bytes, sym}
-use Rattle.std.specs.BTreeMap.{BTreeMap, get_by_text}
+use Rattle.std.proofs.Common.{◌≡◌, ◌∙◌, ◌<◌, ℕ, zero, suc, Bool, true, false, bytes_eq, if◌then◌else◌, List, [], ◌∷◌, ◌++◌, Option, None, Some, String, Global, ap, arith, inl, inr, is_some, length, option_map, refl, slice_get, slice_index_or, string_bytes, sym}
+use Rattle.std.proofs.lemmas.Bool.{cases_Bool}
 use Rattle.std.proofs.lemmas.Slice.Eq.{bytes_eq-Decides}
-use Rattle.ink_names.specs.Names.{Differ, Finds, names_of, number_of, without_last}
+use Rattle.ink_names.specs.Names.{Differ, names_of, number_of, without_last}
 
 -- the number of a name behind others, where it is not among them
-abbrev last : Bool → ℕ → Option ℕ → Option ℕ
+abbrev pub last : Bool → ℕ → Option ℕ → Option ℕ
 last is n o = if is_some o then o else if is then Some n else None
 
 later : (is : Bool) (n : ℕ) (o : Option ℕ) → option_map suc (last is n o) ≡ last is (suc n) (option_map suc o)
@@ -13,7 +13,7 @@ later true n None = refl
 later false n None = refl
 later is n (Some i) = refl
 
-number_pushed : (names : List (List ℕ)) (name q : List ℕ) → number_of (names ++ name ∷ []) q ≡ last (bytes_eq q name) (length names) (number_of names q)
+pub number_pushed : (names : List (List ℕ)) (name q : List ℕ) → number_of (names ++ name ∷ []) q ≡ last (bytes_eq q name) (length names) (number_of names q)
 number_pushed [] name q = refl
 number_pushed (n ∷ ns) name q = by (bytes_eq q n) (number_pushed ns name q)
   where
@@ -22,12 +22,14 @@ number_pushed (n ∷ ns) name q = by (bytes_eq q n) (number_pushed ns name q)
     by true h = refl
     by false h = ap (option_map suc) h ∙ later (bytes_eq q name) (length ns) (number_of ns q)
 
--- a name that is not among them, and not the one behind
-pub unlisted : (names : List (List ℕ)) (name q : List ℕ) → number_of names q ≡ None → bytes_eq q name ≡ false → number_of (names ++ name ∷ []) q ≡ None
-unlisted names name q none unlike =
-    number_pushed names name q ∙ ap (last (bytes_eq q name) (length names)) none ∙ ap (λ b. if b then Some (length names) else None) unlike
+-- a name keeps its number where one comes behind, and the one behind has the last
+pub still : (names : List (List ℕ)) (name q : List ℕ) (i : ℕ) → number_of names q ≡ Some i → number_of (names ++ name ∷ []) q ≡ Some i
+still names name q i its = number_pushed names name q ∙ ap (last (bytes_eq q name) (length names)) its
 
-other : (a b : List ℕ) → bytes_eq a b ≡ false → bytes_eq b a ≡ false
+pub number_behind : (names : List (List ℕ)) (name : List ℕ) → number_of names name ≡ None → number_of (names ++ name ∷ []) name ≡ Some (length names)
+number_behind names name absent = number_pushed names name name ∙ ap (last (bytes_eq name name) (length names)) absent ∙ ap (λ b. last b (length names) None) ((bytes_eq-Decides name name).1 refl)
+
+pub other : (a b : List ℕ) → bytes_eq a b ≡ false → bytes_eq b a ≡ false
 other a b h = by (bytes_eq b a) refl
   where
     by : (t : Bool) → bytes_eq b a ≡ t → t ≡ false
@@ -57,22 +59,6 @@ differ_pushed (n ∷ ns) name absent (here, there) = (
   differ_pushed ns name (absent_tail n ns name absent) there,
 )
 
-pub finds_pushed : (m n : BTreeMap (String Global) ℕ) (names : List (List ℕ)) (name : List ℕ) → number_of names name ≡ None → Finds m names
-    → ((q : List ℕ) → get_by_text n q ≡ cond (bytes_eq name q) (Some (length names)) (get_by_text m q)) → Finds n (names ++ name ∷ [])
-finds_pushed m n names name absent finds is q =
-    is q ∙ ap (cond (bytes_eq name q) (Some (length names))) (finds q) ∙ by (bytes_eq name q) refl ∙ sym (number_pushed names name q)
-  where
-    at : (o : Option ℕ) → o ≡ last false (length names) o
-    at None = refl
-    at (Some i) = refl
-
-    by : (b : Bool) → bytes_eq name q ≡ b → cond b (Some (length names)) (number_of names q) ≡ last (bytes_eq q name) (length names) (number_of names q)
-    by true e =
-        let same : name ≡ q = (bytes_eq-Decides name q).0 e in
-        sym (ap (λ b. last b (length names) (number_of names q)) ((bytes_eq-Decides q name).1 (sym same))
-        ∙ ap (last true (length names)) (ap (number_of names) (sym same) ∙ absent))
-    by false e = at (number_of names q) ∙ sym (ap (λ b. last b (length names) (number_of names q)) (other name q e))
-
 -- ---- the last one
 
 pub last_away : (names : List (List ℕ)) (name : List ℕ) → without_last (names ++ name ∷ []) ≡ names
@@ -83,9 +69,6 @@ last_away (n ∷ m ∷ ns) name = ap (λ rest. n ∷ rest) (last_away (m ∷ ns)
 present : (b : Bool) (n : ℕ) (o : Option ℕ) → last b n o ≡ None → o ≡ None
 present b n None h = refl
 present b n (Some i) h = absurd (cc)
-
-pub unlisted_before : (names : List (List ℕ)) (name q : List ℕ) → number_of (names ++ name ∷ []) q ≡ None → number_of names q ≡ None
-unlisted_before names name q none = present (bytes_eq q name) (length names) (number_of names q) (sym (number_pushed names name q) ∙ none)
 
 -- what differs without the last, and where the last is not among the others
 pub differ_popped : (names : List (List ℕ)) (name : List ℕ) → Differ (names ++ name ∷ []) → Differ names × (number_of names name ≡ None)
@@ -102,31 +85,9 @@ differ_popped (n ∷ ns) name (here, there) =
     apart true n None h = absurd (cc)
     apart true n (Some i) h = absurd (cc)
 
-pub finds_popped : (m n : BTreeMap (String Global) ℕ) (names : List (List ℕ)) (name : List ℕ) → number_of names name ≡ None → Finds m (names ++ name ∷ [])
-    → ((q : List ℕ) → get_by_text n q ≡ cond (bytes_eq name q) None (get_by_text m q)) → Finds n names
-finds_popped m n names name absent finds is q =
-    is q ∙ ap (cond (bytes_eq name q) None) (finds q ∙ number_pushed names name q) ∙ by (bytes_eq name q) refl
-  where
-    at : (o : Option ℕ) → last false (length names) o ≡ o
-    at None = refl
-    at (Some i) = refl
-
-    by : (b : Bool) → bytes_eq name q ≡ b → cond b None (last (bytes_eq q name) (length names) (number_of names q)) ≡ number_of names q
-    by true e = sym (ap (number_of names) (sym ((bytes_eq-Decides name q).0 e)) ∙ absent)
-    by false e = ap (λ b. last b (length names) (number_of names q)) (other name q e) ∙ at (number_of names q)
-
 -- ---- by number
 
 -- a name that stands at a number has that number
-unlike : (name n : List ℕ) (ns : List (List ℕ)) (i : ℕ) → number_of ns n ≡ None → number_of ns name ≡ Some i → bytes_eq name n ≡ false
-unlike name n ns i absent there = by (bytes_eq name n) refl
-  where
-    by : (b : Bool) → bytes_eq name n ≡ b → b ≡ false
-    by false e = refl
-    by true e =
-        let wrong : None ≡ Some i = sym absent ∙ sym (ap (number_of ns) ((bytes_eq-Decides name n).0 e)) ∙ there in
-        absurd (cc)
-
 pub number_at : (name : List ℕ) (ns : List (List ℕ)) (i : ℕ) → Differ ns → slice_get ns i ≡ Some name → number_of ns name ≡ Some i
 number_at name [] i differ at = absurd (cc)
 number_at name (n ∷ ns) zero differ at =
@@ -134,9 +95,37 @@ number_at name (n ∷ ns) zero differ at =
     ap (λ b. if b then Some 0 else option_map suc (number_of ns name)) ((bytes_eq-Decides name n).1 (sym same))
 number_at name (n ∷ ns) (suc i) differ at =
     let there : number_of ns name ≡ Some i = number_at name ns i differ.1 at in
-    ap (λ b. if b then Some 0 else option_map suc (number_of ns name)) (unlike name n ns i differ.0 there) ∙ ap (option_map suc) there
+    elim (cases_Bool (bytes_eq name n)) [
+      | inl same ↦ let wrong : None ≡ Some i = sym differ.0 ∙ sym (ap (number_of ns) ((bytes_eq-Decides name n).0 same)) ∙ there in absurd (cc)
+      | inr apart ↦ ap (λ b. if b then Some 0 else option_map suc (number_of ns name)) apart ∙ ap (option_map suc) there
+    ]
 
 pub listed_at : (list : List (String Global)) (i : ℕ) (name : String Global) → i < length list → name ≡ slice_index_or list i name → slice_get (names_of list) i ≡ Some (string_bytes name)
 listed_at [] i name within is = absurd (omega (arith, within))
 listed_at (s ∷ list) zero name within is = ap (λ n. Some (string_bytes n)) (sym is)
 listed_at (s ∷ list) (suc i) name within is = listed_at list i name (omega (arith, within)) is
+
+-- what stands at a place of a list of names has that number
+pub nth_number : (items list : List (String Global)) (i : ℕ) (s : String Global) (name : List ℕ) → list ≡ items → i < length list → s ≡ slice_index_or list i s → name ≡ string_bytes s
+    → Differ (names_of items) → number_of (names_of items) name ≡ Some i
+nth_number items list i s name same within is text differ =
+    number_at name (names_of items) i differ (ap (λ xs. slice_get (names_of xs) i) (sym same) ∙ listed_at list i s within is ∙ ap (λ n. Some n) (sym text))
+
+-- a name that has a number stands there
+pub stands : (names : List (List ℕ)) (q : List ℕ) (i : ℕ) → number_of names q ≡ Some i → slice_get names i ≡ Some q
+stands [] q i its = absurd (cc)
+stands (n ∷ ns) q i its = by (bytes_eq q n) (number_of ns q) i refl (stands ns q) its
+  where
+    by : (b : Bool) (o : Option ℕ) (i : ℕ) → bytes_eq q n ≡ b → ((j : ℕ) → o ≡ Some j → slice_get ns j ≡ Some q) → (if b then Some 0 else option_map suc o) ≡ Some i → slice_get (n ∷ ns) i ≡ Some q
+    by true o zero e on h = ap (λ m. Some m) (sym ((bytes_eq-Decides q n).0 e))
+    by true o (suc i) e on h = absurd (cc)
+    by false None i e on h = absurd (cc)
+    by false (Some j) zero e on h = absurd (cc)
+    by false (Some j) (suc i) e on h = on i (cc)
+
+pub same_name : (items list : List (String Global)) (i : ℕ) (s : String Global) (name : List ℕ) → list ≡ items → i < length list → s ≡ slice_index_or list i s
+    → number_of (names_of items) name ≡ Some i → string_bytes s ≡ name
+same_name items list i s name same within is its =
+    let one : slice_get (names_of items) i ≡ Some (string_bytes s) = ap (λ xs. slice_get (names_of xs) i) (sym same) ∙ listed_at list i s within is in
+    let two : slice_get (names_of items) i ≡ Some name = stands (names_of items) name i its in
+    cc

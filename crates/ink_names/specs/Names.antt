@@ -1,6 +1,5 @@
 -- Names in the order in which they came, and their numbers (docs/VARIABLES.md).
 use Rattle.std.specs.Prelude.{◌≡◌, ⊤, ℕ, suc, List, [], ◌∷◌, Option, None, Some, bytes_eq, if◌then◌else◌, map, option_map, String, string_bytes}
-use Rattle.std.specs.BTreeMap.{BTreeMap, get_by_text}
 use Rattle.std.specs.declared.alloc.Global.{Global}
 
 -- the number of a name: its index among these
@@ -15,10 +14,6 @@ Differ (n ∷ ns) = (number_of ns n ≡ None) × Differ ns
 
 abbrev pub names_of : List (String Global) → List (List ℕ)
 names_of list = map string_bytes list
-
--- a map finds each name at its number, and no others
-abbrev pub Finds : BTreeMap (String Global) ℕ → List (List ℕ) → Type 0
-Finds numbers names = (name : List ℕ) → get_by_text numbers name ≡ number_of names name
 
 -- names without the last
 abbrev pub without_last : List (List ℕ) → List (List ℕ)

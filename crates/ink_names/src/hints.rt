@@ -1,19 +1,21 @@
 //! Where names are looked for first.
 
-ghost use Rattle.std.specs.Prelude.{◌≡◌, ◌≤◌, ◌<◌, ◌+◌, ◌*◌, ℕ, List, [], ◌∷◌, ◌++◌, get_or, length, max, IfOk, OnOk, OnErr};
-ghost use Rattle.ink_names.specs.Hints.{Marks, hash, mixed, slot};
-ghost use Rattle.ink_names.specs.Names.{names_of};
+ghost use Rattle.std.specs.Prelude.{◌≡◌, ◌≤◌, ◌<◌, ◌+◌, ◌*◌, ◌^◌, ℕ, List, [], ◌∷◌, ◌++◌, Some, true, bytes_eq, if◌then◌else◌, get_or, length, max, IfOk, OnOk, OnErr};
+ghost use Rattle.std.specs.BTreeMap.{get_by_text};
+ghost use Rattle.ink_names.specs.Hints.{Finds, Keeps, Leads, Right, behind, hash, mixed, slot};
+ghost use Rattle.ink_names.specs.Names.{Differ, names_of, number_of};
 
 use std::alloc::{AllocError, Global};
+use std::collections::BTreeMap;
 use std::marker::Model;
 
 /// How many slots there are at first, once there is a name. They double, so that their number is a power of two and a slot is found
 /// without a division.
 const FEWEST: usize = 512;
 
-/// A slot is chosen by a few bytes of a name. It holds one more than the number of the name noted there last, or 0. A name whose slot
-/// holds 0 is not there; the name that any other slot leads to is looked at, and where it is another, the name is found by order,
-/// however names are chosen. There are at least twice as many slots as names.
+/// A slot is chosen by a few bytes of a name. It holds one more than the number of the first name that came there, or 0. A name whose slot
+/// holds 0 is not there; the name that any other slot leads to is looked at, and where it is another, the name is among the others,
+/// which are found by order, however names are chosen. There are at least twice as many slots as names.
 #[derive(Drop)]
 pub(crate) struct Hints {
     slots: Vec<u32>,
@@ -38,55 +40,96 @@ impl Hints {
     }
 
     /// Makes slots for one name more than these, where there are too few, and notes them again: twice as many as before, and 512 at
-    /// least. The one error is a refused request for memory, and leaves all as it was.
+    /// least. The one error is a refused request for memory, and leaves the slots as they were; what came to the others stays there.
     pub(crate) fn make_slots(
         &mut self,
         alloc: Global,
         names: &Vec<String>,
+        others: &mut BTreeMap<String, usize>,
     ) -> Result<(), AllocError>
         ensures slots { OnOk result (0 < length self.new) }
         ensures enough { OnOk result (2 * length names.now.items ≤ length self.old → 2 * (length names.now.items + 1) ≤ length self.new) }
         ensures most { length self.new ≤ max (2 * length self.old) 512 }
         ensures err { OnErr result (self.new ≡ self.old) }
-        ensures marks { Marks self.old (names_of names.now.items) → Marks self.new (names_of names.now.items) }
+        ensures right { let all = names_of names.now.items in Differ all → Right others.old all → Right others.new all }
+        ensures finds { let all = names_of names.now.items in Differ all → Right others.old all → Finds self.old others.old all → Finds self.new others.new all }
     {
         if names.len() < self.slots.len() / 2 {
             return Ok(());
         }
         let count = self.slots.len().saturating_mul(2).max(FEWEST);
-        *self = Hints::of(alloc, names, count)?;
+        *self = Hints::of(alloc, names, count, others)?;
         Ok(())
     }
 
     // So many slots, with each of these names noted.
-    fn of(alloc: Global, names: &Vec<String>, count: usize) -> Result<Hints, AllocError>
+    fn of(
+        alloc: Global,
+        names: &Vec<String>,
+        count: usize,
+        others: &mut BTreeMap<String, usize>,
+    ) -> Result<Hints, AllocError>
         requires { 0 < count }
         ensures slots { IfOk result (λ hints. length hints ≡ count) }
-        ensures marks { IfOk result (λ hints. Marks hints (names_of names.now.items)) }
+        ensures right { let all = names_of names.now.items in Differ all → Right others.old all → Right others.new all }
+        ensures kept { Keeps others.old others.new }
+        ensures finds { let all = names_of names.now.items in IfOk result (λ hints. Differ all → Right others.old all → Finds hints others.new all) }
     {
         let mut hints = Hints {
             slots: Vec::from_elem(alloc, 0, count)?,
         };
         for (number, name) in names.iter().enumerate() {
-            hints.note(name.as_str(), number + 1);
+            hints.note(alloc, name.as_str(), number, others)?;
         }
         Ok(hints)
     }
 
-    /// Notes a name, by one more than its number.
-    pub(crate) fn note(&mut self, name: &str, behind: usize)
+    /// Notes a name with its number: at its slot where that is free, and else among the others, where it is not there yet. The one error
+    /// is a refused request for memory, and leaves the others as they were.
+    pub(crate) fn note(
+        &mut self,
+        alloc: Global,
+        name: &str,
+        number: usize,
+        others: &mut BTreeMap<String, usize>,
+    ) -> Result<(), AllocError>
         requires slots { 0 < length self.old }
-        requires behind { 0 < behind }
-        ensures marks { (names : List (List ℕ)) → Marks self.old names → Marks self.new (names ++ name.now ∷ []) }
+        requires number { number + 1 < 2 ^ 64 }
         ensures slots { length self.new ≡ length self.old }
+        ensures right { (names : List (List ℕ)) → number_of names name.now ≡ Some number → Right others.old names → Right others.new names }
+        ensures kept { Keeps others.old others.new }
+        ensures leads { (other : List ℕ) (its : ℕ) → Leads self.old others.old other its → Leads self.new others.new other its }
+        ensures ok { OnOk result ((names : List (List ℕ)) → number_of names name.now ≡ Some number → Right others.old names → Leads self.new others.new name.now number) }
+        ensures err { OnErr result (Keeps others.new others.old) }
+    {
+        if self.mark(name, number) || others.contains_key(name) {
+            return Ok(());
+        }
+        put(alloc, others, name, number)?;
+        Ok(())
+    }
+
+    // Notes a name at its slot, where that is free. Answers whether the slot leads to its number.
+    fn mark(&mut self, name: &str, number: usize) -> bool
+        requires slots { 0 < length self.old }
+        requires number { number + 1 < 2 ^ 64 }
+        ensures slots { length self.new ≡ length self.old }
+        ensures taken { 0 < behind self.new name.now }
+        ensures leads { result ≡ true → behind self.new name.now ≡ number + 1 }
+        ensures kept { (at : ℕ) → 0 < get_or self.old at 0 → get_or self.new at 0 ≡ get_or self.old at 0 }
     {
         let slot = slot(name, self.slots.len());
-        self.slots[slot] = small(behind);
+        if self.slots[slot] > 0 {
+            return self.slots[slot] as usize == number + 1;
+        }
+        let held = small(number + 1);
+        self.slots[slot] = held;
+        held as usize == number + 1
     }
 
     /// One more than the number at which a name is looked for first; 0 where it is no one's.
     pub(crate) fn behind(&self, name: &str) -> usize
-        ensures { result ≡ get_or self.now (slot name.now (length self.now)) 0 }
+        ensures { result ≡ behind self.now name.now }
     {
         if self.slots.is_empty() {
             return 0;
@@ -98,7 +141,22 @@ impl Hints {
     }
 }
 
-// A number, or the largest that a slot has where it is larger: then the name is not found there.
+// A name comes to the others with its number.
+fn put(
+    alloc: Global,
+    others: &mut BTreeMap<String, usize>,
+    name: &str,
+    number: usize,
+) -> Result<(), AllocError>
+    ensures ok { OnOk result ((other : List ℕ) → get_by_text others.new other ≡ (if bytes_eq name.now other then Some number else get_by_text others.old other)) }
+    ensures err { OnErr result (others.new.entries ≡ others.old.entries) }
+{
+    let key = String::from_str(alloc, name)?;
+    others.insert(key, number)?;
+    Ok(())
+}
+
+// A number, or the largest that a slot has where it is larger.
 fn small(number: usize) -> u32
     ensures { 0 < number → 0 < result }
 {
@@ -114,16 +172,18 @@ fn slot(name: &str, slots: usize) -> usize
     hash(name.as_bytes()) & (slots - 1)
 }
 
-// Names that end in numbers differ in their last bytes.
+// Names of one length that end in their numbers, of up to six digits, have slots that follow one another.
 fn hash(name: &[u8]) -> usize
     ensures { result ≡ hash name.now }
 {
     let len = name.len();
-    if len < 4 {
+    if len < 6 {
         return mixed(
             len,
-            byte(name, len / 2),
             byte(name, 0),
+            byte(name, len.saturating_sub(6)),
+            byte(name, len.saturating_sub(5)),
+            byte(name, len.saturating_sub(4)),
             byte(name, len.saturating_sub(3)),
             byte(name, len.saturating_sub(2)),
             byte(name, len.saturating_sub(1)),
@@ -131,7 +191,9 @@ fn hash(name: &[u8]) -> usize
     }
     mixed(
         len,
-        name[len / 2] as usize,
+        name[0] as usize,
+        name[len - 6] as usize,
+        name[len - 5] as usize,
         name[len - 4] as usize,
         name[len - 3] as usize,
         name[len - 2] as usize,
@@ -142,16 +204,25 @@ fn hash(name: &[u8]) -> usize
 #[inline(always)]
 fn mixed(
     len: usize,
-    middle: usize,
+    first: usize,
+    sixth: usize,
+    fifth: usize,
     fourth: usize,
     third: usize,
     second: usize,
     last: usize,
 ) -> usize
-    requires { (middle < 256) × (fourth < 256) × (third < 256) × (second < 256) × (last < 256) }
-    ensures { result ≡ mixed len middle fourth third second last }
+    requires { (first < 256) × (sixth < 256) × (fifth < 256) × (fourth < 256) × (third < 256) × (second < 256) × (last < 256) }
+    ensures { result ≡ mixed len first sixth fifth fourth third second last }
 {
-    7919 * (len % 4096) + 2_248_091 * middle + 8117 * fourth + 17_161 * third + 131 * second + last
+    7919 * (len % 4096)
+        + 2_248_091 * first
+        + 100_000 * sixth
+        + 10_000 * fifth
+        + 1000 * fourth
+        + 100 * third
+        + 10 * second
+        + last
 }
 
 fn byte(name: &[u8], index: usize) -> usize

@@ -1,4 +1,4 @@
-//! Names, each once, that are found by order (docs/VARIABLES.md).
+//! Names, each once, that are found at slots or by order (docs/VARIABLES.md).
 #![tactic(auto)]
 
 mod hints;

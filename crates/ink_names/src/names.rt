@@ -8,25 +8,26 @@ use std::alloc::{AllocError, Global};
 use std::collections::BTreeMap;
 use std::marker::Model;
 
-/// Names, each once, in the order in which they came. A name that is no one's, and one that stands where it is looked for first, is
-/// seen at once; each other is found by order and not by hash, so that nobody can choose names that are slow to find.
+/// Names, each once, in the order in which they came. A name whose slot is empty is no one's, and one that its slot leads to is found
+/// there, which takes one look. Each other name is looked for by order and not by hash, so that nobody can choose names that are slow to
+/// find.
 #[derive(Drop)]
 pub struct Names {
     list: Vec<String>,
-    numbers: BTreeMap<String, usize>,
+    others: BTreeMap<String, usize>,
     hints: Hints,
 }
 
 impl Model for Names {
     ghost use Rattle.std.specs.Prelude.{◌≤◌, ◌*◌, ℕ, List, length};
-    ghost use Rattle.ink_names.specs.Hints.{Marks};
-    ghost use Rattle.ink_names.specs.Names.{Differ, Finds, names_of};
+    ghost use Rattle.ink_names.specs.Hints.{Finds, Right};
+    ghost use Rattle.ink_names.specs.Names.{Differ, names_of};
 
     ghost Value = { List (List ℕ) };
 
     ghost view = { λ n. names_of n.list.items };
 
-    ghost invariant = { λ n. Differ (names_of n.list.items) × Finds n.numbers (names_of n.list.items) × Marks n.hints (names_of n.list.items) × (2 * length n.list.items ≤ length n.hints) };
+    ghost invariant = { λ n. Differ (names_of n.list.items) × Right n.others (names_of n.list.items) × Finds n.hints n.others (names_of n.list.items) × (2 * length n.list.items ≤ length n.hints) };
 }
 
 impl Names {
@@ -36,7 +37,7 @@ impl Names {
     {
         Names {
             list: Vec::new(alloc),
-            numbers: BTreeMap::new(alloc),
+            others: BTreeMap::new(alloc),
             hints: Hints::new(alloc),
         }
     }
@@ -59,7 +60,7 @@ impl Names {
         }
         match self.list.get(behind - 1) {
             Some(there) if there.as_str() == name => Some(behind - 1),
-            _ => self.numbers.get(name).copied(),
+            _ => self.others.get(name).copied(),
         }
     }
 
@@ -80,14 +81,12 @@ impl Names {
         ensures ok { OnOk result (self.new ≡ self.old ++ name.now ∷ []) }
         ensures err { OnErr result (self.new ≡ self.old) }
     {
-        self.hints.make_slots(alloc, &self.list)?;
+        self.hints.make_slots(alloc, &self.list, &mut self.others)?;
         let listed = String::from_str(alloc, name)?;
-        let key = String::from_str(alloc, name)?;
         self.list.reserve(1)?;
         let number = self.list.len();
-        self.numbers.insert(key, number)?;
+        self.hints.note(alloc, name, number, &mut self.others)?;
         self.list.push_reserved(listed);
-        self.hints.note(name, self.list.len());
         Ok(())
     }
 
@@ -96,7 +95,7 @@ impl Names {
         ensures { self.new ≡ without_last self.old }
     {
         if let Some(name) = self.list.pop() {
-            let _number = self.numbers.remove(name.as_str());
+            let _number = self.others.remove(name.as_str());
         }
     }
 }

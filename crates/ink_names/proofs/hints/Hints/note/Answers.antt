@@ -1,17 +1,18 @@
-use Rattle.std.proofs.Common.{◌≡◌, ◌∙◌, ◌<◌, ap, arith, length, set}
-use Rattle.std.proofs.lemmas.List.{length-set}
-use Rattle.ink_names.specs.Hints.{slot}
-use Rattle.ink_names.proofs.Marking.{marks_noted}
+use Rattle.std.proofs.Common.{◌≡◌, inr, None, Some, rules}
+use Rattle.std.specs.BTreeMap.{get_by_text}
+use Rattle.ink_names.proofs.Noting.{leads_on, put_keeps, put_right, put_there}
 use Rattle.ink_names.proofs.hints.Hints.note.Goals as goal
 
-pub returns-clause-marks : goal.returns-clause-marks
-returns-clause-marks c = λ names marks.
-    let slots = c.args.self.now in
-    let name = c.args.name.now in
-    let new = set c.self.inside.slots.items c.slot-slot.result c.small.result in
-    let many : c.len.result ≡ length slots = c.len.ensures ∙ c.self.inside.slots.ok.0 ∙ ap length c.self.view_is in
-    let at : c.slot-slot.result ≡ slot name (length slots) = c.slot-slot.ensures.slot ∙ ap (slot name) many in
-    let within : slot name (length slots) < length slots = omega (arith, at, many, c.slot-slot.ensures.within) in
-    let is : new ≡ set slots (slot name (length slots)) c.small.result = ap (λ xs. set xs c.slot-slot.result c.small.result) c.self.view_is ∙ ap (λ i. set slots i c.small.result) at in
-    let same : length new ≡ length slots = length-set c.self.inside.slots.items c.slot-slot.result c.small.result ∙ ap length c.self.view_is in
-    marks_noted slots new names name c.small.result within (c.small.ensures c.requires.behind) is same marks
+pub returns-clause-kept : goal.returns-clause-kept
+returns-clause-kept c =
+    let none : get_by_text c.args.others.now c.args.name.now ≡ None = search (rules) in
+    put_keeps c.args.others.now c.put.new.others c.args.name.now (Some c.args.number) c.in_ok-put.ensures.ok none
+
+pub returns-clause-right : goal.returns-clause-right
+returns-clause-right c = put_right c.args.others.now c.put.new.others c.args.name.now (Some c.args.number) c.in_ok-put.ensures.ok
+
+pub returns-clause-leads : goal.returns-clause-leads
+returns-clause-leads c = leads_on c.args.self.now c.mark.new.self c.args.others.now c.put.new.others c.mark.ensures.slots c.mark.ensures.kept (returns-clause-kept c)
+
+pub returns-clause-ok : goal.returns-clause-ok
+returns-clause-ok c = λ names its right. inr (c.mark.ensures.taken, put_there c.args.others.now c.put.new.others c.args.name.now (Some c.args.number) c.in_ok-put.ensures.ok)
