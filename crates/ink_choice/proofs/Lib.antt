@@ -1,7 +1,6 @@
 pub mod Ends
 pub mod Lists
 pub mod Depths
-pub mod Makings
 pub mod Nth
 pub mod Undoing
 pub mod Settling

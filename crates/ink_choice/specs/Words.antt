@@ -1,5 +1,5 @@
 -- What calls do, by what the rules give.
-use Rattle.std.specs.Prelude.{◌≡◌, ◌⊎◌, ℕ, ◌<◌, true, false, List, length, get_or, remove, reverse, drop, Bool, Option, Some, None, Result, Ok, Err}
+use Rattle.std.specs.Prelude.{◌≡◌, ◌⊎◌, ℕ, ◌<◌, true, false, List, length, get_or, remove, Bool, Option, Some, None, Result, Ok, Err}
 use Rattle.ink_model.specs.Bytes.{fits_text}
 use Rattle.ink_model.specs.Choices.{choice_asks, has_any, option_asks, taken_of}
 use Rattle.ink_model.specs.Configuration.{ChoiceOf}
@@ -25,13 +25,6 @@ module _ {P : Type 0} where
   Makes short (Ok r) old new (Err f) = (f ≡ OutOfMemory) × ((option_asks r.0 ≡ true) ⊎ short) × (new ≡ old)
   Makes short (Err g) old new (Ok made) = ⊥
   Makes short (Err g) old new (Err f) = (f ≡ g) × (new ≡ old)
-
-  -- the same before anything is popped: how many of these values are to be, which are listed from the top down
-  abbrev pub Finds : Result (Option (ChoiceOf P) × List Value) Fault → List Value → Result (Option (ChoiceOf P) × ℕ) Fault → Type 0
-  Finds (Ok r) vs (Ok found) = (found.0 ≡ r.0) × (reverse (drop found.1 vs) ≡ r.1)
-  Finds (Ok r) vs (Err f) = (f ≡ OutOfMemory) × (option_asks r.0 ≡ true)
-  Finds (Err g) vs (Ok found) = ⊥
-  Finds (Err g) vs (Err f) = f ≡ g
 
   -- A call takes what the rule says out of a list, or leaves the list as it is; for what it takes it may be refused memory, and
   -- leaves the list so too.

@@ -2,7 +2,7 @@
 
 ghost use Rattle.std.specs.Prelude.{◌≡◌, ◌-◌, ◌+◌, ◌<◌, ◌≤◌, length, true, reverse, IfOk, OnErr};
 ghost use Rattle.ink_choice.specs.Operands.{operands_of};
-ghost use Rattle.ink_choice.specs.Words.{Chooses, Finds, Makes};
+ghost use Rattle.ink_choice.specs.Words.{Chooses, Makes};
 ghost use Rattle.ink_model.specs.Choices as rules;
 ghost use Rattle.ink_model.specs.Choices.{choice_tags, has_any};
 ghost use Rattle.ink_trail.specs.Undo.{TrailsOrKeeps};
@@ -41,37 +41,22 @@ pub fn make<P: Copy>(
     ensures stood { stack_stood stack.new ≡ stack_stood stack.old }
     ensures spare { stack_spare stack.old ≤ stack_spare stack.new + length stack.old.items }
 {
-    match found(alloc, flags, target, stack, visited, threads) {
-        Ok((choice, count)) => match pop_all(stack, count) {
-            Ok(()) => Ok(choice),
+    let operands = match find_operands(stack, flags) {
+        Ok(operands) => operands,
+        Err(fault) => return Err(fault),
+    };
+    let count = operands.end;
+    if !is_offered(flags, visited, operands.condition) {
+        return match pop_all(stack, count) {
+            Ok(()) => Ok(None),
+            Err(_) => Err(Fault::OutOfMemory),
+        };
+    }
+    match choice_of(alloc, flags, target, stack, threads, &operands) {
+        Ok(choice) => match pop_all(stack, count) {
+            Ok(()) => Ok(Some(choice)),
             Err(_) => Err(Fault::OutOfMemory),
         },
-        Err(fault) => Err(fault),
-    }
-}
-
-// The choice, and how many values are to be popped for it.
-#[inline(always)]
-fn found<P: Copy>(
-    alloc: Global,
-    flags: u8,
-    target: P,
-    stack: &EvalStack,
-    visited: bool,
-    threads: &Threads<P>,
-) -> Result<(Option<Choice<P>>, usize), Fault>
-    ensures { Finds (rules.make flags target visited threads.now.threads.thread stack.now.items) (reverse stack.now.items) result }
-{
-    match find_operands(stack, flags) {
-        Ok(operands) => {
-            if !is_offered(flags, visited, operands.condition) {
-                return Ok((None, operands.end));
-            }
-            match choice_of(alloc, flags, target, stack, threads, &operands) {
-                Ok(choice) => Ok((Some(choice), operands.end)),
-                Err(fault) => Err(fault),
-            }
-        }
         Err(fault) => Err(fault),
     }
 }

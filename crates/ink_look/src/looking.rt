@@ -201,6 +201,7 @@ fn cut(machine: &mut Machine) -> Looked
 }
 
 // The newline of a step that had so many marks before it, which waits from now on, if there is one.
+#[inline(always)]
 fn found(machine: &mut Machine, marks: usize) -> Looked
     requires unmarked { stood_of machine.old ≡ unmarked }
     ensures found { (s : StoryTree) → result ≡ found_of (newline_from marks (config_of s machine.old).page) }
@@ -220,6 +221,7 @@ fn found(machine: &mut Machine, marks: usize) -> Looked
 }
 
 // With the line alone open, its newline from an index on that is shown last.
+#[inline(always)]
 fn newline_since(output: &Output, marks: usize) -> Option<usize>
     ensures { result ≡ newline_from marks output.now.page }
 {

@@ -13,13 +13,20 @@ use std::alloc::{AllocError, Global};
 pub(crate) fn cleaned(alloc: Global, text: &str) -> Result<Text, AllocError>
     ensures { IfOk result (λ cleaned. cleaned ≡ clean text.now) }
 {
-    let mut shown = Shown::new(alloc, true, text.len())?;
+    let mut shown = Shown::new(room_for(alloc, text.len())?, true);
     shown.push_str(text)?;
     Ok(shown.into_text())
 }
 
 /// A text of so many bytes at the most asks for memory once. A longer one grows by doubling, since cleaning may leave little of it.
 const MOST_ROOM: usize = 4_096;
+
+/// Room for a text of so many bytes at the most. The one error is a refused request for memory.
+pub(crate) fn room_for(alloc: Global, most: usize) -> Result<String, AllocError>
+    ensures { IfOk result (λ room. string_bytes room ≡ []) }
+{
+    String::with_capacity(alloc, most.min(MOST_ROOM))
+}
 
 /// What stands on a line before a character.
 #[derive(Clone, Copy)]
@@ -37,18 +44,14 @@ pub(crate) struct Shown {
 }
 
 impl Shown {
-    /// No text yet, for one of so many bytes at the most. The one error is a refused request for memory.
-    pub(crate) fn new(alloc: Global, cleans: bool, most: usize) -> Result<Shown, AllocError>
-        ensures { IfOk result (λ shown. Holds cleans shown []) }
+    /// No text yet, in this room for it.
+    #[inline(always)]
+    pub(crate) fn new(room: String, cleans: bool) -> Shown
+        requires { string_bytes room ≡ [] }
+        ensures { Holds cleans result [] }
     {
-        let text = String::with_capacity(alloc, most.min(MOST_ROOM))?;
-        if cleans {
-            return Ok(Shown {
-                text,
-                before: Some(Before::Nothing),
-            });
-        }
-        Ok(Shown { text, before: None })
+        let before = if cleans { Some(Before::Nothing) } else { None };
+        Shown { text: room, before }
     }
 
     /// Adds a piece. The one error is a refused request for memory.

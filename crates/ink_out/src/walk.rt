@@ -4,10 +4,10 @@ ghost use Rattle.std.specs.Prelude.{◌≡◌, ℕ, List, [], ◌∷◌, Bool, l
 ghost use Rattle.ink_model.specs.declared.mark.Mark.{Mark};
 ghost use Rattle.ink_model.specs.declared.mark.Mark.TheVariants as kinds;
 ghost use Rattle.ink_model.specs.Shown.{shown_text, text_before};
-ghost use Rattle.ink_out.specs.Cleaning.{shown_as};
+ghost use Rattle.ink_out.specs.Cleaning.{Holds, shown_as};
 ghost use Rattle.ink_out.specs.Walks.{Walks};
 
-use crate::cleaning::Shown;
+use crate::cleaning::{Shown, room_for};
 use crate::enters::Enters;
 use crate::pile::{Held, Pile};
 use crate::tracker::Tracker;
@@ -18,7 +18,8 @@ use std::alloc::{AllocError, Global};
 pub(crate) fn shown_text(alloc: Global, marks: &[Mark], cleans: bool) -> Result<Text, AllocError>
     ensures { IfOk result (λ text. text ≡ shown_as cleans (shown_text marks.now)) }
 {
-    let mut walk = Walk::new(alloc, cleans, most_shown(marks))?;
+    let room = room_for(alloc, most_shown(marks))?;
+    let mut walk = Walk::new(alloc, Shown::new(room, cleans));
     for (at, mark) in marks.iter().enumerate() {
         walk.add(mark, at)?;
     }
@@ -53,18 +54,18 @@ struct Walk<'m> {
 }
 
 impl<'m> Walk<'m> {
-    /// At the start, for a text of so many bytes at the most. The one error is a refused request for memory.
-    fn new(alloc: Global, cleans: bool, most: usize) -> Result<Walk<'m>, AllocError>
-        ensures { IfOk result (λ walk. Walks cleans [] walk) }
+    /// At the start, where nothing is shown yet.
+    #[inline(always)]
+    fn new(alloc: Global, shown: Shown) -> Walk<'m>
+        ensures { (cleans : Bool) → Holds cleans shown [] → Walks cleans [] result }
     {
-        let shown = Shown::new(alloc, cleans, most)?;
-        Ok(Walk {
+        Walk {
             tracker: Tracker::new(),
             enters: Enters::new(alloc),
             glue: 0,
             held: Pile::new(alloc),
             shown,
-        })
+        }
     }
 
     /// Goes past the mark at an index. The one error is a refused request for memory.
@@ -92,18 +93,14 @@ impl<'m> Walk<'m> {
     }
 
     /// The text, where no mark is left. The one error is a refused request for memory.
-    fn finish(self) -> Result<Text, AllocError>
+    #[inline(always)]
+    fn finish(mut self) -> Result<Text, AllocError>
         ensures { IfOk result (λ text. (cleans : Bool) (before : List Mark) → Walks cleans before self.entry → text ≡ shown_as cleans (text_before before [])) }
     {
-        let Walk {
-            tracker,
-            glue,
-            held,
-            mut shown,
-            ..
-        } = self;
-        held.write(&mut shown, tracker.newline, glue)?;
-        Ok(shown.into_text())
+        let walk = &mut self;
+        walk.held
+            .write(&mut walk.shown, walk.tracker.newline, walk.glue)?;
+        Ok(self.shown.into_text())
     }
 
     // A text: nothing hides what waits any more.

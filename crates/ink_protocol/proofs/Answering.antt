@@ -1,15 +1,18 @@
 -- The text of answers.
-use Rattle.std.proofs.Common.{◌≡◌, ◌∙◌, refl, ap, ℕ, ℤ, pos, negsuc, List, [], ◌∷◌, ◌++◌, append_assoc, codes}
+use Rattle.std.proofs.Common.{◌≡◌, ◌∙◌, refl, sym, ap, Result, Ok, Err, IfOk, ℕ, ℤ, pos, negsuc, List, [], ◌∷◌, ◌++◌, map, append_assoc, codes, Bool, true, false}
 use Rattle.std.specs.Fmt.{signed_decimal}
 use Rattle.json.specs.Print.{print}
 use Rattle.json.specs.Written.{Written}
-use Rattle.serde_json.specs.Data.{Data}
+use Rattle.serde_json.specs.Data.{Data, array, string}
 use Rattle.serde_json.specs.Written.{compact_text}
 use Rattle.serde_json.proofs.OnLiterals.{serde_json_on_literals}
-use Rattle.ink_model.specs.Answer.{Reply, Acts, Counts, Saves, Shows, reply_data, answer}
+use Rattle.ink_model.specs.Answer.{Reply, Acts, Counts, Saves, Shows, Tells, items_of, reply_data, shown_data, answer}
+use Rattle.ink_model.specs.declared.passage.Passage.{Passage}
+use Rattle.ink_model.specs.declared.passage.Shown.{Shown}
 use Rattle.ink_model.specs.declared.value.Value.TheVariants as value
+use Rattle.ink_protocol.specs.Answers.{passage_line, quiet_middle}
 use Rattle.ink_tokens.specs.Tokens.{Added, data_tokens}
-use Rattle.ink_tokens.proofs.Adding.{text_from_tokens}
+use Rattle.ink_tokens.proofs.Adding.{printed_tokens, text_from_tokens}
 
 -- what a writer that had nothing has written of a reply, and a newline, is its answer
 pub answer_from_tokens : (r : Reply) (start end : Written) (text line : List ℕ) → start.before ≡ [] → start.tokens ≡ [] → Added start end (data_tokens (reply_data r))
@@ -39,3 +42,47 @@ visits_answer (negsuc n) = ap (λ t. codes "{\"visits\":" ++ t) (append_assoc (s
 pub saved_answer : (d : Data) → answer (Saves d) ≡ codes "{\"saved\":" ++ (compact_text d ++ codes "}\n")
 unfolding answer serde_json_on_literals
 saved_answer d = ap (λ t. codes "{\"saved\":" ++ t) (append_assoc (compact_text d) (125 ∷ []) (10 ∷ []))
+
+-- what a writer has written of a value, behind what stood there before
+pub text_behind : (d : Data) (start end : Written) (before text : List ℕ) → start.before ≡ before → start.tokens ≡ [] → Added start end (data_tokens d)
+    → text ≡ end.before ++ print end.tokens → text ≡ before ++ compact_text d
+text_behind d start end before text had none added is =
+    is ∙ ap (λ b. b ++ print end.tokens) (added.before ∙ had) ∙ ap (λ t. before ++ t) (printed_tokens d start end (print end.tokens) none added refl)
+
+abbrev quiet : List Shown → List ℕ → Bool → Bool → Passage
+quiet choices text loose more = record { text = text; tags = []; choices = choices; events = []; more = more; loose = loose }
+
+-- a newline behind the last bracket
+ends_line : (list middle text : List ℕ) → codes "{\"choices\":" ++ ((list ++ (middle ++ (text ++ 125 ∷ []))) ++ 10 ∷ []) ≡ codes "{\"choices\":" ++ (list ++ (middle ++ (text ++ codes "}\n")))
+ends_line list middle text = ap (λ t. codes "{\"choices\":" ++ t)
+    (append_assoc list (middle ++ (text ++ 125 ∷ [])) (10 ∷ []) ∙ ap (λ t. list ++ t) (append_assoc middle (text ++ 125 ∷ []) (10 ∷ []) ∙ ap (λ t. middle ++ t) (append_assoc text (125 ∷ []) (10 ∷ []))))
+
+quiet_answer : (choices : List Shown) (text : List ℕ) (loose more : Bool) → answer (Tells (quiet choices text loose more)) ≡ passage_line (quiet choices text loose more) (quiet_middle loose more)
+unfolding answer serde_json_on_literals
+quiet_answer choices text false false = ends_line (compact_text (array (items_of (map shown_data choices)))) (quiet_middle false false) (compact_text (string text))
+quiet_answer choices text false true = ends_line (compact_text (array (items_of (map shown_data choices)))) (quiet_middle false true) (compact_text (string text))
+quiet_answer choices text true false = ends_line (compact_text (array (items_of (map shown_data choices)))) (quiet_middle true false) (compact_text (string text))
+quiet_answer choices text true true = ends_line (compact_text (array (items_of (map shown_data choices)))) (quiet_middle true true) (compact_text (string text))
+
+-- the answer that tells a passage without events and tags
+pub quiet_line : (p : Passage) → p.events ≡ [] → p.tags ≡ [] → answer (Tells p) ≡ passage_line p (quiet_middle p.loose p.more)
+quiet_line p events tags =
+    ap (λ es. answer (Tells (record p { events = es }))) events ∙ ap (λ ts. answer (Tells (record p { events = []; tags = ts }))) tags ∙ quiet_answer p.choices p.text p.loose p.more
+
+-- its line, put together piece by piece
+pub passage_from : (p : Passage) (choices : List Shown) (text middle a b c d e : List ℕ) → choices ≡ p.choices → text ≡ p.text → a ≡ codes "{\"choices\":"
+    → b ≡ a ++ compact_text (array (items_of (map shown_data choices))) → c ≡ b ++ middle → d ≡ c ++ compact_text (string text) → e ≡ d ++ codes "}\n" → e ≡ passage_line p middle
+passage_from p choices text middle a b c d e same_choices same_text front listed told shown ends =
+    let start : List ℕ = codes "{\"choices\":" in
+    let list : List ℕ = compact_text (array (items_of (map shown_data p.choices))) in
+    let string_text : List ℕ = compact_text (string p.text) in
+    let b_is : b ≡ start ++ list = listed ∙ ap (λ x. x ++ compact_text (array (items_of (map shown_data choices)))) front ∙ ap (λ cs. start ++ compact_text (array (items_of (map shown_data cs)))) same_choices in
+    let c_is : c ≡ (start ++ list) ++ middle = told ∙ ap (λ x. x ++ middle) b_is in
+    let d_is : d ≡ ((start ++ list) ++ middle) ++ string_text = shown ∙ ap (λ x. x ++ compact_text (string text)) c_is ∙ ap (λ t. ((start ++ list) ++ middle) ++ compact_text (string t)) same_text in
+    ends ∙ ap (λ x. x ++ codes "}\n") d_is ∙ append_assoc ((start ++ list) ++ middle) string_text (codes "}\n") ∙ append_assoc (start ++ list) middle (string_text ++ codes "}\n")
+    ∙ append_assoc start list (middle ++ (string_text ++ codes "}\n"))
+
+-- a text that is made is the answer too that is this text
+pub made_as : {A E : Type 0} (items : A → List ℕ) (r : Result A E) (text answer : List ℕ) → IfOk r (λ v. items v ≡ text) → answer ≡ text → IfOk r (λ v. items v ≡ answer)
+made_as items (Ok v) text answer made same = made ∙ sym same
+made_as items (Err e) text answer made same = made

@@ -1,13 +1,14 @@
 -- What is written of answers, token by token.
-use Rattle.std.specs.Prelude.{ℕ, List, [], ◌∷◌, map, codes, true, Option, Some, None}
+use Rattle.std.specs.Prelude.{ℕ, List, [], ◌∷◌, ◌++◌, map, codes, Bool, true, false, Option, Some, None}
 use Rattle.json.specs.Token.{Token}
 use Rattle.json.specs.Token as token
-use Rattle.serde_json.specs.Data.{array}
+use Rattle.serde_json.specs.Data.{array, string}
 use Rattle.serde_json.specs.Written.{compact_text}
-use Rattle.ink_model.specs.Answer.{items_of}
+use Rattle.ink_model.specs.Answer.{items_of, shown_data}
 use Rattle.ink_model.specs.Host.{value_given}
 use Rattle.ink_model.specs.ValueJson.{value_data}
 use Rattle.ink_model.specs.declared.host.Given.{Given}
+use Rattle.ink_model.specs.declared.passage.Passage.{Passage}
 use Rattle.ink_model.specs.declared.value.Value.{Value}
 use Rattle.ink_tokens.specs.Tokens.{data_tokens}
 
@@ -19,3 +20,14 @@ outcome_tokens None = token.key (codes "refused") ∷ token.boolean true ∷ []
 -- values as a compact JSON array
 abbrev pub values_text : List Value → List ℕ
 values_text values = compact_text (array (items_of (map value_data values)))
+
+-- the line that tells a passage, with this between its choices and its text
+abbrev pub passage_line : Passage → List ℕ → List ℕ
+passage_line p middle = codes "{\"choices\":" ++ (compact_text (array (items_of (map shown_data p.choices))) ++ (middle ++ (compact_text (string p.text) ++ codes "}\n")))
+
+-- what stands between the choices and the text of one without events and tags
+abbrev pub quiet_middle : Bool → Bool → List ℕ
+quiet_middle false false = codes ",\"events\":[],\"loose\":false,\"more\":false,\"tags\":[],\"text\":"
+quiet_middle false true = codes ",\"events\":[],\"loose\":false,\"more\":true,\"tags\":[],\"text\":"
+quiet_middle true false = codes ",\"events\":[],\"loose\":true,\"more\":false,\"tags\":[],\"text\":"
+quiet_middle true true = codes ",\"events\":[],\"loose\":true,\"more\":true,\"tags\":[],\"text\":"

@@ -6,11 +6,11 @@ ghost use Rattle.json.specs.Token as tokens;
 ghost use Rattle.serde_json.specs.Data.{Data, array, number, string};
 ghost use Rattle.serde_json.specs.Find.{of_integer};
 ghost use Rattle.serde_json.specs.Written.{compact_text};
-ghost use Rattle.ink_model.specs.Answer.{answer, answer_asks, refusal_data, reply_data, reply_of_events, reply_of_halt, Acts, Breaks, Counts, Saves, Shows, items_of, passage_data, shown_data};
+ghost use Rattle.ink_model.specs.Answer.{answer, answer_asks, refusal_data, reply_data, reply_of_events, reply_of_halt, Acts, Breaks, Counts, Saves, Shows, Tells, items_of, passage_data, shown_data};
 ghost use Rattle.ink_model.specs.Events.{call_data, event_data};
 ghost use Rattle.ink_model.specs.Host.{value_given};
 ghost use Rattle.ink_model.specs.ValueJson.{value_data};
-ghost use Rattle.ink_protocol.specs.Answers.{outcome_tokens, values_text};
+ghost use Rattle.ink_protocol.specs.Answers.{outcome_tokens, passage_line, quiet_middle, values_text};
 ghost use Rattle.ink_protocol.specs.Replies.{HasTextOf, IsTextOf, is_saved, reply_by, reply_of_text};
 ghost use Rattle.ink_tokens.specs.Tokens.{Added, data_tokens};
 
@@ -78,8 +78,11 @@ pub fn answer_text(alloc: Global, buffer: Vec<u8>, outcome: Outcome) -> Result<V
 {
     let mut empty = buffer;
     empty.clear();
-    match told_number(&outcome) {
-        Some((front, number)) => number_text(empty, front, number),
+    if let Some((front, number)) = told_number(&outcome) {
+        return number_text(empty, front, number);
+    }
+    match quiet_passage(&outcome) {
+        Some((passage, middle)) => passage_text(alloc, empty, passage, middle),
         None => replied_text(alloc, empty, outcome),
     }
 }
@@ -106,6 +109,99 @@ fn number_text(empty: Vec<u8>, front: &str, number: i32) -> Result<Vec<u8>, Allo
     text.extend_from_slice(digits.format(number).as_bytes())?;
     text.extend_from_slice(b"}\n")?;
     Ok(text)
+}
+
+// The passage that a running command returned, if it has no events and no tags, and what stands between its choices and its text.
+fn quiet_passage(outcome: &Outcome) -> Option<(&Passage, &'static str)>
+    ensures { (saved : Data) → IfSome result (λ told. answer (reply_by saved outcome.now) ≡ passage_line told.0.now told.1.now) }
+{
+    match outcome {
+        Outcome::Passage(Ok(passage)) => match middle_of(passage) {
+            Some(middle) => Some((passage, middle)),
+            None => None,
+        },
+        _ => None,
+    }
+}
+
+fn middle_of(passage: &Passage) -> Option<&'static str>
+    ensures { IfSome result (λ middle. answer (Tells passage.now) ≡ passage_line passage.now middle.now) }
+{
+    if has_none(passage.events.as_slice()) && has_none(passage.tags.as_slice()) {
+        return Some(quiet_middle(passage.loose, passage.more));
+    }
+    None
+}
+
+fn has_none<T>(items: &[T]) -> bool
+    ensures { result ≡ true → items.now ≡ [] }
+{
+    match items {
+        [] => true,
+        [..] => false,
+    }
+}
+
+fn quiet_middle(loose: bool, more: bool) -> &'static str
+    ensures { result.now ≡ quiet_middle loose more }
+{
+    if loose {
+        if more {
+            ",\"events\":[],\"loose\":true,\"more\":true,\"tags\":[],\"text\":"
+        } else {
+            ",\"events\":[],\"loose\":true,\"more\":false,\"tags\":[],\"text\":"
+        }
+    } else if more {
+        ",\"events\":[],\"loose\":false,\"more\":true,\"tags\":[],\"text\":"
+    } else {
+        ",\"events\":[],\"loose\":false,\"more\":false,\"tags\":[],\"text\":"
+    }
+}
+
+// An answer that tells a passage, with the writer of JSON for its choices and its text alone.
+fn passage_text(
+    alloc: Global,
+    empty: Vec<u8>,
+    passage: &Passage,
+    middle: &str,
+) -> Result<Vec<u8>, AllocError>
+    requires { empty.items ≡ [] }
+    ensures { IfOk result (λ line. line.items ≡ passage_line passage.now middle.now) }
+{
+    let mut front = empty;
+    front.extend_from_slice(b"{\"choices\":")?;
+    let mut told = list_behind(alloc, front, passage.choices.as_slice())?;
+    told.extend_from_slice(middle.as_bytes())?;
+    let mut whole = string_behind(told, passage.text.as_str())?;
+    whole.extend_from_slice(b"}\n")?;
+    Ok(whole)
+}
+
+// The text of a list, behind what is written already.
+fn list_behind<T: Listed>(
+    alloc: Global,
+    before: Vec<u8>,
+    items: &[T],
+) -> Result<Vec<u8>, AllocError>
+    ensures { IfOk result (λ text. text.items ≡ before.items ++ compact_text (array (items_of (map T.json items.now)))) }
+{
+    if has_none(items) {
+        let mut text = before;
+        text.extend_from_slice(b"[]")?;
+        return Ok(text);
+    }
+    let mut out = Writer::new(before);
+    write_list(alloc, &mut out, items)?;
+    Ok(out.into_inner())
+}
+
+// The same of a string.
+fn string_behind(before: Vec<u8>, text: &str) -> Result<Vec<u8>, AllocError>
+    ensures { IfOk result (λ all. all.items ≡ before.items ++ compact_text (string text.now)) }
+{
+    let mut out = Writer::new(before);
+    put(&mut out, Token::String(text))?;
+    Ok(out.into_inner())
 }
 
 fn replied_text(alloc: Global, empty: Vec<u8>, outcome: Outcome) -> Result<Vec<u8>, AllocError>

@@ -11,6 +11,7 @@ impl Machine {
     ghost use Rattle.ink_step.specs.Words.{aside_in, config_of, start_of};
 
     /// Starts a mark, at which all stands as it does now, and forgets an older one. There is as much room afterwards. Takes no memory.
+    #[inline(never)]
     pub fn mark(&mut self)
         ensures config { (s : StoryTree) → config_of s self.new ≡ config_of s self.old }
         ensures start { start_of self.new ≡ start_of self.old }
