@@ -1,6 +1,6 @@
 //! Where names are looked for first.
 
-ghost use Rattle.std.specs.Prelude.{◌≡◌, ◌≤◌, ◌<◌, ◌+◌, ◌*◌, ◌^◌, ℕ, List, [], ◌∷◌, ◌++◌, Some, true, bytes_eq, if◌then◌else◌, get_or, length, max, IfOk, OnOk, OnErr};
+ghost use Rattle.std.specs.Prelude.{◌≡◌, ◌≤◌, ◌<◌, ◌+◌, ◌*◌, ◌^◌, ℕ, List, [], Some, true, bytes_eq, if◌then◌else◌, get_or, length, max, IfOk, OnOk, OnErr};
 ghost use Rattle.std.specs.BTreeMap.{get_by_text};
 ghost use Rattle.ink_names.specs.Hints.{Finds, Keeps, Leads, Right, behind, hash, mixed, slot};
 ghost use Rattle.ink_names.specs.Names.{Differ, names_of, number_of};
@@ -173,64 +173,41 @@ fn slot(name: &str, slots: usize) -> usize
 }
 
 // Names of one length that end in their numbers, of up to six digits, have slots that follow one another.
+#[inline(always)]
 fn hash(name: &[u8]) -> usize
     ensures { result ≡ hash name.now }
 {
-    let len = name.len();
-    if len < 6 {
-        return mixed(
-            len,
-            byte(name, 0),
-            byte(name, len.saturating_sub(6)),
-            byte(name, len.saturating_sub(5)),
-            byte(name, len.saturating_sub(4)),
-            byte(name, len.saturating_sub(3)),
-            byte(name, len.saturating_sub(2)),
-            byte(name, len.saturating_sub(1)),
-        );
+    match name {
+        [a, .., b, c, d, e, f, g] => mixed(name.len(), *a, *b, *c, *d, *e, *f, *g),
+        [a, b, c, d, e, f] => mixed(6, *a, *a, *b, *c, *d, *e, *f),
+        [a, b, c, d, e] => mixed(5, *a, *a, *a, *b, *c, *d, *e),
+        [a, b, c, d] => mixed(4, *a, *a, *a, *a, *b, *c, *d),
+        [a, b, c] => mixed(3, *a, *a, *a, *a, *a, *b, *c),
+        [a, b] => mixed(2, *a, *a, *a, *a, *a, *a, *b),
+        [a] => mixed(1, *a, *a, *a, *a, *a, *a, *a),
+        [] => 0,
     }
-    mixed(
-        len,
-        name[0] as usize,
-        name[len - 6] as usize,
-        name[len - 5] as usize,
-        name[len - 4] as usize,
-        name[len - 3] as usize,
-        name[len - 2] as usize,
-        name[len - 1] as usize,
-    )
 }
 
 #[inline(always)]
 fn mixed(
     len: usize,
-    first: usize,
-    sixth: usize,
-    fifth: usize,
-    fourth: usize,
-    third: usize,
-    second: usize,
-    last: usize,
+    first: u8,
+    sixth: u8,
+    fifth: u8,
+    fourth: u8,
+    third: u8,
+    second: u8,
+    last: u8,
 ) -> usize
-    requires { (first < 256) × (sixth < 256) × (fifth < 256) × (fourth < 256) × (third < 256) × (second < 256) × (last < 256) }
     ensures { result ≡ mixed len first sixth fifth fourth third second last }
 {
     7919 * (len % 4096)
-        + 2_248_091 * first
-        + 100_000 * sixth
-        + 10_000 * fifth
-        + 1000 * fourth
-        + 100 * third
-        + 10 * second
-        + last
-}
-
-fn byte(name: &[u8], index: usize) -> usize
-    ensures byte { result ≡ get_or name.now index 0 }
-    ensures small { result < 256 }
-{
-    match name.get(index) {
-        Some(byte) => *byte as usize,
-        None => 0,
-    }
+        + 2_248_091 * first as usize
+        + 100_000 * sixth as usize
+        + 10_000 * fifth as usize
+        + 1000 * fourth as usize
+        + 100 * third as usize
+        + 10 * second as usize
+        + last as usize
 }
