@@ -2,3 +2,4 @@ pub mod Laying
 pub mod Lines
 pub mod Pages
 pub mod PageLines
+mod Writing

@@ -1,5 +1,5 @@
 -- What is shown of a player's answers (docs/READER.md, "What is shown").
-use Rattle.std.specs.Prelude.{ℕ, ◌+◌, ◌-◌, ◌^◌, min, List, [], ◌∷◌, ◌++◌, codes, if◌then◌else◌}
+use Rattle.std.specs.Prelude.{ℕ, ◌+◌, ◌-◌, ◌^◌, min, List, [], ◌∷◌, ◌++◌, codes, if◌then◌else◌, ⊤}
 use Rattle.std.specs.Fmt.{signed_decimal}
 use Rattle.ink_model.specs.declared.host.Event.{Event}
 use Rattle.ink_model.specs.declared.host.Event.TheVariants as event
@@ -9,6 +9,8 @@ use Rattle.ink_model.specs.declared.value.Value.{Value}
 use Rattle.ink_model.specs.declared.value.Value.TheVariants as value
 use Rattle.ink_page.specs.Page.{choice_page, line_page}
 use Rattle.ink_page.specs.declared.page.Look.{Look}
+use Rattle.ink_protocol.specs.declared.fault.RunFault.{RunFault}
+use Rattle.ink_protocol.specs.declared.fault.RunFault.TheVariants as fault
 
 -- words, in lines of their own
 abbrev pub said : Look → List ℕ → List ℕ
@@ -57,3 +59,10 @@ numbered look n (c ∷ cs) = (choice_page look n c ++ 10 ∷ []) ++ numbered loo
 -- choices behind an empty line, from 1
 abbrev pub choices_shown : Look → List Shown → List ℕ
 choices_shown look cs = 10 ∷ numbered look 1 cs
+
+-- what is shown fails for its sink, or for lack of memory
+abbrev pub FailsToShow : RunFault → Type 0
+FailsToShow fault.Write = ⊤
+FailsToShow fault.OutOfMemory = ⊤
+FailsToShow fault.Read = ⊥
+FailsToShow fault.TooLong = ⊥

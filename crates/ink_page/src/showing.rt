@@ -1,9 +1,11 @@
-//! What is shown of a player's answers.
+//! What is shown of a player's answers. The error is `Write` exactly where the sink failed in the call, or took no byte; the one
+//! other error is `OutOfMemory`.
 
-ghost use Rattle.std.specs.Prelude.{◌≡◌, ◌++◌, [], ◌∷◌, IfOk, OnOk, string_bytes};
+ghost use Rattle.std.specs.Prelude.{◌≡◌, ◌++◌, [], ◌∷◌, IfErr, IfOk, OnOk, string_bytes};
 ghost use Rattle.std.specs.Io.KnownBytes.{Appends};
 ghost use Rattle.ink_page.specs.Page.{choice_page};
-ghost use Rattle.ink_page.specs.Showing.{choices_shown, event_shown, events_shown, passage_shown, said, value_shown, value_words};
+ghost use Rattle.ink_page.specs.Showing.{FailsToShow, choices_shown, event_shown, events_shown, passage_shown, said, value_shown, value_words};
+ghost use Rattle.ink_protocol.specs.Ends.{Reports, writes_fail};
 
 use crate::page::{Look, choice_page, line_page};
 use ink_model::{Event, Passage, Shown, Value};
@@ -12,7 +14,9 @@ use std::alloc::{AllocError, Global};
 
 /// Shows words in lines of their own.
 pub fn say<T: Sink>(alloc: Global, look: Look, sink: &mut T, words: &str) -> Result<(), RunFault>
-    ensures { OnOk result (Appends (T.contents sink.old) (T.contents sink.new) (said look words.now)) }
+    ensures shows { OnOk result (Appends (T.contents sink.old) (T.contents sink.new) (said look words.now)) }
+    ensures sink { Reports (writes_fail result) (T.failures sink.old) (T.failures sink.new) (T.name sink.old) (T.name sink.new) }
+    ensures fault { IfErr result FailsToShow }
 {
     match line_page(alloc, look, words, &[]) {
         Ok(page) => write_page(sink, page),
@@ -27,7 +31,9 @@ pub fn show_passage<T: Sink>(
     sink: &mut T,
     passage: &Passage,
 ) -> Result<(), RunFault>
-    ensures { OnOk result (Appends (T.contents sink.old) (T.contents sink.new) (passage_shown look passage.now)) }
+    ensures shows { OnOk result (Appends (T.contents sink.old) (T.contents sink.new) (passage_shown look passage.now)) }
+    ensures sink { Reports (writes_fail result) (T.failures sink.old) (T.failures sink.new) (T.name sink.old) (T.name sink.new) }
+    ensures fault { IfErr result FailsToShow }
 {
     let Ok(page) = line_page(alloc, look, passage.text.as_str(), passage.tags.as_slice()) else {
         return Err(RunFault::OutOfMemory);
@@ -45,7 +51,9 @@ pub fn show_events<T: Sink>(
     sink: &mut T,
     events: &[Event],
 ) -> Result<(), RunFault>
-    ensures { OnOk result (Appends (T.contents sink.old) (T.contents sink.new) (events_shown look events.now)) }
+    ensures shows { OnOk result (Appends (T.contents sink.old) (T.contents sink.new) (events_shown look events.now)) }
+    ensures sink { Reports (writes_fail result) (T.failures sink.old) (T.failures sink.new) (T.name sink.old) (T.name sink.new) }
+    ensures fault { IfErr result FailsToShow }
 {
     for event in events {
         show_event(alloc, look, sink, event)?;
@@ -60,7 +68,9 @@ fn show_event<T: Sink>(
     sink: &mut T,
     event: &Event,
 ) -> Result<(), RunFault>
-    ensures { OnOk result (Appends (T.contents sink.old) (T.contents sink.new) (event_shown look event.now)) }
+    ensures shows { OnOk result (Appends (T.contents sink.old) (T.contents sink.new) (event_shown look event.now)) }
+    ensures sink { Reports (writes_fail result) (T.failures sink.old) (T.failures sink.new) (T.name sink.old) (T.name sink.new) }
+    ensures fault { IfErr result FailsToShow }
 {
     match event {
         Event::Call { .. } => Ok(()),
@@ -76,7 +86,9 @@ pub fn show_value<T: Sink>(
     name: &str,
     value: &Value,
 ) -> Result<(), RunFault>
-    ensures { OnOk result (Appends (T.contents sink.old) (T.contents sink.new) (value_shown look name.now value.now)) }
+    ensures shows { OnOk result (Appends (T.contents sink.old) (T.contents sink.new) (value_shown look name.now value.now)) }
+    ensures sink { Reports (writes_fail result) (T.failures sink.old) (T.failures sink.new) (T.name sink.old) (T.name sink.new) }
+    ensures fault { IfErr result FailsToShow }
 {
     match value_line(alloc, name, value) {
         Ok(line) => say(alloc, look, sink, line.as_str()),
@@ -106,7 +118,9 @@ pub fn show_choices<T: Sink>(
     sink: &mut T,
     choices: &[Shown],
 ) -> Result<(), RunFault>
-    ensures { OnOk result (Appends (T.contents sink.old) (T.contents sink.new) (choices_shown look choices.now)) }
+    ensures shows { OnOk result (Appends (T.contents sink.old) (T.contents sink.new) (choices_shown look choices.now)) }
+    ensures sink { Reports (writes_fail result) (T.failures sink.old) (T.failures sink.new) (T.name sink.old) (T.name sink.new) }
+    ensures fault { IfErr result FailsToShow }
 {
     write_answer(sink, b"\n")?;
     let mut number = 1u32;
@@ -125,7 +139,9 @@ fn show_choice<T: Sink>(
     number: u32,
     choice: &Shown,
 ) -> Result<(), RunFault>
-    ensures { OnOk result (Appends (T.contents sink.old) (T.contents sink.new) (choice_page look number choice.now ++ 10 ∷ [])) }
+    ensures shows { OnOk result (Appends (T.contents sink.old) (T.contents sink.new) (choice_page look number choice.now ++ 10 ∷ [])) }
+    ensures sink { Reports (writes_fail result) (T.failures sink.old) (T.failures sink.new) (T.name sink.old) (T.name sink.new) }
+    ensures fault { IfErr result FailsToShow }
 {
     match choice_page(alloc, look, number, choice) {
         Ok(page) => write_page(sink, page),
@@ -135,7 +151,9 @@ fn show_choice<T: Sink>(
 
 // Writes a page and its newline.
 fn write_page<T: Sink>(sink: &mut T, page: String) -> Result<(), RunFault>
-    ensures { OnOk result (Appends (T.contents sink.old) (T.contents sink.new) (string_bytes page ++ 10 ∷ [])) }
+    ensures shows { OnOk result (Appends (T.contents sink.old) (T.contents sink.new) (string_bytes page ++ 10 ∷ [])) }
+    ensures sink { Reports (writes_fail result) (T.failures sink.old) (T.failures sink.new) (T.name sink.old) (T.name sink.new) }
+    ensures fault { IfErr result FailsToShow }
 {
     let mut page = page;
     let Ok(()) = page.push('\n') else {

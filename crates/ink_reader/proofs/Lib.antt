@@ -6,3 +6,4 @@ pub mod Halting
 pub mod Keeping
 pub mod Flows
 pub mod Paths
+mod Causes

@@ -1,12 +1,14 @@
-//! A reading, and what is done at each line that is typed.
+//! A reading, and what is done at each line that is typed. The error of a call is `Write` exactly where the sink failed in it, or
+//! took no byte; it is never `Read`.
 
-ghost use Rattle.std.specs.Prelude.{◌≡◌, ◌&&◌, [], List, None, false, IfOk, OnOk, is_ok};
+ghost use Rattle.std.specs.Prelude.{◌≡◌, ◌&&◌, [], List, None, false, IfErr, IfOk, OnOk, is_ok};
 ghost use Rattle.std.specs.Io.KnownBytes.{Appends};
 ghost use Rattle.ink_model.specs.State.{is_running};
-ghost use Rattle.ink_page.specs.Showing.{said};
+ghost use Rattle.ink_page.specs.Showing.{FailsToShow, said};
 ghost use Rattle.ink_page.specs.Typed as asks;
 ghost use Rattle.ink_page.specs.Typed.{asked_by};
 ghost use Rattle.ink_player.specs.Words.{desk_of, state_of, story_of};
+ghost use Rattle.ink_protocol.specs.Ends.{Reports, reads_fail, writes_fail};
 ghost use Rattle.ink_reader.specs.Course.{IsBeginning, IsCourse, IsEnding, UpTo, has_loaded, places_of};
 ghost use Rattle.ink_reader.specs.Deeds.{Deed, Played};
 ghost use Rattle.ink_reader.specs.Kept.{IsPlace, KeptAs, Notes, StandsAt};
@@ -66,6 +68,7 @@ impl<P: PureFn, F: TurnFn, O: Watcher> Reader<P, F, O> {
     }
 
     /// Does what was typed. Only quitting is left to the caller.
+    #[tactic(auto, using(crate::proofs::Causes::unread, crate::proofs::Causes::unread_shown))]
     pub fn answer<T: Sink, S: Shelf>(
         &mut self,
         typed: Typed<'_>,
@@ -78,6 +81,8 @@ impl<P: PureFn, F: TurnFn, O: Watcher> Reader<P, F, O> {
         ensures keeps { KeptAs (story_of self.new.player) (state_of self.new.player) (S.kept shelf.old) (S.kept shelf.new) }
         ensures notes { Notes (asked_by typed.entry) self.old.past.before.items self.old.past.here self.new.past.before.items }
         ensures stands { StandsAt (story_of self.new.player) (state_of self.new.player) self.old.past.here self.new.past.here }
+        ensures sink { Reports (writes_fail result) (T.failures sink.old) (T.failures sink.new) (T.name sink.old) (T.name sink.new) }
+        ensures fault { reads_fail result ≡ false }
     {
         match typed {
             Typed::Choice(number) => self.choose(number, sink, shelf),
@@ -104,6 +109,8 @@ impl<P: PureFn, F: TurnFn, O: Watcher> Reader<P, F, O> {
         ensures keeps { KeptAs (story_of self.new.player) (state_of self.new.player) (S.kept shelf.old) (S.kept shelf.new) }
         ensures before { self.new.past.before.items ≡ self.old.past.before.items }
         ensures here { IsPlace (story_of self.new.player) (state_of self.new.player) self.new.past.here }
+        ensures sink { Reports (writes_fail result) (T.failures sink.old) (T.failures sink.new) (T.name sink.old) (T.name sink.new) }
+        ensures fault { reads_fail result ≡ false }
     {
         self.go_on(sink, shelf)
     }
@@ -123,6 +130,8 @@ impl<P: PureFn, F: TurnFn, O: Watcher> Reader<P, F, O> {
         ensures keeps { KeptAs (story_of self.new.player) (state_of self.new.player) (S.kept shelf.old) (S.kept shelf.new) }
         ensures notes { Notes asks.Load self.old.past.before.items self.old.past.here self.new.past.before.items }
         ensures stands { StandsAt (story_of self.new.player) (state_of self.new.player) self.old.past.here self.new.past.here }
+        ensures sink { Reports (writes_fail result) (T.failures sink.old) (T.failures sink.new) (T.name sink.old) (T.name sink.new) }
+        ensures fault { reads_fail result ≡ false }
     {
         let loaded = self.load(sink, shelf)?;
         self.saves = self.saves && loaded;
@@ -134,6 +143,8 @@ impl<P: PureFn, F: TurnFn, O: Watcher> Reader<P, F, O> {
         ensures reads { (ds : List Deed) × UpTo (is_ok result) (IsEnding self.now.saves (places_of self.now.past)) ds (places_of self.now.past)
             × Played P.meaning F.log O.state self.now.look self.now.player ds self.now.player (T.contents sink.old) (T.contents sink.new) (S.kept shelf.old) (S.kept shelf.new) (is_ok result) }
         ensures keeps { KeptAs (story_of self.now.player) (state_of self.now.player) (S.kept shelf.old) (S.kept shelf.new) }
+        ensures sink { Reports (writes_fail result) (T.failures sink.old) (T.failures sink.new) (T.name sink.old) (T.name sink.new) }
+        ensures fault { IfErr result FailsToShow }
     {
         if !self.past.is_at_choice() {
             return Ok(());
@@ -145,7 +156,9 @@ impl<P: PureFn, F: TurnFn, O: Watcher> Reader<P, F, O> {
     }
 
     pub(crate) fn say<T: Sink>(&self, sink: &mut T, words: &str) -> Result<(), RunFault>
-        ensures { OnOk result (Appends (T.contents sink.old) (T.contents sink.new) (said self.now.look words.now)) }
+        ensures shows { OnOk result (Appends (T.contents sink.old) (T.contents sink.new) (said self.now.look words.now)) }
+        ensures sink { Reports (writes_fail result) (T.failures sink.old) (T.failures sink.new) (T.name sink.old) (T.name sink.new) }
+        ensures fault { IfErr result FailsToShow }
     {
         say(self.alloc, self.look, sink, words)
     }

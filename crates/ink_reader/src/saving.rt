@@ -1,9 +1,11 @@
 //! Keeping and fetching a save.
 
-ghost use Rattle.std.specs.Prelude.{◌≡◌, ◌⊎◌, ℕ, List, Option, Result, Ok, Some, IfOk, MatchResult, OnOk, if◌then◌else◌, is_ok};
+ghost use Rattle.std.specs.Prelude.{◌≡◌, ◌⊎◌, ℕ, List, Option, Result, Ok, Some, IfErr, IfOk, MatchResult, OnOk, if◌then◌else◌, is_ok};
 ghost use Rattle.std.specs.Io.KnownBytes.{Appends};
 ghost use Rattle.serde_json.specs.Read.{read as read_text};
 ghost use Rattle.serde_json.specs.View.{view};
+ghost use Rattle.ink_page.specs.Showing.{FailsToShow};
+ghost use Rattle.ink_protocol.specs.Ends.{Reports, writes_fail};
 ghost use Rattle.ink_reader.specs.Course.{IsUnread, unsaved_told};
 ghost use Rattle.ink_reader.specs.Deeds.{deeds_shown};
 ghost use Rattle.ink_reader.specs.Kept.{Fetches, Keeps};
@@ -29,6 +31,8 @@ pub(crate) fn keep_save<T: Sink, S: Shelf>(
     ensures answers { (answer : Result (Unit {0}) NotKept) × Keeps (S.kept shelf.old) (S.kept shelf.new) save.now answer × IfOk result (λ kept. kept ≡ is_ok answer)
         × OnOk result (Appends (T.contents sink.old) (T.contents sink.new) (deeds_shown look (unsaved_told answer))) }
     ensures keeps { (S.kept shelf.new ≡ S.kept shelf.old) ⊎ (S.kept shelf.new ≡ Some (Some save.now)) }
+    ensures sink { Reports (writes_fail result) (T.failures sink.old) (T.failures sink.new) (T.name sink.old) (T.name sink.new) }
+    ensures fault { IfErr result FailsToShow }
 {
     match shelf.keep(save.as_str()) {
         Ok(()) => Ok(true),

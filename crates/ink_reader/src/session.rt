@@ -1,7 +1,9 @@
 //! A reading of lines that are typed, one after another.
 
-ghost use Rattle.std.specs.Prelude.{◌≡◌, ℕ, [], List, Option, IfOk, bytes_eq, codes, false, is_ok, not};
+ghost use Rattle.std.specs.Prelude.{◌≡◌, ℕ, [], List, Option, IfErr, IfOk, bytes_eq, codes, false, is_ok, not};
 ghost use Rattle.ink_page.specs.Typed.{asked_by};
+ghost use Rattle.ink_page.specs.Showing.{FailsToShow};
+ghost use Rattle.ink_protocol.specs.Ends.{Reports, after_call, reads_fail, writes_fail};
 ghost use Rattle.ink_reader.specs.Course.{IsEnding, UpTo, places_of};
 ghost use Rattle.ink_reader.specs.Deeds.{Deed, Played};
 ghost use Rattle.ink_reader.specs.Session.{AreNext, Begins, Follows, IsOffer, IsReading, IsSession, ReadBy, ReadTo, Starts, quits};
@@ -15,7 +17,8 @@ use ink_protocol::{RunFault, Sink, write_answer};
 
 impl<P: PureFn, F: TurnFn, O: Watcher> Reader<P, F, O> {
     /// Reads the story. It begins, or goes on where the save stands if there is one and that is wanted; then what is typed is done, up
-    /// to the end of it, or until the reader quits. After 2^64 lines no more are read.
+    /// to the end of it, or until the reader quits. After 2^64 lines no more are read. The error is `Write`
+    /// exactly where the sink failed in this call, or took no byte, and `Read` exactly where bringing a line failed.
     pub fn read_to_end<L: Lines, T: Sink, S: Shelf>(
         &mut self,
         lines: &mut L,
@@ -26,6 +29,8 @@ impl<P: PureFn, F: TurnFn, O: Watcher> Reader<P, F, O> {
             × ReadTo (is_ok result) (IsSession self.old.saves (places_of self.old.past)) lines_read ds (places_of self.new.past)
             × Played P.meaning F.log O.state self.old.look self.old.player ds self.new.player (T.contents sink.old) (T.contents sink.new) (S.kept shelf.old) (S.kept shelf.new) (is_ok result) }
         ensures look { self.new.look ≡ self.old.look }
+        ensures sink { Reports (writes_fail result) (T.failures sink.old) (T.failures sink.new) (T.name sink.old) (T.name sink.new) }
+        ensures lines { L.failures lines.new ≡ after_call (reads_fail result) (L.failures lines.old) }
     {
         if !self.open(lines, sink, shelf)? {
             return Ok(());
@@ -34,6 +39,7 @@ impl<P: PureFn, F: TurnFn, O: Watcher> Reader<P, F, O> {
     }
 
     // Begins, or goes on where a save is, if that is wanted. Tells whether the reading goes on.
+    #[tactic(auto, using(crate::proofs::Causes::unread, crate::proofs::Causes::unread_shown, crate::proofs::Causes::unread_written, crate::proofs::Causes::as_many))]
     fn open<L: Lines, T: Sink, S: Shelf>(
         &mut self,
         lines: &mut L,
@@ -44,6 +50,8 @@ impl<P: PureFn, F: TurnFn, O: Watcher> Reader<P, F, O> {
             × ReadBy result (IsSession self.old.saves (places_of self.old.past)) self.new.saves lines_read ds (places_of self.new.past)
             × Played P.meaning F.log O.state self.old.look self.old.player ds self.new.player (T.contents sink.old) (T.contents sink.new) (S.kept shelf.old) (S.kept shelf.new) (is_ok result) }
         ensures look { self.new.look ≡ self.old.look }
+        ensures sink { Reports (writes_fail result) (T.failures sink.old) (T.failures sink.new) (T.name sink.old) (T.name sink.new) }
+        ensures lines { L.failures lines.new ≡ after_call (reads_fail result) (L.failures lines.old) }
     {
         match shelf.fetch(self.alloc) {
             Ok(None) => self.start(sink, shelf),
@@ -53,6 +61,7 @@ impl<P: PureFn, F: TurnFn, O: Watcher> Reader<P, F, O> {
     }
 
     // Asks whether to go on with a save, and begins as is wanted.
+    #[tactic(auto, using(crate::proofs::Causes::unread, crate::proofs::Causes::unread_shown, crate::proofs::Causes::unread_written, crate::proofs::Causes::as_many))]
     fn offer<L: Lines, T: Sink, S: Shelf>(
         &mut self,
         lines: &mut L,
@@ -63,6 +72,8 @@ impl<P: PureFn, F: TurnFn, O: Watcher> Reader<P, F, O> {
             × ReadBy result (IsOffer self.old.saves (places_of self.old.past)) self.new.saves lines_read ds (places_of self.new.past)
             × Played P.meaning F.log O.state self.old.look self.old.player ds self.new.player (T.contents sink.old) (T.contents sink.new) (S.kept shelf.old) (S.kept shelf.new) (is_ok result) }
         ensures look { self.new.look ≡ self.old.look }
+        ensures sink { Reports (writes_fail result) (T.failures sink.old) (T.failures sink.new) (T.name sink.old) (T.name sink.new) }
+        ensures lines { L.failures lines.new ≡ after_call (reads_fail result) (L.failures lines.old) }
     {
         self.say(
             sink,
@@ -85,6 +96,8 @@ impl<P: PureFn, F: TurnFn, O: Watcher> Reader<P, F, O> {
         ensures reads { (ds : List Deed) × ReadBy result (Starts (bytes_eq wish.now (codes "n")) self.old.saves (places_of self.old.past)) self.new.saves [] ds (places_of self.new.past)
             × Played P.meaning F.log O.state self.old.look self.old.player ds self.new.player (T.contents sink.old) (T.contents sink.new) (S.kept shelf.old) (S.kept shelf.new) (is_ok result) }
         ensures look { self.new.look ≡ self.old.look }
+        ensures sink { Reports (writes_fail result) (T.failures sink.old) (T.failures sink.new) (T.name sink.old) (T.name sink.new) }
+        ensures fault { reads_fail result ≡ false }
     {
         if wish == "n" {
             return self.start(sink, shelf);
@@ -100,6 +113,8 @@ impl<P: PureFn, F: TurnFn, O: Watcher> Reader<P, F, O> {
         ensures reads { (ds : List Deed) × ReadBy result (Begins self.old.saves (places_of self.old.past)) self.old.saves [] ds (places_of self.new.past)
             × Played P.meaning F.log O.state self.old.look self.old.player ds self.new.player (T.contents sink.old) (T.contents sink.new) (S.kept shelf.old) (S.kept shelf.new) (is_ok result) }
         ensures settings { (self.new.look ≡ self.old.look) × (self.new.saves ≡ self.old.saves) }
+        ensures sink { Reports (writes_fail result) (T.failures sink.old) (T.failures sink.new) (T.name sink.old) (T.name sink.new) }
+        ensures fault { reads_fail result ≡ false }
     {
         self.begin(sink, shelf)?;
         Ok(true)
@@ -116,6 +131,8 @@ impl<P: PureFn, F: TurnFn, O: Watcher> Reader<P, F, O> {
             × ReadTo (is_ok result) (IsReading self.old.saves (places_of self.old.past)) lines_read ds (places_of self.new.past)
             × Played P.meaning F.log O.state self.old.look self.old.player ds self.new.player (T.contents sink.old) (T.contents sink.new) (S.kept shelf.old) (S.kept shelf.new) (is_ok result) }
         ensures settings { (self.new.look ≡ self.old.look) × (self.new.saves ≡ self.old.saves) }
+        ensures sink { Reports (writes_fail result) (T.failures sink.old) (T.failures sink.new) (T.name sink.old) (T.name sink.new) }
+        ensures lines { L.failures lines.new ≡ after_call (reads_fail result) (L.failures lines.old) }
     {
         'lines: for _line in 0..u64::MAX {
             if !self.read_line(lines, sink, shelf)? {
@@ -126,6 +143,7 @@ impl<P: PureFn, F: TurnFn, O: Watcher> Reader<P, F, O> {
     }
 
     // Asks for a line, and does what is typed. Tells whether the reading goes on.
+    #[tactic(auto, using(crate::proofs::Causes::unread, crate::proofs::Causes::unread_shown, crate::proofs::Causes::unread_written, crate::proofs::Causes::as_many))]
     fn read_line<L: Lines, T: Sink, S: Shelf>(
         &mut self,
         lines: &mut L,
@@ -136,6 +154,8 @@ impl<P: PureFn, F: TurnFn, O: Watcher> Reader<P, F, O> {
             × ReadBy result (IsReading self.old.saves (places_of self.old.past)) self.old.saves lines_read ds (places_of self.new.past)
             × Played P.meaning F.log O.state self.old.look self.old.player ds self.new.player (T.contents sink.old) (T.contents sink.new) (S.kept shelf.old) (S.kept shelf.new) (is_ok result) }
         ensures settings { (self.new.look ≡ self.old.look) × (self.new.saves ≡ self.old.saves) }
+        ensures sink { Reports (writes_fail result) (T.failures sink.old) (T.failures sink.new) (T.name sink.old) (T.name sink.new) }
+        ensures lines { L.failures lines.new ≡ after_call (reads_fail result) (L.failures lines.old) }
     {
         write_answer(sink, b"> ")?;
         match lines.next(self.alloc)? {
@@ -145,6 +165,7 @@ impl<P: PureFn, F: TurnFn, O: Watcher> Reader<P, F, O> {
     }
 
     // Does what is typed, and tells whether the reading goes on.
+    #[tactic(auto, using(crate::proofs::Causes::unread, crate::proofs::Causes::unread_shown))]
     fn follow<T: Sink, S: Shelf>(
         &mut self,
         typed: Typed<'_>,
@@ -155,6 +176,8 @@ impl<P: PureFn, F: TurnFn, O: Watcher> Reader<P, F, O> {
             × IfOk result (λ goes. quits (asked_by typed.entry) ≡ not goes)
             × Played P.meaning F.log O.state self.old.look self.old.player ds self.new.player (T.contents sink.old) (T.contents sink.new) (S.kept shelf.old) (S.kept shelf.new) (is_ok result) }
         ensures settings { (self.new.look ≡ self.old.look) × (self.new.saves ≡ self.old.saves) }
+        ensures sink { Reports (writes_fail result) (T.failures sink.old) (T.failures sink.new) (T.name sink.old) (T.name sink.new) }
+        ensures fault { reads_fail result ≡ false }
     {
         match typed {
             Typed::Quit => self.end(sink, shelf),
@@ -170,6 +193,8 @@ impl<P: PureFn, F: TurnFn, O: Watcher> Reader<P, F, O> {
         ensures reads { (ds : List Deed) × UpTo (is_ok result) (IsEnding self.now.saves (places_of self.now.past)) ds (places_of self.now.past)
             × IfOk result (λ goes. goes ≡ false)
             × Played P.meaning F.log O.state self.now.look self.now.player ds self.now.player (T.contents sink.old) (T.contents sink.new) (S.kept shelf.old) (S.kept shelf.new) (is_ok result) }
+        ensures sink { Reports (writes_fail result) (T.failures sink.old) (T.failures sink.new) (T.name sink.old) (T.name sink.new) }
+        ensures fault { IfErr result FailsToShow }
     {
         self.quit(sink, shelf)?;
         Ok(false)

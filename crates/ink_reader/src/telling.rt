@@ -1,6 +1,6 @@
 //! Telling what comes, up to the next choice.
 
-ghost use Rattle.std.specs.Prelude.{◌≡◌, ◌++◌, ℕ, List, [], ◌∷◌, Option, Result, false, is_ok, IfOk, OnOk};
+ghost use Rattle.std.specs.Prelude.{◌≡◌, ◌++◌, ℕ, List, [], ◌∷◌, Option, Result, false, is_ok, IfErr, IfOk, OnOk};
 ghost use Rattle.std.specs.Io.KnownBytes.{Appends};
 ghost use Rattle.ink_model.specs.Answer.{Reply, reply_of_events, reply_of_halt};
 ghost use Rattle.ink_model.specs.Command as command;
@@ -9,8 +9,9 @@ ghost use Rattle.ink_model.specs.Turns.{ShowsChoices};
 ghost use Rattle.ink_model.specs.declared.fault.Refusal.{Refusal};
 ghost use Rattle.ink_model.specs.declared.passage.Shown.{Shown};
 ghost use Rattle.ink_page.specs.Sentences.{fault_sentence};
-ghost use Rattle.ink_page.specs.Showing.{events_shown, passage_shown, said};
+ghost use Rattle.ink_page.specs.Showing.{FailsToShow, events_shown, passage_shown, said};
 ghost use Rattle.ink_player.specs.Words.{state_of};
+ghost use Rattle.ink_protocol.specs.Ends.{Reports, reads_fail, writes_fail};
 ghost use Rattle.ink_reader.specs.Course.{IsBreak, acts, end_behind};
 ghost use Rattle.ink_reader.specs.Deeds.{Deed, Gives, Played, deeds_shown, reply_shown};
 ghost use Rattle.ink_reader.specs.Steps.{ToldBy, are_offered, break_told, end_after, stop_told, whereabouts_told};
@@ -41,6 +42,7 @@ pub(crate) enum Told {
 }
 
 /// Tells line by line what comes, up to the stop. One that is not there after 2^64 lines is no more waited for.
+#[tactic(auto, using(crate::proofs::Causes::unread))]
 pub(crate) fn tell<T: Sink, P: PureFn, F: TurnFn, O: Watcher>(
     alloc: Global,
     look: Look,
@@ -49,6 +51,8 @@ pub(crate) fn tell<T: Sink, P: PureFn, F: TurnFn, O: Watcher>(
 ) -> Result<Told, RunFault>
     ensures lines { (ds : List Deed) × ToldBy result ds × ((kept : Option (Option (List ℕ))) → Played P.meaning F.log O.state look player.old ds player.new (T.contents sink.old) (T.contents sink.new) kept kept (is_ok result)) }
     ensures stops { OnOk result (is_running (state_of player.new).condition ≡ false) }
+    ensures sink { Reports (writes_fail result) (T.failures sink.old) (T.failures sink.new) (T.name sink.old) (T.name sink.new) }
+    ensures fault { reads_fail result ≡ false }
 {
     let mut told = Told::Stop;
     'lines: for _line in 0..u64::MAX {
@@ -73,6 +77,8 @@ fn tell_line<T: Sink, P: PureFn, F: TurnFn, O: Watcher>(
     ensures line { (place : Reply) × (reply : Reply) × (ds : List Deed) × IsBreak place reply ds × IfOk result (λ end. end ≡ end_after reply)
         × ((kept : Option (Option (List ℕ))) → Played P.meaning F.log O.state look player.old (Gives command.Save place ∷ Gives command.Continue reply ∷ ds) player.new (T.contents sink.old) (T.contents sink.new) kept kept (is_ok result)) }
     ensures stops { IfOk result (λ end. end ≡ Told.Break → is_running (state_of player.new).condition ≡ false) }
+    ensures sink { Reports (writes_fail result) (T.failures sink.old) (T.failures sink.new) (T.name sink.old) (T.name sink.new) }
+    ensures fault { IfErr result FailsToShow }
 {
     let path = next_path(alloc, player);
     match next_line(player) {
@@ -89,6 +95,8 @@ fn tell_passage<T: Sink>(
 ) -> Result<Told, RunFault>
     ensures shows { OnOk result (Appends (T.contents sink.old) (T.contents sink.new) (passage_shown look passage.now)) }
     ensures end { IfOk result (λ end. end ≡ end_behind passage.now.loose) }
+    ensures sink { Reports (writes_fail result) (T.failures sink.old) (T.failures sink.new) (T.name sink.old) (T.name sink.new) }
+    ensures fault { IfErr result FailsToShow }
 {
     show_passage(alloc, look, sink, passage)?;
     if passage.loose {
@@ -106,6 +114,8 @@ fn tell_break<T: Sink>(
 ) -> Result<Told, RunFault>
     ensures shows { OnOk result (Appends (T.contents sink.old) (T.contents sink.new) (reply_shown look broke_off (reply_of_halt halt.now) ++ deeds_shown look (break_told (reply_of_halt halt.now) path.now))) }
     ensures end { IfOk result (λ end. end ≡ Told.Break) }
+    ensures sink { Reports (writes_fail result) (T.failures sink.old) (T.failures sink.new) (T.name sink.old) (T.name sink.new) }
+    ensures fault { IfErr result FailsToShow }
 {
     tell_halt(alloc, look, sink, halt, BROKE_OFF)?;
     if let Halt::Fault { .. } = halt {
@@ -121,7 +131,9 @@ fn tell_path<T: Sink>(
     sink: &mut T,
     path: &Result<Option<Text>, AllocError>,
 ) -> Result<(), RunFault>
-    ensures { OnOk result (Appends (T.contents sink.old) (T.contents sink.new) (deeds_shown look (whereabouts_told path.now))) }
+    ensures shows { OnOk result (Appends (T.contents sink.old) (T.contents sink.new) (deeds_shown look (whereabouts_told path.now))) }
+    ensures sink { Reports (writes_fail result) (T.failures sink.old) (T.failures sink.new) (T.name sink.old) (T.name sink.new) }
+    ensures fault { IfErr result FailsToShow }
 {
     let Ok(path) = path else {
         return say(
@@ -138,7 +150,9 @@ fn tell_path<T: Sink>(
 }
 
 fn say_path<T: Sink>(alloc: Global, look: Look, sink: &mut T, path: &str) -> Result<(), RunFault>
-    ensures { OnOk result (Appends (T.contents sink.old) (T.contents sink.new) (said look (word_text (Began path.now)))) }
+    ensures shows { OnOk result (Appends (T.contents sink.old) (T.contents sink.new) (said look (word_text (Began path.now)))) }
+    ensures sink { Reports (writes_fail result) (T.failures sink.old) (T.failures sink.new) (T.name sink.old) (T.name sink.new) }
+    ensures fault { IfErr result FailsToShow }
 {
     let Ok(words) = format!(in alloc; "The line that broke off began at {path}.") else {
         return Err(RunFault::OutOfMemory);
@@ -154,7 +168,9 @@ fn tell_halt<T: Sink>(
     halt: &Halt,
     stands: &str,
 ) -> Result<(), RunFault>
-    ensures { OnOk result (Appends (T.contents sink.old) (T.contents sink.new) (reply_shown look stands.now (reply_of_halt halt.now))) }
+    ensures shows { OnOk result (Appends (T.contents sink.old) (T.contents sink.new) (reply_shown look stands.now (reply_of_halt halt.now))) }
+    ensures sink { Reports (writes_fail result) (T.failures sink.old) (T.failures sink.new) (T.name sink.old) (T.name sink.new) }
+    ensures fault { IfErr result FailsToShow }
 {
     match halt {
         Halt::Refused(refusal) => say(alloc, look, sink, refusal_words(*refusal)),
@@ -173,7 +189,9 @@ fn tell_fault<T: Sink>(
     events: &[Event],
     stands: &str,
 ) -> Result<(), RunFault>
-    ensures { OnOk result (Appends (T.contents sink.old) (T.contents sink.new) (events_shown look events.now ++ (said look (fault_sentence fault) ++ said look stands.now))) }
+    ensures shows { OnOk result (Appends (T.contents sink.old) (T.contents sink.new) (events_shown look events.now ++ (said look (fault_sentence fault) ++ said look stands.now))) }
+    ensures sink { Reports (writes_fail result) (T.failures sink.old) (T.failures sink.new) (T.name sink.old) (T.name sink.new) }
+    ensures fault { IfErr result FailsToShow }
 {
     show_events(alloc, look, sink, events)?;
     say(alloc, look, sink, fault_words(fault))?;
@@ -189,6 +207,8 @@ pub(crate) fn tell_outcome<T: Sink>(
 ) -> Result<bool, RunFault>
     ensures shows { OnOk result (Appends (T.contents sink.old) (T.contents sink.new) (reply_shown look broke_before (reply_of_events outcome.now))) }
     ensures done { IfOk result (λ done. done ≡ acts (reply_of_events outcome.now)) }
+    ensures sink { Reports (writes_fail result) (T.failures sink.old) (T.failures sink.new) (T.name sink.old) (T.name sink.new) }
+    ensures fault { IfErr result FailsToShow }
 {
     match outcome {
         Ok(events) => {
@@ -210,8 +230,10 @@ pub(crate) fn tell_stop<T: Sink, P: PureFn, F: TurnFn, O: Watcher>(
     player: &Player<P, F, O>,
     told: Told,
 ) -> Result<bool, RunFault>
-    ensures { (shown : Result (List Shown) Refusal) × ShowsChoices (state_of player.now) shown × IfOk result (λ offered. offered ≡ are_offered shown)
+    ensures shows { (shown : Result (List Shown) Refusal) × ShowsChoices (state_of player.now) shown × IfOk result (λ offered. offered ≡ are_offered shown)
         × OnOk result (Appends (T.contents sink.old) (T.contents sink.new) (deeds_shown look (stop_told told shown))) }
+    ensures sink { Reports (writes_fail result) (T.failures sink.old) (T.failures sink.new) (T.name sink.old) (T.name sink.new) }
+    ensures fault { IfErr result FailsToShow }
 {
     let choices = match player.choices() {
         Ok(choices) => choices,
@@ -228,6 +250,8 @@ pub(crate) fn tell_stop<T: Sink, P: PureFn, F: TurnFn, O: Watcher>(
 fn tell_end<T: Sink>(alloc: Global, look: Look, sink: &mut T, words: &str) -> Result<bool, RunFault>
     ensures says { OnOk result (Appends (T.contents sink.old) (T.contents sink.new) (said look words.now)) }
     ensures none { IfOk result (λ offered. offered ≡ false) }
+    ensures sink { Reports (writes_fail result) (T.failures sink.old) (T.failures sink.new) (T.name sink.old) (T.name sink.new) }
+    ensures fault { IfErr result FailsToShow }
 {
     say(alloc, look, sink, words)?;
     Ok(false)

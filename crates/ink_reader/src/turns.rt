@@ -1,6 +1,6 @@
 //! What is done at each line that is typed, and how the story is told then.
 
-ghost use Rattle.std.specs.Prelude.{◌≡◌, ◌⊎◌, ◌++◌, ℕ, [], ◌∷◌, List, Option, Result, None, Some, false, IfOk, MatchResult, OnOk, is_ok};
+ghost use Rattle.std.specs.Prelude.{◌≡◌, ◌⊎◌, ◌++◌, ℕ, [], ◌∷◌, List, Option, Result, None, Some, false, IfErr, IfOk, MatchResult, OnOk, is_ok};
 ghost use Rattle.serde_json.specs.Read.{read as read_text};
 ghost use Rattle.serde_json.specs.View.{view};
 ghost use Rattle.ink_model.specs.Answer.{Reply};
@@ -8,6 +8,8 @@ ghost use Rattle.ink_model.specs.Command as command;
 ghost use Rattle.ink_model.specs.State.{is_running};
 ghost use Rattle.ink_page.specs.Typed as asks;
 ghost use Rattle.ink_player.specs.Words.{state_of, story_of};
+ghost use Rattle.ink_page.specs.Showing.{FailsToShow};
+ghost use Rattle.ink_protocol.specs.Ends.{Reports, reads_fail, writes_fail};
 ghost use Rattle.ink_reader.specs.Course.{GoesOn, IsBeginning, IsCourse, IsNoted, IsSaving, IsStop, SavesItself, UpTo, acts, has_loaded, places_of, saving_told};
 ghost use Rattle.ink_reader.specs.Deeds.{Deed, Gives, Keeps, Played};
 ghost use Rattle.ink_reader.specs.Kept.{IsPlace, KeptAs, Noted, Notes, StandsAt};
@@ -28,6 +30,7 @@ use serde_json::Value as Json;
 
 impl<P: PureFn, F: TurnFn, O: Watcher> Reader<P, F, O> {
     /// Tells what comes, up to the next choice, and notes where the story stands there.
+    #[tactic(auto, using(crate::proofs::Causes::unread, crate::proofs::Causes::unread_shown))]
     pub(crate) fn go_on<T: Sink, S: Shelf>(
         &mut self,
         sink: &mut T,
@@ -40,6 +43,8 @@ impl<P: PureFn, F: TurnFn, O: Watcher> Reader<P, F, O> {
         ensures keeps { KeptAs (story_of self.new.player) (state_of self.new.player) (S.kept shelf.old) (S.kept shelf.new) }
         ensures before { self.new.past.before.items ≡ self.old.past.before.items }
         ensures here { IsPlace (story_of self.new.player) (state_of self.new.player) self.new.past.here }
+        ensures sink { Reports (writes_fail result) (T.failures sink.old) (T.failures sink.new) (T.name sink.old) (T.name sink.new) }
+        ensures fault { reads_fail result ≡ false }
     {
         self.past.stand(None);
         let told = tell(self.alloc, self.look, sink, &mut self.player)?;
@@ -61,6 +66,8 @@ impl<P: PureFn, F: TurnFn, O: Watcher> Reader<P, F, O> {
         ensures keeps { KeptAs (story_of self.new.player) (state_of self.new.player) (S.kept shelf.old) (S.kept shelf.new) }
         ensures before { self.new.past.before.items ≡ self.old.past.before.items }
         ensures here { IsPlace (story_of self.new.player) (state_of self.new.player) self.new.past.here }
+        ensures sink { Reports (writes_fail result) (T.failures sink.old) (T.failures sink.new) (T.name sink.old) (T.name sink.new) }
+        ensures fault { IfErr result FailsToShow }
     {
         if let Told::Break = told {
             return Ok(());
@@ -81,6 +88,8 @@ impl<P: PureFn, F: TurnFn, O: Watcher> Reader<P, F, O> {
         ensures keeps { KeptAs (story_of self.new.player) (state_of self.new.player) (S.kept shelf.old) (S.kept shelf.new) }
         ensures before { self.new.past.before.items ≡ self.old.past.before.items }
         ensures here { IsPlace (story_of self.new.player) (state_of self.new.player) self.new.past.here }
+        ensures sink { Reports (writes_fail result) (T.failures sink.old) (T.failures sink.new) (T.name sink.old) (T.name sink.new) }
+        ensures fault { IfErr result FailsToShow }
     {
         match save_of(&self.player) {
             Ok(save) => {
@@ -105,6 +114,8 @@ impl<P: PureFn, F: TurnFn, O: Watcher> Reader<P, F, O> {
         ensures reads { (ds : List Deed) × SavesItself self.now.saves save.now ds
             × Played P.meaning F.log O.state self.now.look self.now.player ds self.now.player (T.contents sink.old) (T.contents sink.new) (S.kept shelf.old) (S.kept shelf.new) (is_ok result) }
         ensures keeps { (S.kept shelf.new ≡ S.kept shelf.old) ⊎ (S.kept shelf.new ≡ Some (Some save.now)) }
+        ensures sink { Reports (writes_fail result) (T.failures sink.old) (T.failures sink.new) (T.name sink.old) (T.name sink.new) }
+        ensures fault { IfErr result FailsToShow }
     {
         if !self.saves {
             return Ok(());
@@ -114,6 +125,7 @@ impl<P: PureFn, F: TurnFn, O: Watcher> Reader<P, F, O> {
     }
 
     /// Takes the choice of a number, from 1.
+    #[tactic(auto, using(crate::proofs::Causes::unread, crate::proofs::Causes::unread_shown))]
     pub(crate) fn choose<T: Sink, S: Shelf>(
         &mut self,
         number: u32,
@@ -126,6 +138,8 @@ impl<P: PureFn, F: TurnFn, O: Watcher> Reader<P, F, O> {
         ensures keeps { KeptAs (story_of self.new.player) (state_of self.new.player) (S.kept shelf.old) (S.kept shelf.new) }
         ensures notes { Notes (asks.Choice number) self.old.past.before.items self.old.past.here self.new.past.before.items }
         ensures stands { StandsAt (story_of self.new.player) (state_of self.new.player) self.old.past.here self.new.past.here }
+        ensures sink { Reports (writes_fail result) (T.failures sink.old) (T.failures sink.new) (T.name sink.old) (T.name sink.new) }
+        ensures fault { reads_fail result ≡ false }
     {
         let Some(index) = number.checked_sub(1) else {
             return self.say(sink, refusal_words(Refusal::NotAChoice));
@@ -137,6 +151,7 @@ impl<P: PureFn, F: TurnFn, O: Watcher> Reader<P, F, O> {
     }
 
     // Goes on from where the story stood, which is noted.
+    #[tactic(auto, using(crate::proofs::Causes::unread, crate::proofs::Causes::unread_shown))]
     fn leave<T: Sink, S: Shelf>(&mut self, sink: &mut T, shelf: &mut S) -> Result<(), RunFault>
         ensures reads { (ds : List Deed) × UpTo (is_ok result) (GoesOn self.old.saves (places_of self.old.past)) ds (places_of self.new.past)
             × Played P.meaning F.log O.state self.old.look self.old.player ds self.new.player (T.contents sink.old) (T.contents sink.new) (S.kept shelf.old) (S.kept shelf.new) (is_ok result) }
@@ -144,6 +159,8 @@ impl<P: PureFn, F: TurnFn, O: Watcher> Reader<P, F, O> {
         ensures keeps { KeptAs (story_of self.new.player) (state_of self.new.player) (S.kept shelf.old) (S.kept shelf.new) }
         ensures noted { Noted self.old.past.before.items self.old.past.here self.new.past.before.items }
         ensures here { IsPlace (story_of self.new.player) (state_of self.new.player) self.new.past.here }
+        ensures sink { Reports (writes_fail result) (T.failures sink.old) (T.failures sink.new) (T.name sink.old) (T.name sink.new) }
+        ensures fault { reads_fail result ≡ false }
     {
         if self.past.leave().is_ok() {
             return self.go_on(sink, shelf);
@@ -156,6 +173,7 @@ impl<P: PureFn, F: TurnFn, O: Watcher> Reader<P, F, O> {
     }
 
     /// Goes back to before the last choice.
+    #[tactic(auto, using(crate::proofs::Causes::unread, crate::proofs::Causes::unread_shown))]
     pub(crate) fn go_back<T: Sink, S: Shelf>(
         &mut self,
         sink: &mut T,
@@ -167,6 +185,8 @@ impl<P: PureFn, F: TurnFn, O: Watcher> Reader<P, F, O> {
         ensures keeps { KeptAs (story_of self.new.player) (state_of self.new.player) (S.kept shelf.old) (S.kept shelf.new) }
         ensures notes { Notes asks.Back self.old.past.before.items self.old.past.here self.new.past.before.items }
         ensures stands { StandsAt (story_of self.new.player) (state_of self.new.player) self.old.past.here self.new.past.here }
+        ensures sink { Reports (writes_fail result) (T.failures sink.old) (T.failures sink.new) (T.name sink.old) (T.name sink.new) }
+        ensures fault { reads_fail result ≡ false }
     {
         let json = match self.last_place() {
             Ok(json) => json,
@@ -197,12 +217,15 @@ impl<P: PureFn, F: TurnFn, O: Watcher> Reader<P, F, O> {
             × ((kept : Option (Option (List ℕ))) → Played P.meaning F.log O.state self.old.look self.old.player (Gives (command.Load (Some (view json.now))) reply ∷ []) self.new.player (T.contents sink.old) (T.contents sink.new) kept kept (is_ok result)) }
         ensures settings { (self.new.look ≡ self.old.look) × (self.new.saves ≡ self.old.saves) }
         ensures past { self.new.past ≡ self.old.past }
+        ensures sink { Reports (writes_fail result) (T.failures sink.old) (T.failures sink.new) (T.name sink.old) (T.name sink.new) }
+        ensures fault { IfErr result FailsToShow }
     {
         let outcome = load_save(&mut self.player, json);
         tell_outcome(self.alloc, self.look, &outcome, sink)
     }
 
     /// Begins the story anew.
+    #[tactic(auto, using(crate::proofs::Causes::unread, crate::proofs::Causes::unread_shown))]
     pub(crate) fn restart<T: Sink, S: Shelf>(
         &mut self,
         sink: &mut T,
@@ -214,6 +237,8 @@ impl<P: PureFn, F: TurnFn, O: Watcher> Reader<P, F, O> {
         ensures keeps { KeptAs (story_of self.new.player) (state_of self.new.player) (S.kept shelf.old) (S.kept shelf.new) }
         ensures notes { Notes asks.Restart self.old.past.before.items self.old.past.here self.new.past.before.items }
         ensures stands { StandsAt (story_of self.new.player) (state_of self.new.player) self.old.past.here self.new.past.here }
+        ensures sink { Reports (writes_fail result) (T.failures sink.old) (T.failures sink.new) (T.name sink.old) (T.name sink.new) }
+        ensures fault { reads_fail result ≡ false }
     {
         let outcome = begin_anew(&mut self.player);
         if !tell_outcome(self.alloc, self.look, &outcome, sink)? {
@@ -224,7 +249,9 @@ impl<P: PureFn, F: TurnFn, O: Watcher> Reader<P, F, O> {
 
     /// Tells a global's value.
     pub(crate) fn tell_variable<T: Sink>(&self, name: &str, sink: &mut T) -> Result<(), RunFault>
-        ensures { (reply : Reply) × ((kept : Option (Option (List ℕ))) → Played P.meaning F.log O.state self.now.look self.now.player (Gives (command.Get name.now) reply ∷ []) self.now.player (T.contents sink.old) (T.contents sink.new) kept kept (is_ok result)) }
+        ensures shows { (reply : Reply) × ((kept : Option (Option (List ℕ))) → Played P.meaning F.log O.state self.now.look self.now.player (Gives (command.Get name.now) reply ∷ []) self.now.player (T.contents sink.old) (T.contents sink.new) kept kept (is_ok result)) }
+        ensures sink { Reports (writes_fail result) (T.failures sink.old) (T.failures sink.new) (T.name sink.old) (T.name sink.new) }
+        ensures fault { IfErr result FailsToShow }
     {
         match value_of(&self.player, name) {
             Ok(value) => show_value(self.alloc, self.look, sink, name, &value),
@@ -240,6 +267,8 @@ impl<P: PureFn, F: TurnFn, O: Watcher> Reader<P, F, O> {
     ) -> Result<(), RunFault>
         ensures reads { (ds : List Deed) × IsSaving ds × Played P.meaning F.log O.state self.now.look self.now.player ds self.now.player (T.contents sink.old) (T.contents sink.new) (S.kept shelf.old) (S.kept shelf.new) (is_ok result) }
         ensures keeps { KeptAs (story_of self.now.player) (state_of self.now.player) (S.kept shelf.old) (S.kept shelf.new) }
+        ensures sink { Reports (writes_fail result) (T.failures sink.old) (T.failures sink.new) (T.name sink.old) (T.name sink.new) }
+        ensures fault { IfErr result FailsToShow }
     {
         match save_of(&self.player) {
             Ok(save) => self.keep(&save, sink, shelf),
@@ -256,6 +285,8 @@ impl<P: PureFn, F: TurnFn, O: Watcher> Reader<P, F, O> {
     ) -> Result<(), RunFault>
         ensures reads { (answer : Result (Unit {0}) NotKept) × Played P.meaning F.log O.state self.now.look self.now.player (Keeps save.now answer ∷ saving_told answer) self.now.player (T.contents sink.old) (T.contents sink.new) (S.kept shelf.old) (S.kept shelf.new) (is_ok result) }
         ensures keeps { (S.kept shelf.new ≡ S.kept shelf.old) ⊎ (S.kept shelf.new ≡ Some (Some save.now)) }
+        ensures sink { Reports (writes_fail result) (T.failures sink.old) (T.failures sink.new) (T.name sink.old) (T.name sink.new) }
+        ensures fault { IfErr result FailsToShow }
     {
         if !keep_save(self.alloc, self.look, save, sink, shelf)? {
             return Ok(());
@@ -264,6 +295,7 @@ impl<P: PureFn, F: TurnFn, O: Watcher> Reader<P, F, O> {
     }
 
     /// Goes on where the save stands that is kept, and tells whether it does; where it does not, it is said why.
+    #[tactic(auto, using(crate::proofs::Causes::unread, crate::proofs::Causes::unread_shown))]
     pub(crate) fn load<T: Sink, S: Shelf>(
         &mut self,
         sink: &mut T,
@@ -276,6 +308,8 @@ impl<P: PureFn, F: TurnFn, O: Watcher> Reader<P, F, O> {
         ensures keeps { KeptAs (story_of self.new.player) (state_of self.new.player) (S.kept shelf.old) (S.kept shelf.new) }
         ensures notes { Notes asks.Load self.old.past.before.items self.old.past.here self.new.past.before.items }
         ensures stands { StandsAt (story_of self.new.player) (state_of self.new.player) self.old.past.here self.new.past.here }
+        ensures sink { Reports (writes_fail result) (T.failures sink.old) (T.failures sink.new) (T.name sink.old) (T.name sink.new) }
+        ensures fault { reads_fail result ≡ false }
     {
         let json = match fetch_save(self.alloc, shelf) {
             Ok(json) => json,

@@ -11,11 +11,15 @@ use std::io::ErrorKind;
 #[derive(Drop)]
 pub(crate) struct InputLines<R> {
     pub(crate) rt: R,
+    /// How many times reading a line has failed, by a counter of 64 bits.
+    pub(crate) failures: u64,
 }
 
 impl<R: Input> Lines for InputLines<R> {
     // What will be typed is not known.
     ghost coming = { λ l. None };
+
+    ghost failures = { λ l. l.failures };
 
     // A line that is no text is as one that is not understood.
     fn next(&mut self, alloc: Global) -> Result<Option<String>, RunFault> {
@@ -24,7 +28,10 @@ impl<R: Input> Lines for InputLines<R> {
             Ok(0) => Ok(None),
             Ok(_) => Ok(Some(line)),
             Err(error) if error.kind() == ErrorKind::InvalidData => Ok(Some(String::new(alloc))),
-            Err(_) => Err(RunFault::Read),
+            Err(_) => {
+                self.failures = self.failures.wrapping_add(1);
+                Err(RunFault::Read)
+            }
         }
     }
 }

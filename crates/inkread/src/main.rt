@@ -135,7 +135,7 @@ fn read_player<P: PureFn + Drop, F: TurnFn + Drop, O: Watcher + Drop>(
         path: settings.save.as_str(),
         beside: settings.beside.as_str(),
     };
-    let mut lines = InputLines { rt };
+    let mut lines = InputLines { rt, failures: 0 };
     let mut sink = Watched::new(io::writer(&rt));
     let outcome = reader.read_to_end(&mut lines, &mut sink, &mut shelf);
     let _desk = reader.close();

@@ -11,4 +11,4 @@ returns-in_err-say-in-Err-clause-answers g c =
     let lost = (err_from_is_err_and c.from_residual.result c.from_residual.ensures.1).1 in (Err c.in-Err.cause, (rw c.as_str.ensures at c.in-Err.ensures), rw lost tt, rw lost tt)
 
 pub returns-in_ok-say-in-Err-clause-answers : goal.returns-in_ok-say-in-Err-clause-answers
-returns-in_ok-say-in-Err-clause-answers g c = (Err c.in-Err.cause, (rw c.as_str.ensures at c.in-Err.ensures), refl, rw append-nil (rw c.unwritten.ensures at c.in_ok-say-in-Err.ensures))
+returns-in_ok-say-in-Err-clause-answers g c = (Err c.in-Err.cause, (rw c.as_str.ensures at c.in-Err.ensures), refl, rw append-nil (rw c.unwritten.ensures at c.in_ok-say-in-Err.ensures.shows))

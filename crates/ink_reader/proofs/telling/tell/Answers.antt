@@ -8,7 +8,7 @@ use Rattle.ink_reader.proofs.Playing.{played-goes, played-lost, played-none, pla
 use Rattle.ink_reader.proofs.telling.tell.Goals as goal
 
 pub lines-init : goal.lines-init
-lines-init g c = ([], (λ es end h. h), λ kept. played-none)
+lines-init g c = ([], (λ es end h. h), λ kept. played-none, refl, refl)
 
 pub returns-clause-lines : goal.returns-clause-lines
 returns-clause-lines g c =
@@ -57,4 +57,6 @@ lines-preserved g c =
       so_far.0 ++ ds,
       leads-more told.Stop c.lines.told c.in_ok-told.told so_far.0 ds so_far.1 (leads-line c.lines.told c.in_ok-told.told line.0 line.1 line.2 line.3 is c.in_default.not-Break),
       λ kept. played-played (so_far.2 kept) (played-played (played-goes more) (played-well c.in_ok-told.was (line.5 kept))),
+      c.in_ok-told.ensures.sink.0 ∙ so_far.3,
+      c.in_ok-told.ensures.sink.1 ∙ so_far.4,
     )

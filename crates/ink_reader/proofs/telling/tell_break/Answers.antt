@@ -14,5 +14,5 @@ returns-in_ok-tell_path-clause-shows g c =
     let old = g.T.Sink.contents c.args.sink.now in
     let mid = g.T.Sink.contents c.tell_halt.new.sink in
     let new = g.T.Sink.contents c.tell_path.new.sink in
-    let behind = subst (λ x. Appends mid new (deeds_shown look (break_told (reply_of_halt x) c.args.path.now))) (sym c.in-Fault.is) c.in_ok-tell_path.ensures in
-    Appends-trans old mid new (reply_shown look broke_off reply) (deeds_shown look (break_told reply c.args.path.now)) c.in_ok-tell_halt.ensures behind
+    let behind = subst (λ x. Appends mid new (deeds_shown look (break_told (reply_of_halt x) c.args.path.now))) (sym c.in-Fault.is) c.in_ok-tell_path.ensures.shows in
+    Appends-trans old mid new (reply_shown look broke_off reply) (deeds_shown look (break_told reply c.args.path.now)) c.in_ok-tell_halt.ensures.shows behind

@@ -14,8 +14,8 @@ none : (cs : List Shown) → true ≡ (length cs == 0) → cs ≡ []
 none [] h = refl
 none (c ∷ cs) h = let zero : suc (length cs) ≡ 0 = eqb-true (suc (length cs)) 0 (sym h) in let no : ⊥ = omega arith in absurd no
 
-pub returns-in-Err : goal.returns-in-Err
-returns-in-Err g c = (
+pub returns-in-Err-clause-shows : goal.returns-in-Err-clause-shows
+returns-in-Err-clause-shows g c = (
   Err c.in-Err.refusal,
   c.in-Err.ensures,
   c.tell_end.ensures.none,
@@ -23,8 +23,8 @@ returns-in-Err g c = (
       (rw c.refusal_words.ensures at c.tell_end.ensures.says),
 )
 
-pub returns-then-is_empty : goal.returns-then-is_empty
-returns-then-is_empty g c = (
+pub returns-then-is_empty-clause-shows : goal.returns-then-is_empty-clause-shows
+returns-then-is_empty-clause-shows g c = (
   Ok [],
   subst (λ (cs : List Shown). ShowsChoices (state_of c.args.player.now) (Ok cs)) (none c.in-Ok.choices (rw c.as_slice.ensures at c.if-is_empty.ensures)) c.in-Ok.ensures,
   c.tell_end-then-is_empty.ensures.none,

@@ -34,15 +34,15 @@ pub returns-in-Variable-clause-reads : goal.returns-in-Variable-clause-reads
 returns-in-Variable-clause-reads g c =
     let old = c.args.self.now in
     goes-as old.saves (places_of old.past) (asks.Variable c.in-Variable.name.now) (ap asked_by c.in-Variable.is) (
-      Gives (command.Get c.in-Variable.name.now) c.tell_variable.ensures.0 ∷ [],
-      up-whole (Gives (command.Get c.in-Variable.name.now) c.tell_variable.ensures.0 ∷ []) ((c.tell_variable.ensures.0, refl), refl),
-      c.tell_variable.ensures.1 (g.S.Shelf.kept c.args.shelf.now),
+      Gives (command.Get c.in-Variable.name.now) c.tell_variable.ensures.shows.0 ∷ [],
+      up-whole (Gives (command.Get c.in-Variable.name.now) c.tell_variable.ensures.shows.0 ∷ []) ((c.tell_variable.ensures.shows.0, refl), refl),
+      c.tell_variable.ensures.shows.1 (g.S.Shelf.kept c.args.shelf.now),
     )
 
 pub returns-in-Help-clause-reads : goal.returns-in-Help-clause-reads
 returns-in-Help-clause-reads g c =
     let old = c.args.self.now in
-    goes-as old.saves (places_of old.past) asks.Help (ap asked_by c.in-Help.is) (Says Help ∷ [], up-whole (Says Help ∷ []) (refl, refl), played-says c.say.result Help refl c.say.ensures)
+    goes-as old.saves (places_of old.past) asks.Help (ap asked_by c.in-Help.is) (Says Help ∷ [], up-whole (Says Help ∷ []) (refl, refl), played-says c.say.result Help refl c.say.ensures.shows)
 
 pub returns-in-Quit-clause-reads : goal.returns-in-Quit-clause-reads
 returns-in-Quit-clause-reads g c =
@@ -52,7 +52,7 @@ returns-in-Quit-clause-reads g c =
 pub returns-in-Unclear-clause-reads : goal.returns-in-Unclear-clause-reads
 returns-in-Unclear-clause-reads g c =
     let old = c.args.self.now in
-    goes-as old.saves (places_of old.past) asks.Unclear (ap asked_by c.in-Unclear.is) (Says Unclear ∷ [], up-whole (Says Unclear ∷ []) (refl, refl), played-says c.say-in-Unclear.result Unclear refl c.say-in-Unclear.ensures)
+    goes-as old.saves (places_of old.past) asks.Unclear (ap asked_by c.in-Unclear.is) (Says Unclear ∷ [], up-whole (Says Unclear ∷ []) (refl, refl), played-says c.say-in-Unclear.result Unclear refl c.say-in-Unclear.ensures.shows)
 
 pub returns-in_err-_loaded-in-Load-clause-reads : goal.returns-in_err-_loaded-in-Load-clause-reads
 returns-in_err-_loaded-in-Load-clause-reads g c =

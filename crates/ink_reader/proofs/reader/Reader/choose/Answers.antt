@@ -15,7 +15,7 @@ returns-in_default-clause-reads g c =
     let old = c.args.self.now in
     let ds = Says (Refused refusal.NotAChoice) ∷ [] in
     goes-as old.saves (places_of old.past) (asks.Choice 0) (ap asks.Choice (number-none c.args.number c.in_default.ensures))
-    (ds, up-whole ds (refl, refl), played-says c.say.result (Refused refusal.NotAChoice) c.refusal_words.ensures c.say.ensures)
+    (ds, up-whole ds (refl, refl), played-says c.say.result (Refused refusal.NotAChoice) c.refusal_words.ensures c.say.ensures.shows)
 
 pub returns-in-Ok-clause-reads : goal.returns-in-Ok-clause-reads
 returns-in-Ok-clause-reads g c =
@@ -35,5 +35,5 @@ returns-in-Err-clause-reads g c =
     goes-as old.saves (places_of old.past) (asks.Choice (suc i)) (ap asks.Choice (number-some c.args.number i c.in-Some.ensures.0 (sym c.in-Some.ensures.1))) (
       ds,
       up-whole ds (then-stays (command.Choose i) reply old.saves (places_of old.past) refl),
-      played-gives c.say-in-Err.result c.in-Err.ensures (rw c.refusal_words-in-Err.ensures at c.say-in-Err.ensures),
+      played-gives c.say-in-Err.result c.in-Err.ensures (rw c.refusal_words-in-Err.ensures at c.say-in-Err.ensures.shows),
     )

@@ -13,7 +13,7 @@ returns-in-Err-clause-reads g c =
     let old = c.args.self.now in
     let why = c.in-Err.ensures in
     let ds = Says why.0 ∷ [] in
-    (ds, up-whole ds (back-not old.saves (places_of old.past) why.0 why.1), played-says c.say.result why.0 why.2 c.say.ensures)
+    (ds, up-whole ds (back-not old.saves (places_of old.past) why.0 why.1), played-says c.say.result why.0 why.2 c.say.ensures.shows)
 
 pub returns-in_err-stand_at-clause-reads : goal.returns-in_err-stand_at-clause-reads
 returns-in_err-stand_at-clause-reads g c =

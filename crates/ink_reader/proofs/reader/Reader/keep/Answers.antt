@@ -43,4 +43,4 @@ returns-clause-reads g c =
     let answer = c.keep_save.ensures.answers in
     let is = rw c.in_ok-keep_save.was at answer.2 in
     let first = rw c.in_ok-keep_save.was at answer.3 in
-    (answer.0, played-saving c.say.result answer.0 answer.1 (kept c.args.self.now.look old mid new answer.0 c.say.result (sym c.if-not-branch.false ∙ is) first c.say.ensures))
+    (answer.0, played-saving c.say.result answer.0 answer.1 (kept c.args.self.now.look old mid new answer.0 c.say.result (sym c.if-not-branch.false ∙ is) first c.say.ensures.shows))

@@ -17,7 +17,7 @@ pub returns-in_err-say-clause-reads : goal.returns-in_err-say-clause-reads
 returns-in_err-say-clause-reads g c =
     let old = c.args.self.now in
     let lost = (err_from_is_err_and c.from_residual.result c.from_residual.ensures.1).1 in
-    (Says LastLacks ∷ [], up-part lost (goes-part old.saves (places_of old.past)), played-lost lost (played-says c.say.result LastLacks refl c.say.ensures))
+    (Says LastLacks ∷ [], up-part lost (goes-part old.saves (places_of old.past)), played-lost lost (played-says c.say.result LastLacks refl c.say.ensures.shows))
 
 pub returns-clause-reads : goal.returns-clause-reads
 returns-clause-reads g c =
@@ -25,5 +25,5 @@ returns-clause-reads g c =
     let told = c.go_on-2.ensures.reads in (
       Says LastLacks ∷ told.0,
       goes-unnoted old.saves (places_of old.past) (places_of c.leave.new.self) (on_err c.leave.result c.leave.ensures.stays (sym c.is_ok.ensures.value ∙ c.if-is_ok.false)) told.1,
-      played-played (played-well c.in_ok-say.was (played-says c.say.result LastLacks refl c.say.ensures)) told.2,
+      played-played (played-well c.in_ok-say.was (played-says c.say.result LastLacks refl c.say.ensures.shows)) told.2,
     )

@@ -16,7 +16,7 @@ returns-in_err-say-in-Err-clause-reads g c =
       Fetches why.0 ∷ Says why.1 ∷ [],
       up-part lost ([], places_of old.past, loading-not old.saves (places_of old.past) why.0 why.1 why.3),
       rw lost tt,
-      played-lost lost (played-played (played-fetches why.2) (played-says c.say.result why.1 why.4 c.say.ensures)),
+      played-lost lost (played-played (played-fetches why.2) (played-says c.say.result why.1 why.4 c.say.ensures.shows)),
     )
 
 pub returns-in-Err-clause-reads : goal.returns-in-Err-clause-reads
@@ -27,7 +27,7 @@ returns-in-Err-clause-reads g c =
       ds,
       up-whole ds (loading-not old.saves (places_of old.past) why.0 why.1 why.3),
       refl,
-      played-well c.in_ok-say-in-Err.was (played-played (played-fetches why.2) (played-says c.say.result why.1 why.4 c.say.ensures)),
+      played-well c.in_ok-say-in-Err.was (played-played (played-fetches why.2) (played-says c.say.result why.1 why.4 c.say.ensures.shows)),
     )
 
 pub returns-in_err-stand_at-clause-reads : goal.returns-in_err-stand_at-clause-reads

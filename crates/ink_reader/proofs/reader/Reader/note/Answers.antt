@@ -37,4 +37,4 @@ returns-in-Err-clause-reads g c =
     let gave = c.in-Err.ensures.gave in
     let reply = Refuses c.in-Err.field-0 in
     let ds = Gives command.Save reply ∷ Says PlaceLacks ∷ [] in
-    (ds, up-whole ds (c.requires, refl), played-played (played-hushed refl gave.2) (played-says c.say.result PlaceLacks refl c.say.ensures))
+    (ds, up-whole ds (c.requires, refl), played-played (played-hushed refl gave.2) (played-says c.say.result PlaceLacks refl c.say.ensures.shows))

@@ -35,5 +35,5 @@ returns-in-Err-clause-reads g c =
     let ds = Gives command.Save (Refuses c.in-Err.refusal) ∷ Says (Refused c.in-Err.refusal) ∷ [] in (
       ds,
       up-whole ds (ends-at old.saves old.past.here ds (sym c.is_at_choice.ensures ∙ c.if-not-is_at_choice.false) (λ place. refl), refl),
-      played-played (played-hushed refl gave.2) (played-says c.say.result (Refused c.in-Err.refusal) c.refusal_words.ensures c.say.ensures),
+      played-played (played-hushed refl gave.2) (played-says c.say.result (Refused c.in-Err.refusal) c.refusal_words.ensures c.say.ensures.shows),
     )

@@ -7,7 +7,7 @@ use Rattle.ink_reader.proofs.Sessions.{continues-more, continues-so-far, continu
 use Rattle.ink_reader.proofs.reader.Reader.read_lines.Goals as goal
 
 pub lines-init : goal.lines-init
-lines-init g c = record { look = refl; saves = refl; reads = ([], [], refl, (λ others rest end h. h), played-none) }
+lines-init g c = record { look = refl; saves = refl; write_cause = refl; sink_name = refl; read_cause = refl; reads = ([], [], refl, (λ others rest end h. h), played-none) }
 
 pub returns-in_err-read_line-clause-reads : goal.returns-in_err-read_line-clause-reads
 returns-in_err-read_line-clause-reads g c =
@@ -53,6 +53,9 @@ lines-preserved g c =
     record {
       look = c.read_line.ensures.settings.0 ∙ c.lines.invariant.look;
       saves = c.read_line.ensures.settings.1 ∙ c.lines.invariant.saves;
+      write_cause = c.in_ok-read_line.ensures.sink.0 ∙ c.lines.invariant.write_cause;
+      sink_name = c.in_ok-read_line.ensures.sink.1 ∙ c.lines.invariant.sink_name;
+      read_cause = c.in_ok-read_line.ensures.lines ∙ c.lines.invariant.read_cause;
       reads = (
         so_far.0 ++ line.0,
         so_far.1 ++ line.1,

@@ -26,5 +26,5 @@ returns-in-Err-clause-reads g c =
     let gave = c.in-Err.ensures.gave in (
       Gives command.Save (Refuses c.in-Err.refusal) ∷ Says (Refused c.in-Err.refusal) ∷ [],
       refl,
-      played-played (played-hushed refl gave.2) (played-says c.say.result (Refused c.in-Err.refusal) c.refusal_words.ensures c.say.ensures),
+      played-played (played-hushed refl gave.2) (played-says c.say.result (Refused c.in-Err.refusal) c.refusal_words.ensures c.say.ensures.shows),
     )

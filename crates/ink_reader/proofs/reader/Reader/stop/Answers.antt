@@ -14,7 +14,7 @@ returns-in-Break-clause-reads g c =
 pub returns-in_err-tell_stop-clause-reads : goal.returns-in_err-tell_stop-clause-reads
 returns-in_err-tell_stop-clause-reads g c =
     let old = c.args.self.now in
-    let shown = c.tell_stop.ensures in
+    let shown = c.tell_stop.ensures.shows in
     let lost = (err_from_is_err_and c.from_residual.result c.from_residual.ensures.1).1 in
     let part = stop-part old.saves c.args.told shown.0 c.in_default.not-Break in (
       stop_told c.args.told shown.0,
@@ -25,7 +25,7 @@ returns-in_err-tell_stop-clause-reads g c =
 pub returns-then-not-branch-clause-reads : goal.returns-then-not-branch-clause-reads
 returns-then-not-branch-clause-reads g c =
     let old = c.args.self.now in
-    let shown = c.tell_stop.ensures in
+    let shown = c.tell_stop.ensures.shows in
     let is = rw c.in_ok-tell_stop.was at shown.2 in
     let ds = stop_told c.args.told shown.0 in (
       ds,
@@ -36,7 +36,7 @@ returns-then-not-branch-clause-reads g c =
 pub returns-clause-reads : goal.returns-clause-reads
 returns-clause-reads g c =
     let old = c.args.self.now in
-    let shown = c.tell_stop.ensures in
+    let shown = c.tell_stop.ensures.shows in
     let noted = c.note.ensures.reads in
     let is = rw c.in_ok-tell_stop.was at shown.2 in
     let ds = stop_told c.args.told shown.0 in (
