@@ -68,6 +68,14 @@ cause_name cause.BadPath = codes "BadPath"
 cause_name cause.Limit = codes "Limit"
 cause_name cause.OutOfMemory = codes "OutOfMemory"
 
+-- what is wrong stands at one place of the story
+abbrev pub is_of_a_place : Cause → Bool
+is_of_a_place cause.Shape = true
+is_of_a_place cause.Unsupported = true
+is_of_a_place cause.BadPath = true
+is_of_a_place cause.Limit = true
+is_of_a_place c = false
+
 abbrev pub fault_name : Fault → List ℕ
 fault_name fault.StackEmpty = codes "StackEmpty"
 fault_name fault.BadOperands = codes "BadOperands"

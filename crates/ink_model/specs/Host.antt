@@ -1,5 +1,5 @@
 -- What a host's objects give, and what names are bound to (docs/HOST.md).
-use Rattle.std.specs.Prelude.{ℕ, List, Bool, true, false, Option, None}
+use Rattle.std.specs.Prelude.{ℕ, List, Bool, true, false, Option, Some, None}
 use Rattle.ink_model.specs.Bytes.{fits_text}
 use Rattle.ink_model.specs.Leaves.{is_small}
 use Rattle.ink_model.specs.declared.host.Given.{Given}
@@ -14,6 +14,14 @@ value_given (given.Int z) = value.Int z
 value_given (given.Bool b) = value.Bool b
 value_given (given.Text t) = value.Text t
 value_given given.Void = value.Void
+
+-- what gives a value: targets, pointers and tags are not given
+abbrev pub giving : Value → Option Given
+giving (value.Int z) = Some (given.Int z)
+giving (value.Bool b) = Some (given.Bool b)
+giving (value.Text t) = Some (given.Text t)
+giving value.Void = Some given.Void
+giving v = None
 
 -- an integer that is given has 32 bits, and a text is within its limit
 abbrev pub fits_given : Given → Bool

@@ -1,6 +1,7 @@
 -- Which operators make a text of their operands, for which they ask for memory (docs/VALUES.md, "Operators").
-use Rattle.std.specs.Prelude.{List, [], ◌∷◌, Bool, true, false, ◌++◌, ◌&&◌, ◌||◌}
+use Rattle.std.specs.Prelude.{List, [], ◌∷◌, Bool, true, false, ◌++◌, ◌&&◌, ◌||◌, is_ok}
 use Rattle.ink_model.specs.Bytes.{fits_text}
+use Rattle.ink_model.specs.Operator.{of_texts}
 use Rattle.ink_model.specs.declared.operator.Op.{Op}
 use Rattle.ink_model.specs.declared.operator.Op.TheVariants as op
 use Rattle.ink_model.specs.declared.value.Value.{Value}
@@ -30,6 +31,10 @@ abbrev pub joins : Op → List Value → Bool
 joins op.Add (Text s ∷ Text t ∷ []) = fits_text (s ++ t)
 joins operator vs = false
 
--- An operator makes a text of these values: it joins two, or prints the number beside one.
+-- the operator has a result for two texts
+abbrev pub is_for_texts : Op → Bool
+is_for_texts operator = is_ok (of_texts operator [] [])
+
+-- An operator makes a text of these values: it joins two, or prints the number beside one, where it has a result for texts.
 abbrev pub makes_text : Op → List Value → Bool
-makes_text operator vs = joins operator vs || (has_text vs && has_number vs)
+makes_text operator vs = joins operator vs || (is_for_texts operator && (has_text vs && has_number vs))

@@ -12,12 +12,19 @@ use std::fmt;
 /// Why a story is refused.
 #[derive(Clone, Copy, Debug, PartialEq, Eq, thiserror::Error)]
 pub enum Cause {
+    /// The bytes are no UTF-8, or no JSON.
     NotJson,
+    /// `inkVersion` is neither 20 nor 21.
     Version,
+    /// What stands there has no form that the format knows.
     Shape,
+    /// What stands there is known, and left out: lists, floats, shuffles.
     Unsupported,
+    /// A path leads nowhere, or to what it may not.
     BadPath,
+    /// The story, a text, a number or the nesting of containers is over its limit.
     Limit,
+    /// A request for memory was refused.
     OutOfMemory,
 }
 
@@ -31,38 +38,66 @@ pub struct ReadRefusal {
 /// What can go wrong while a story runs.
 #[derive(Clone, Copy, Debug, PartialEq, Eq, thiserror::Error)]
 pub enum Fault {
+    /// A value is taken or looked at where there is none.
     StackEmpty,
+    /// An operand, a printed value, a condition, the text of a choice or an argument is of a kind that does not fit.
     BadOperands,
+    /// A division by 0, or of the least integer by -1.
     Divide,
+    /// What begins or ends there may not: evaluation mode, a string, a tag, or a call in which strings or tags were left open; or glue is evaluated.
     BadMode,
+    /// The top frame is not the one that returns; or a tunnel returns with a value that is neither void nor a target.
     BadPop,
+    /// A value that is to name a place is no target, or leads nowhere.
     BadTarget,
+    /// A pointer leads to a frame that is gone or to no global, or a chain of pointers is too long.
     BadPointer,
+    /// A count is asked for that the container does not keep.
     NotCounted,
+    /// A temporary is assigned that was not declared.
     NoTemp,
+    /// A turn function is called while a string is open.
     UnsafeInString,
+    /// An external function is neither bound nor a knot.
     Unbound,
+    /// The object of the host refused to answer.
     HostRefused,
+    /// Flow stops while a string or a tag is open.
     StopInString,
+    /// A limit is reached: of values, frames, threads, choices, sections, marks, or the length of a text.
     TooDeep,
+    /// A command made 1,000,000 steps and has not ended.
     OutOfSteps,
+    /// A request for memory was refused.
     OutOfMemory,
 }
 
 /// Why a command is refused. Nothing has changed then.
 #[derive(Clone, Copy, Debug, PartialEq, Eq, thiserror::Error)]
 pub enum Refusal {
+    /// Flow has stopped.
     CannotContinue,
+    /// There is no visible choice of that number.
     NotAChoice,
+    /// There is no global of that name.
     NoSuchVariable,
+    /// The path leads nowhere, or to what it may not.
     NoSuchPath,
+    /// The value cannot be set: it is of another kind, or over its limit.
     BadValue,
+    /// The save does not fit this story, or is none.
     BadSave,
+    /// The line is no command.
     BadCommand,
+    /// There is no flow of that name.
     NoSuchFlow,
+    /// The first flow cannot be dropped.
     DefaultFlow,
+    /// There are as many flows as there may be.
     TooManyFlows,
+    /// The player is broken by this fault, until a load or a restart.
     Broken(Fault),
+    /// A request for memory was refused.
     OutOfMemory,
 }
 
@@ -74,7 +109,7 @@ pub enum Halt {
 }
 
 impl Cause {
-    ghost use Rattle.ink_model.specs.Answer.{cause_name};
+    ghost use Rattle.ink_model.specs.Answer.{cause_name, is_of_a_place};
 
     /// The cause's name, as the program prints it (docs/PROTOCOL.md, "The program").
     pub fn name(self) -> &'static str
@@ -88,6 +123,16 @@ impl Cause {
             Cause::BadPath => "BadPath",
             Cause::Limit => "Limit",
             Cause::OutOfMemory => "OutOfMemory",
+        }
+    }
+
+    /// Whether a story that is refused for this cause is so for what stands at one place.
+    pub fn is_of_a_place(self) -> bool
+        ensures { result ≡ is_of_a_place self }
+    {
+        match self {
+            Cause::Shape | Cause::Unsupported | Cause::BadPath | Cause::Limit => true,
+            Cause::NotJson | Cause::Version | Cause::OutOfMemory => false,
         }
     }
 }
@@ -173,6 +218,18 @@ impl ReadRefusal {
             cause,
             place: Place::root(alloc),
         }
+    }
+}
+
+/// The cause, and where it is of one place ` at ` with that.
+impl fmt::Display for ReadRefusal {
+    fn fmt<W: fmt::Write>(&self, f: &mut fmt::Formatter<W>) -> fmt::Result {
+        f.write_str(self.cause.name())?;
+        if self.cause.is_of_a_place() {
+            f.write_str(" at ")?;
+            self.place.fmt(f)?;
+        }
+        Ok(())
     }
 }
 

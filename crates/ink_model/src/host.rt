@@ -19,7 +19,7 @@ pub enum Given {
 }
 
 impl Given {
-    ghost use Rattle.ink_model.specs.Host.{shares};
+    ghost use Rattle.ink_model.specs.Host.{giving, shares};
     ghost use Rattle.ink_model.specs.declared.host.Given.TheVariants as given;
 
     /// A text of its own. The one error is a refused request for memory.
@@ -27,6 +27,19 @@ impl Given {
         ensures { IfOk result (λ answer. answer ≡ given.Text text.now) }
     {
         Ok(Given::Text(Shared::new(alloc, Text::from_str(alloc, text)?)?))
+    }
+
+    /// What gives this value, as one that was got; none for a target, a pointer or a tag. Takes no memory.
+    pub fn from_value(value: Value) -> Option<Given>
+        ensures { result ≡ giving value }
+    {
+        match value {
+            Value::Int(number) => Some(Given::Int(number)),
+            Value::Bool(truth) => Some(Given::Bool(truth)),
+            Value::Text(text) => Some(Given::Text(text)),
+            Value::Void => Some(Given::Void),
+            Value::Target(_) | Value::Pointer(..) | Value::Tag(_) => None,
+        }
     }
 
     /// A copy, which shares a text: it asks for no memory. The one error is a count of owners that is full.

@@ -5,6 +5,7 @@ ghost use Rattle.std.specs.Prelude.{◌≡◌, [], ◌∷◌, ◌++◌, IfOk, On
 use crate::seq::Seq;
 use crate::text::Text;
 use std::alloc::{AllocError, Global};
+use std::fmt;
 use std::marker::Model;
 
 /// One step down in a story: to the content at an index, or to a container given by key.
@@ -87,6 +88,25 @@ impl Place {
         ensures { result.now ≡ self.now }
     {
         self.parts.as_slice()
+    }
+}
+
+/// The parts with dots between, or `root`.
+impl fmt::Display for Place {
+    fn fmt<W: fmt::Write>(&self, f: &mut fmt::Formatter<W>) -> fmt::Result {
+        if self.parts.is_empty() {
+            return f.write_str("root");
+        }
+        for (depth, part) in self.parts().iter().enumerate() {
+            if depth > 0 {
+                f.write_str(".")?;
+            }
+            match part {
+                Part::Index(index) => write!(f, "{index}")?,
+                Part::Name(name) => f.write_str(name.as_str())?,
+            }
+        }
+        Ok(())
     }
 }
 

@@ -1,7 +1,7 @@
 //! Operators on values.
 
-ghost use Rattle.std.specs.Prelude.{◌≡◌, ◌≢◌, ◌||◌, false, true, is_some, None, Some, [], ◌∷◌, List, ℕ};
-ghost use Rattle.ink_model.specs.Joining.{is_number, is_text, joins, makes_text};
+ghost use Rattle.std.specs.Prelude.{◌≡◌, ◌≢◌, ◌&&◌, ◌||◌, false, true, is_some, None, Some, [], ◌∷◌, List, ℕ};
+ghost use Rattle.ink_model.specs.Joining.{is_for_texts, is_number, is_text, joins, makes_text};
 ghost use Rattle.ink_model.specs.Memory.{Gives};
 ghost use Rattle.ink_model.specs.Operator as rules;
 ghost use Rattle.ink_model.specs.Operator.{operand, both};
@@ -93,7 +93,7 @@ fn after_number(
 ) -> Result<Value, Fault>
     requires { words.number_of left.now ≡ Some number }
     ensures result { Gives result (rules.of_two operator (both (operand left.now) (operand right.now))) }
-    ensures memory { is_text right.now ≡ false → result ≢ Err Fault.OutOfMemory }
+    ensures memory { is_for_texts operator && is_text right.now ≡ false → result ≢ Err Fault.OutOfMemory }
 {
     match number_of(right) {
         Some(other) => of_numbers(operator, number, other),
@@ -108,7 +108,7 @@ fn before_text(alloc: Global, operator: Op, left: &Value, right: &Value) -> Resu
     requires number { is_some (words.number_of left.now) ≡ true }
     requires other { words.number_of right.now ≡ None }
     ensures result { Gives result (rules.of_two operator (both (operand left.now) (operand right.now))) }
-    ensures memory { is_text right.now ≡ false → result ≢ Err Fault.OutOfMemory }
+    ensures memory { is_for_texts operator && is_text right.now ≡ false → result ≢ Err Fault.OutOfMemory }
 {
     match right {
         Value::Text(text) if is_for_texts(operator) => {
@@ -129,7 +129,7 @@ fn after_text(
     right: &Value,
 ) -> Result<Value, Fault>
     ensures result { Gives result (rules.of_two operator (both (rules.words left.now) (operand right.now))) }
-    ensures memory { joins operator (Value.Text left.now ∷ right.now ∷ []) || is_number right.now ≡ false → result ≢ Err Fault.OutOfMemory }
+    ensures memory { joins operator (Value.Text left.now ∷ right.now ∷ []) || (is_for_texts operator && is_number right.now) ≡ false → result ≢ Err Fault.OutOfMemory }
 {
     match right {
         Value::Text(text) => of_shared(alloc, operator, left, text),

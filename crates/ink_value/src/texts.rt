@@ -2,17 +2,16 @@
 
 ghost use Rattle.std.specs.Prelude.{◌≡◌, ◌≢◌, [], ◌∷◌, ◌++◌, false};
 ghost use Rattle.ink_model.specs.Bytes as bytes;
-ghost use Rattle.ink_model.specs.Joining.{joins};
+ghost use Rattle.ink_model.specs.Joining.{is_for_texts, joins};
 ghost use Rattle.ink_model.specs.Memory.{Gives};
 ghost use Rattle.ink_model.specs.Operator as rules;
-ghost use Rattle.ink_value.specs.Words as words;
 
 use ink_model::{Fault, MAX_TEXT, Op, Shared, Text, Value};
 use std::alloc::Global;
 
 // Does the operator have a result for two texts?
 pub(crate) fn is_for_texts(operator: Op) -> bool
-    ensures { result ≡ words.is_for_texts operator }
+    ensures { result ≡ is_for_texts operator }
 {
     matches!(
         operator,
