@@ -17,6 +17,12 @@ use Rattle.ink_out.proofs.Noting.{last_is, last_set}
 use Rattle.ink_trail.proofs.Ending.{but_last-snoc}
 use Rattle.ink_trail.specs.Undo.{KeepsTrail, TrailView, TrailsOrKeeps, Undo, but_last, spare, spare_of, trail_of, with_pair}
 
+-- ---- where no mark stands
+
+pub noted_nowhere : (pair : OutputPair) (n : ℕ) (u : Option (Undo OutputPair)) → is_some u ≡ false → u ≡ with_pair pair n u
+noted_nowhere pair n None none = refl
+noted_nowhere pair n (Some noted) none = absurd (cc)
+
 -- ---- what is open
 
 pub open_with : (ms : List Mark) (page : Page) → open_marks (with_open ms page) ≡ ms

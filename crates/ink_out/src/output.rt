@@ -24,7 +24,7 @@ use crate::cleaning::cleaned;
 use crate::cutting::{Piece, cut_text, is_cut};
 use crate::opened::{Kind, Opened, note, note_all, note_below, note_in, open_state};
 use crate::section::Section;
-use crate::undo::{OutputPair, put_back};
+use crate::undo::{OutputPair, note_number, put_back};
 use ink_model::{Fault, MAX_SECTIONS, MAX_TEXT, Mark, Seq, Shared, Text, Value};
 use ink_trail::Trail;
 use ink_value::printed;
@@ -191,7 +191,7 @@ impl Output {
         let next = number.checked_add(1).ok_or(Fault::TooDeep)?;
         let mark = Mark::Enter(number);
         note_in(&mut self.line, &mut self.sections, &mut self.trail, mark, 2)?;
-        self.trail.note(OutputPair::Numbered(number), 1);
+        note_number(&mut self.trail, number);
         self.next_enter = next;
         Ok(number)
     }

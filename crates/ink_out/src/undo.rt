@@ -1,10 +1,10 @@
 //! How changes of the text being written are put back.
 
-ghost use Rattle.std.specs.Prelude.{ℕ, ◌≡◌, ◌≤◌, length, vec_capacity};
+ghost use Rattle.std.specs.Prelude.{ℕ, ◌≡◌, ◌≤◌, ◌+◌, length, vec_capacity};
 ghost use Rattle.ink_out.specs.Stands.{IsStateOf};
 ghost use Rattle.ink_out.specs.Undo.{GoesBack, Held, Keeps, open_marks, output_back, room_of, with_open};
 ghost use Rattle.ink_out.specs.Writing.{page_of};
-ghost use Rattle.ink_trail.specs.Undo.{Ends, but_last, trail_of, undone, writes_of};
+ghost use Rattle.ink_trail.specs.Undo.{Ends, but_last, spare, trail_of, undone, with_pair, writes_of};
 
 use crate::opened::Opened;
 use crate::section::Section;
@@ -21,6 +21,18 @@ pub(crate) enum OutputPair {
     Numbered(u64),
     Line(Section, u64),
     Sections(Vec<Opened>),
+}
+
+/// Notes which number was the next one. Where no mark stands no pair is made.
+#[inline(always)]
+pub(crate) fn note_number(trail: &mut Trail<OutputPair>, number: u64)
+    requires { 1 ≤ spare trail.old }
+    ensures undo { trail.new.undo ≡ with_pair (OutputPair.Numbered number) 1 trail.old.undo }
+    ensures room { trail.old.room ≤ trail.new.room + 1 }
+{
+    if trail.is_marked() {
+        trail.note(OutputPair::Numbered(number), 1);
+    }
 }
 
 /// Puts each pair back, the last first, ends the mark, and answers how many there were.

@@ -112,12 +112,15 @@ impl<P: Copy> Threads<P> {
         ensures spare { threads_spare self.old ≤ threads_spare self.new + 2 }
     {
         if self.trail.is_marked() {
+            if has_gone(self.trail.pairs()) {
+                return self.go_further(place);
+            }
             return self.go_marked(place);
         }
         self.running.go(place);
     }
 
-    // As `go`, while a mark stands.
+    // As `go`, while a mark stands, where both places are noted.
     #[cold]
     #[inline(never)]
     fn go_marked(&mut self, place: Option<P>)
@@ -127,9 +130,6 @@ impl<P: Copy> Threads<P> {
         ensures stood { threads_stood self.new ≡ threads_stood self.old }
         ensures spare { threads_spare self.old ≤ threads_spare self.new + 2 }
     {
-        if has_gone(self.trail.pairs()) {
-            return self.go_further(place);
-        }
         let previous = self.running.previous();
         let left = self.running.place();
         self.trail.note(ThreadsPair::Previous(previous), 1);

@@ -1,5 +1,6 @@
 -- Where diverts land.
 use Rattle.std.proofs.Common.{◌≡◌, ◌∙◌, ap, sym, refl, ℕ, List, [], Some, None, Result, option_map}
+use Rattle.ink_check.specs.Names.{names, number_in, variable_number, variable_of}
 use Rattle.ink_model.specs.Acceptance.{content_counted, content_target, counted_container, leads, leaf_target, written_target}
 use Rattle.ink_model.specs.Effect.{Context, Landing as Goal}
 use Rattle.ink_model.specs.Frames.{ThreadOf, map_thread}
@@ -36,6 +37,10 @@ nowhere s p h = ap (content_target s p) (sym h)
 pub uncounted : (s : StoryTree) (p : List Part) → at s p ≡ None → None ≡ counted_container s p
 unfolding counted_container
 uncounted s p h = ap (content_counted s p) (sym h)
+
+-- and no variable has a number
+pub unnumbered : (s : StoryTree) (p : List Part) → at s p ≡ None → None ≡ variable_number s p
+unnumbered s p h = ap (λ o. number_in (names s) (variable_of o)) (sym h)
 
 -- a count's container
 pub count_leads : (s : StoryTree) (p : List Part) (text : List ℕ) → at s p ≡ Some (leaf (Count text)) → counted_container s p ≡ leads s p text

@@ -27,6 +27,7 @@ use Rattle.ink_step.specs.Steps.{EndsPlainly, StepEnds, StepMakes, Steps, ended,
 use Rattle.ink_step.specs.declared.flow.StepEnd.{StepEnd}
 use Rattle.ink_step.specs.declared.flow.StepEnd.TheVariants as ends
 use Rattle.ink_step.specs.declared.transfer.Transfer.{Transfer}
+use Rattle.ink_step.proofs.Goings.{stays_in}
 use Rattle.ink_step.proofs.Follows.{ends_more, ends_short, ends_unperformed, ends_where, never_wants, or_between, or_more, or_where}
 use Rattle.ink_step.proofs.Plain.{IsPlain, plain_else, plain_if, plain_or}
 use Rattle.ink_step.proofs.Stopping.{broke}
@@ -175,6 +176,10 @@ module _ (s : StoryTree) (b : Bound) (p : List Part) (c : Configuration) (at_p :
 
   pub wants_none : (found : Option StoryTree) → found ≡ option_map leaf (leaf_in (at s (entered s p))) → call_at found ≡ None → false ≡ wants (step s b c)
   wants_none found is other = sym (wants_by found None is other)
+
+  -- content stands there that holds no other and calls nothing
+  pub wants_nothing : (l : Leaf) → leaf_in (at s p) ≡ Some l → call_at (Some (leaf l)) ≡ None → false ≡ wants (step s b c)
+  wants_nothing l stands other = wants_none (Some (leaf l)) (ap (option_map leaf) (sym stands) ∙ ap (λ q. option_map leaf (leaf_in (at s q))) (stays_in s p l stands)) other
 
   pub wants_call : (found : Option StoryTree) (k : Call) (answer : Bool) → found ≡ option_map leaf (leaf_in (at s (entered s p))) → call_at found ≡ Some k
       → answer ≡ is_asking (call_external s b k.name k.arguments k.conditional (fields_of inside)) → answer ≡ wants (step s b c)

@@ -8,5 +8,6 @@ pub mod Stacks
 pub mod Reaches
 pub mod Steps
 pub mod Runs
+pub mod Finishes
 pub mod Asked
 pub mod Parts

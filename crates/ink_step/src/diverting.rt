@@ -2,6 +2,7 @@
 
 ghost use Rattle.ink_value.specs.Undo.{stack_spare, stack_stood};
 ghost use Rattle.std.specs.Prelude.{◌≡◌, ℕ, Bool, false, Option, option_map, ◌≤◌, ◌+◌};
+ghost use Rattle.ink_check.specs.Names.{variable_number};
 ghost use Rattle.ink_check.specs.Words.{story_tree};
 ghost use Rattle.ink_model.specs.Acceptance.{lands_to, written_target};
 ghost use Rattle.ink_model.specs.Page.{Page};
@@ -148,8 +149,13 @@ pub(crate) fn landing_on(story: &Story, path: &Path) -> Option<Landing>
 
 /// The number of the variable that the content at a place reads or assigns, or declares as a global. A global is found by it
 /// without a hash, and is the same whatever it is.
-pub(crate) fn number_of(story: &Story, here: Spot) -> Option<usize> {
-    story.variable(story.tree().node(here)?)
+pub(crate) fn number_of(story: &Story, here: Spot) -> Option<usize>
+    ensures { let s = story_tree story.now in result ≡ variable_number s (place_of s here) }
+{
+    let Some(node) = story.tree().node(here) else {
+        return None;
+    };
+    story.variable(node)
 }
 
 /// Where the written path of the content at a place leads.

@@ -24,13 +24,13 @@ ghost use Rattle.ink_model.specs.declared.host.Event.{Event as Happening};
 ghost use Rattle.ink_model.specs.declared.limits.TheConstants.{MAX_FRAMES};
 ghost use Rattle.ink_stack.specs.Calls.{frame_kind};
 ghost use Rattle.ink_step.specs.Marks.{keeps_mark, pressed, presses, stack_lacks, stood_of, takes_there, threads_lack};
+ghost use Rattle.ink_step.specs.Finishes.{Finishes};
 ghost use Rattle.ink_step.specs.Performs.{AsksToStore, Keeps, KeepsChoices, Performs, landing_of, leading, storing_in, unstored};
 ghost use Rattle.ink_step.specs.External.{call_of};
 ghost use Rattle.ink_step.specs.Refusals.{StepStopsAtRefusal};
 ghost use Rattle.ink_step.specs.Steps.{Passes, StepEnds, StepMakes, Steps, ended, wants};
 ghost use Rattle.ink_step.specs.Words.{aside_in, config_of, globals_of, start_of};
 ghost use Rattle.ink_step.specs.declared.flow.StepEnd.TheVariants.{WantsCall, Went};
-ghost use Rattle.ink_step.specs.declared.machine.Machine.{Machine as Before};
 ghost use Rattle.ink_tree.specs.Kept.{leaf_in};
 ghost use Rattle.ink_tree.specs.Nodes.{place_of};
 ghost use Rattle.ink_vars.specs.Undo.{globals_stood};
@@ -183,8 +183,8 @@ impl Machine {
         }
     }
 
-    // Whether the step calls a turn function.
-    #[inline(never)]
+    // Whether the step calls a turn function. Most steps are at content that holds no other and calls nothing.
+    #[inline(always)]
     fn wants_call<P: PureFn, T: TurnFn, W: Watcher>(
         &self,
         story: &Story,
@@ -195,6 +195,23 @@ impl Machine {
         let Some(place) = self.flow.threads.place() else {
             return false;
         };
+        match story.tree().leaf_at(place) {
+            Some(content) if !is_external(content) => false,
+            _ => self.wants_call_from(story, desk, place),
+        }
+    }
+
+    // The same from a place where flow is, by the whole way: down to the first content.
+    #[inline(never)]
+    fn wants_call_from<P: PureFn, T: TurnFn, W: Watcher>(
+        &self,
+        story: &Story,
+        desk: &Desk<P, T, W>,
+        place: Spot,
+    ) -> bool
+        requires at { self.now.flow.threads.threads.thread.frame.place ≡ Some place }
+        ensures { let s = story_tree story.now in result ≡ wants (step s (bound_by P.meaning desk.now.functions) (config_of s self.now)) }
+    {
         let (_, found) = story.tree().first_leaf(place);
         match external_in(found) {
             Some(call) => would_call(&call, &self.flow.stack, &self.output, desk),
@@ -281,13 +298,118 @@ impl Machine {
         move_to(story.tree(), &mut self.flow.threads, next);
     }
 
-    /// After a content was performed flow goes where it sends it, and a global is stored.
-    #[inline(never)]
+    /// After a content was performed flow goes where it sends it, and a global is stored. The ways that are taken most have a function
+    /// each, in which the compiler drops the others.
+    #[inline(always)]
     fn finish(&mut self, story: &Story, transfer: &mut Transfer<'_>) -> Result<StepEnd, Fault>
         requires room { MOVING + 4 ≤ threads_spare self.old.flow.threads }
-        ensures ends { let s = story_tree story.now in (old : Before) (asks : Bool) (e : Effect) → Performs s asks e (fields_of (config_of s self.old)) (Ok transfer.old) → Keeps s e old.flow.threads.threads self.old.flow.threads.threads → KeepsChoices s e old.flow.choices.items self.old.flow.choices.items
-            → self.old.flow.safe ≡ old.flow.safe → self.old.shared.counts.rows ≡ old.shared.counts.rows → self.old.shared.turn ≡ old.shared.turn → self.old.shared.globals.rows ≡ old.shared.globals.rows → (is_some (globals_stood self.old.shared.globals) ≡ true → AsksToStore e asks) → let c = config_of s old in
-            StepEnds (pressed s self.new || ((asks || move_asks s e c) || following_asks s (moved s e c))) (following s (moved s e c)) old.shared.globals.rows (config_of s self.new) result }
+        ensures ends { Finishes (story_tree story.now) self.old transfer.old self.new result }
+        ensures start { start_of self.new ≡ start_of self.old }
+        ensures aside { aside_in self.new ≡ aside_in self.old }
+        ensures mark { stood_of self.new ≡ stood_of self.old }
+    {
+        match transfer {
+            Transfer::Wrote => self.finish_text(story),
+            Transfer::Land(to) => self.finish_divert(story, *to),
+            Transfer::Store(..) => self.finish_stored(story, transfer),
+            Transfer::Call(kind, to) => self.finish_call(story, *kind, *to),
+            Transfer::Return(kind, to) => self.finish_return(story, *kind, *to),
+            _ => self.finish_other(story, transfer),
+        }
+    }
+
+    // The same after a text.
+    #[inline(never)]
+    fn finish_text(&mut self, story: &Story) -> Result<StepEnd, Fault>
+        requires room { MOVING + 4 ≤ threads_spare self.old.flow.threads }
+        ensures ends { Finishes (story_tree story.now) self.old Transfer.Wrote self.new result }
+        ensures start { start_of self.new ≡ start_of self.old }
+        ensures aside { aside_in self.new ≡ aside_in self.old }
+        ensures mark { stood_of self.new ≡ stood_of self.old }
+    {
+        let mut transfer = Transfer::Wrote;
+        self.finish_by(story, &mut transfer)
+    }
+
+    // The same after a divert.
+    #[inline(never)]
+    fn finish_divert(&mut self, story: &Story, to: Landing) -> Result<StepEnd, Fault>
+        requires room { MOVING + 4 ≤ threads_spare self.old.flow.threads }
+        ensures ends { Finishes (story_tree story.now) self.old (Transfer.Land to) self.new result }
+        ensures start { start_of self.new ≡ start_of self.old }
+        ensures aside { aside_in self.new ≡ aside_in self.old }
+        ensures mark { stood_of self.new ≡ stood_of self.old }
+    {
+        let mut transfer = Transfer::Land(to);
+        self.finish_by(story, &mut transfer)
+    }
+
+    // The same after an assignment.
+    #[inline(never)]
+    fn finish_stored(
+        &mut self,
+        story: &Story,
+        transfer: &mut Transfer<'_>,
+    ) -> Result<StepEnd, Fault>
+        requires room { MOVING + 4 ≤ threads_spare self.old.flow.threads }
+        ensures ends { Finishes (story_tree story.now) self.old transfer.old self.new result }
+        ensures start { start_of self.new ≡ start_of self.old }
+        ensures aside { aside_in self.new ≡ aside_in self.old }
+        ensures mark { stood_of self.new ≡ stood_of self.old }
+    {
+        match transfer {
+            Transfer::Store(..) => self.finish_by(story, transfer),
+            _ => self.finish_other(story, transfer),
+        }
+    }
+
+    // The same after a call.
+    #[inline(never)]
+    fn finish_call(&mut self, story: &Story, kind: CallKind, to: Landing) -> Result<StepEnd, Fault>
+        requires room { MOVING + 4 ≤ threads_spare self.old.flow.threads }
+        ensures ends { Finishes (story_tree story.now) self.old (Transfer.Call kind to) self.new result }
+        ensures start { start_of self.new ≡ start_of self.old }
+        ensures aside { aside_in self.new ≡ aside_in self.old }
+        ensures mark { stood_of self.new ≡ stood_of self.old }
+    {
+        let mut transfer = Transfer::Call(kind, to);
+        self.finish_by(story, &mut transfer)
+    }
+
+    // The same after the return from one.
+    #[inline(never)]
+    fn finish_return(
+        &mut self,
+        story: &Story,
+        kind: FrameKind,
+        to: Option<Landing>,
+    ) -> Result<StepEnd, Fault>
+        requires room { MOVING + 4 ≤ threads_spare self.old.flow.threads }
+        ensures ends { Finishes (story_tree story.now) self.old (Transfer.Return kind to) self.new result }
+        ensures start { start_of self.new ≡ start_of self.old }
+        ensures aside { aside_in self.new ≡ aside_in self.old }
+        ensures mark { stood_of self.new ≡ stood_of self.old }
+    {
+        let mut transfer = Transfer::Return(kind, to);
+        self.finish_by(story, &mut transfer)
+    }
+
+    // The same after what is none of these.
+    #[inline(never)]
+    fn finish_other(&mut self, story: &Story, transfer: &mut Transfer<'_>) -> Result<StepEnd, Fault>
+        requires room { MOVING + 4 ≤ threads_spare self.old.flow.threads }
+        ensures ends { Finishes (story_tree story.now) self.old transfer.old self.new result }
+        ensures start { start_of self.new ≡ start_of self.old }
+        ensures aside { aside_in self.new ≡ aside_in self.old }
+        ensures mark { stood_of self.new ≡ stood_of self.old }
+    {
+        self.finish_by(story, transfer)
+    }
+
+    #[inline(always)]
+    fn finish_by(&mut self, story: &Story, transfer: &mut Transfer<'_>) -> Result<StepEnd, Fault>
+        requires room { MOVING + 4 ≤ threads_spare self.old.flow.threads }
+        ensures ends { Finishes (story_tree story.now) self.old transfer.old self.new result }
         ensures start { start_of self.new ≡ start_of self.old }
         ensures aside { aside_in self.new ≡ aside_in self.old }
         ensures mark { stood_of self.new ≡ stood_of self.old }
@@ -484,7 +606,7 @@ impl Machine {
     }
 
     /// Flow lands in a frame of this kind, which may enter containers around.
-    #[inline(never)]
+    #[inline(always)]
     fn go_into(&mut self, story: &Story, kind: CallKind, to: Landing) -> Result<StepEnd, Fault>
         requires room { 4 ≤ threads_spare self.old.flow.threads }
         ensures ends { let s = story_tree story.now in let c = config_of s self.old in let how = called (frame_kind kind) (place_of s to.place) in
@@ -502,7 +624,7 @@ impl Machine {
     }
 
     /// Flow comes back from a frame of this kind, to after its call, or to where it lands, which may enter containers around.
-    #[inline(never)]
+    #[inline(always)]
     fn go_back(
         &mut self,
         story: &Story,

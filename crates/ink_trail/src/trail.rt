@@ -85,6 +85,7 @@ impl<E> Trail<E> {
     }
 
     /// How many pairs more fit without memory.
+    #[inline(always)]
     pub fn room(&self) -> usize
         ensures { result ≡ self.now.room }
     {
@@ -116,7 +117,7 @@ impl<E> Trail<E> {
         ensures memory { OnErr result (LacksRoom count self.old) }
         ensures lacks { OnErr result (spare self.old < count) }
     {
-        if self.marked {
+        if self.marked && self.room() < count {
             return self.ready_marked(count);
         }
         Ok(())

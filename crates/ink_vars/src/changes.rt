@@ -143,7 +143,7 @@ impl Changes {
         ensures slots { length globals.new ≤ self.new.slots }
     {
         self.note(globals, name, number)?;
-        globals.put_at(name, number, value)
+        globals.add_at(name, number, value)
     }
 
     // Gives the global at an index a value, and notes what it was, which was not noted since the moment. Takes no memory.

@@ -152,42 +152,7 @@ impl Table {
         }
     }
 
-    /// Gives the global of a name, which may have a number, a value: one that is there keeps its place, and a new one comes last,
-    /// and has the slot of the number. The one error is a refused request for memory, which is made only for a new one, and leaves
-    /// the globals as they were.
-    pub(crate) fn put_at(
-        &mut self,
-        name: &str,
-        number: Option<usize>,
-        value: Value,
-    ) -> Result<(), AllocError>
-        ensures ok { OnOk result (self.new ≡ store name.now value self.old) }
-        ensures err { OnErr result (self.new ≡ self.old) }
-        ensures memory { OnErr result (is_some (stored name.now self.old) ≡ false) }
-    {
-        match self.replace_at(name, number, value) {
-            Ok(()) => Ok(()),
-            Err(value) => self.add_at(name, number, value),
-        }
-    }
-
-    // As `replace`, by a name and its number.
-    fn replace_at(&mut self, name: &str, number: Option<usize>, value: Value) -> Result<(), Value>
-        ensures found { is_ok result ≡ is_some (stored name.now self.old) }
-        ensures ok { OnOk result (self.new ≡ store name.now value self.old) }
-        ensures err { IfErr result (λ handed_back. handed_back ≡ value) }
-        ensures kept { OnErr result (self.new ≡ self.old) }
-    {
-        match self.found(name, number) {
-            Some((index, _)) => {
-                self.values[index] = value;
-                Ok(())
-            }
-            None => self.replace(name, value),
-        }
-    }
-
-    /// As `put_at`, of a global that stands at an index.
+    /// Gives the global of a name, which stands at an index, a value. Takes no memory.
     #[inline(always)]
     pub(crate) fn put_over(
         &mut self,
@@ -206,13 +171,15 @@ impl Table {
         Ok(())
     }
 
-    /// As `put_at`, of a global that is not there.
+    /// Adds a global of a name that no other has, which may have a number: it comes last, and has the slot of the number. The one
+    /// error is a refused request for memory, and leaves the globals as they were.
     pub(crate) fn add_at(
         &mut self,
         name: &str,
         number: Option<usize>,
         value: Value,
     ) -> Result<(), AllocError>
+        requires absent { is_some (stored name.now self.old) ≡ false }
         ensures ok { OnOk result (self.new ≡ store name.now value self.old) }
         ensures err { OnErr result (self.new ≡ self.old) }
     {
@@ -255,16 +222,15 @@ impl Table {
         self.values.truncate(self.names.len());
     }
 
-    // As `put_at`, without a slot, and with a copy of the name.
+    // The same without a slot, and with a copy of the name.
     fn add(&mut self, name: &str, value: Value) -> Result<(), AllocError>
+        requires absent { is_some (stored name.now self.old) ≡ false }
         ensures ok { OnOk result (self.new ≡ store name.now value self.old) }
         ensures err { OnErr result (self.new ≡ self.old) }
     {
-        if let Err(value) = self.replace(name, value) {
-            self.values.reserve(1)?;
-            self.names.add(self.alloc, name)?;
-            self.values.push_reserved(value);
-        }
+        self.values.reserve(1)?;
+        self.names.add(self.alloc, name)?;
+        self.values.push_reserved(value);
         Ok(())
     }
 }

@@ -29,7 +29,7 @@ pub enum CountPair {
     Turn(usize, Option<u32>),
 }
 
-/// Puts a global as `Table::put_at` does, and notes what it held. There has to be room for the pair.
+/// Gives the global of a name, which may have a number, a value, and notes what it held. There has to be room for the pair.
 pub(crate) fn put_noted(
     table: &mut Table,
     trail: &mut Trail<GlobalPair>,

@@ -31,7 +31,7 @@ returns-clause-trail c =
     let whole = refilled s.sections.items c.note_in.new.sections s.sections.len (sym s.sections.ok.0) (c.note_in.auto.sections ∙ ap (λ (sections : List Section). length sections) lent) in
     rw (← c.self.view_is, whole)
     (trails-trails output_back 1 1 _ (page_of c.note_in.new.line c.note_in.new.sections s.next_enter) _ _ c.note_in.new.trail _ (rw lent at (c.in_ok-note_in.ensures.trail s.next_enter))
-    (trails-one output_back (Numbered s.next_enter) 1 _ _ _ _ (omega arith) refl c.note.ensures.undo c.note.ensures.room))
+    (trails-one output_back (Numbered s.next_enter) 1 _ _ _ _ (omega arith) refl c.note_number.ensures.undo c.note_number.ensures.room))
 
 pub returns-clause-stood : goal.returns-clause-stood
 unfolding output_stood

@@ -1,7 +1,9 @@
-use Rattle.std.proofs.Common.{◌∙◌, arith, refl, reverse, sym, vec_capacity}
+use Rattle.std.proofs.Common.{◌∙◌, arith, refl, reverse, subst, sym, vec_capacity}
+use Rattle.std.proofs.lemmas.List.{reverse-reverse}
 use Rattle.ink_model.specs.Frames.{gone}
 use Rattle.ink_trail.proofs.Undoing.{notes-trails, trails-unmarked}
-use Rattle.ink_stack.specs.Undo.{Rooms, threads_back}
+use Rattle.ink_trail.specs.Undo.{trail_of}
+use Rattle.ink_stack.specs.Undo.{HasGone, Rooms, threads_back}
 use Rattle.ink_stack.proofs.Backs.{spare-noted, stood-noted}
 use Rattle.ink_stack.proofs.Unmarked.{held-same}
 use Rattle.ink_stack.proofs.threads.Threads.go.Goals as goal
@@ -24,3 +26,8 @@ returns-clause-stood g c = stood-noted 2 _ _ (returns-clause-trail g c)
 
 pub returns-clause-spare : goal.returns-clause-spare
 returns-clause-spare g c = spare-noted 2 _ _ (returns-clause-trail g c)
+
+pub go_further-requires : goal.go_further-requires
+go_further-requires g c =
+    let noted : HasGone (reverse (reverse (trail_of c.self.inside.trail.undo))) = subst (λ es. HasGone (reverse es)) c.pairs.ensures (c.has_gone.ensures c.if-has_gone.true) in
+    record { gone = subst (λ v. HasGone (trail_of v.trail.undo)) c.self.view_is (subst HasGone (reverse-reverse (trail_of c.self.inside.trail.undo)) noted) }

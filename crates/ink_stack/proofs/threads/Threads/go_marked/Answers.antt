@@ -1,10 +1,9 @@
-use Rattle.std.proofs.Common.{arith, refl, reverse, vec_capacity, ap, sym, subst, ◌≤◌}
-use Rattle.std.proofs.lemmas.List.{reverse-reverse}
+use Rattle.std.proofs.Common.{arith, refl, vec_capacity, ap, sym, subst, ◌≤◌}
 use Rattle.ink_trail.proofs.Undoing.{notes-trails, trails-one, trails-trails}
 use Rattle.ink_trail.specs.Undo.{trail_of, with_pair, spare}
 use Rattle.ink_model.specs.Frames.{gone, on_top}
 use Rattle.ink_stack.specs.Running.{threads_in}
-use Rattle.ink_stack.specs.Undo.{HasGone, Rooms, threads_back, threads_spare}
+use Rattle.ink_stack.specs.Undo.{Rooms, threads_back, threads_spare}
 use Rattle.ink_stack.specs.declared.undo.ThreadsPair.TheVariants.{Placed, Previous}
 use Rattle.ink_stack.proofs.Backs.{going, gone-back, spare-noted, stood-noted, went-back}
 use Rattle.ink_stack.proofs.Holding.{held-now, held-top, more-refl, within-same}
@@ -59,8 +58,3 @@ note-requires-2-clause-spare g c =
 
 pub returns-clause-threads : goal.returns-clause-threads
 returns-clause-threads g c = rw (← c.self.view_is) (ap (λ v. threads_in v c.self.inside.below.items) c.go.ensures)
-
-pub go_further-requires : goal.go_further-requires
-go_further-requires g c =
-    let noted : HasGone (reverse (reverse (trail_of c.self.inside.trail.undo))) = subst (λ es. HasGone (reverse es)) c.pairs.ensures (c.has_gone.ensures c.if-has_gone.true) in
-    record { gone = subst (λ v. HasGone (trail_of v.trail.undo)) c.self.view_is (subst HasGone (reverse-reverse (trail_of c.self.inside.trail.undo)) noted) }

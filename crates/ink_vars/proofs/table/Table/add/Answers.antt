@@ -8,15 +8,14 @@ use Rattle.ink_vars.proofs.table.Table.add.Goals as goal
 pub add-requires : goal.add-requires
 add-requires c =
     not_in c.args.name.now c.self.inside.names c.self.inside.values.items c.self.invariant
-    (ap is_some (ap (stored c.args.name.now) (c.self.view_is ∙ c.in-Err.ensures.kept)) ∙ sym c.in-Err.ensures.found)
+    (ap is_some (ap (stored c.args.name.now) c.self.view_is) ∙ c.requires.absent)
 
-pub returns-in_ok-add-clause-ok : goal.returns-in_ok-add-clause-ok
-returns-in_ok-add-clause-ok c =
+pub returns-clause-ok : goal.returns-clause-ok
+returns-clause-ok c =
     let held = c.self.inside in
     let name = c.args.name.now in
     ap (λ names. rows_of names c.push_reserved.new.self.items) c.in_ok-add.ensures.ok
-    ∙ ap (rows_of (held.names ++ name ∷ [])) (c.push_reserved.ensures.items ∙ ap (λ items. items ++ c.in-Err.value ∷ []) c.in_ok-reserve.ensures.items
-    ∙ ap (λ v. held.values.items ++ v ∷ []) c.in-Err.ensures.err)
+    ∙ ap (rows_of (held.names ++ name ∷ [])) (c.push_reserved.ensures.items ∙ ap (λ items. items ++ c.args.value ∷ []) c.in_ok-reserve.ensures.items)
     ∙ pushed held.names held.values.items name c.args.value c.self.invariant
-    ∙ ap (λ rows. rows ++ (name, c.args.value) ∷ []) (c.self.view_is ∙ c.in-Err.ensures.kept)
-    ∙ sym (store_new name c.args.value c.args.self.now (none_stored (stored name c.args.self.now) (sym c.in-Err.ensures.found)))
+    ∙ ap (λ rows. rows ++ (name, c.args.value) ∷ []) c.self.view_is
+    ∙ sym (store_new name c.args.value c.args.self.now (none_stored (stored name c.args.self.now) c.requires.absent))
