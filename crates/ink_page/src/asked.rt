@@ -13,7 +13,7 @@ use std::alloc::{AllocError, Global};
 use std::io;
 
 /// A function that asks the reader: it shows its name and its arguments, and what is typed in one line is its answer. At the end of
-/// the input it refuses.
+/// the input it refuses, and so it does where there is no memory for what was typed: it has asked then.
 #[derive(Drop)]
 pub struct Asked<R> {
     name: Text,
@@ -35,12 +35,13 @@ impl<R: Input + Print + Drop> Asked<R> {
         })
     }
 
-    // Asks, and gives the line that is typed; none at the end of the input, or where it fails.
-    fn ask(&self, arguments: &[Value]) -> Result<Option<String>, AllocError> {
+    // Asks, and gives what is answered: none at the end of the input, where it fails, or where memory was refused for what was
+    // typed. The one error is a refused request for memory before it asks.
+    fn ask(&self, arguments: &[Value]) -> Result<Option<Given>, AllocError> {
         let question = question(self.alloc, self.look, self.name.as_str(), arguments)?;
         let mut line = String::new(self.alloc);
         match ask_line(&self.rt, question.as_str(), &mut line) {
-            Ok(count) if count > 0 => Ok(Some(line)),
+            Ok(count) if count > 0 => Ok(read_given(self.alloc, line.as_str()).ok()),
             _ => Ok(None),
         }
     }
@@ -53,15 +54,13 @@ impl<R: Input + Print + Drop> TurnFn for Asked<R> {
 
     fn call(&mut self, stamp: u64, arguments: &[Value]) -> Result<Given, HostFault> {
         let call = self.noted.open(stamp, arguments)?;
-        let Ok(line) = self.ask(arguments) else {
+        let Ok(answer) = self.ask(arguments) else {
             return Err(self.noted.lack());
         };
-        let Some(line) = line else {
+        let Some(given) = answer else {
             return Err(self.noted.refuse(call));
         };
-        let Ok(given) = read_given(self.alloc, line.as_str()) else {
-            return Err(self.noted.lack());
-        };
+        // A text that was just made has one owner, and room for one more.
         self.noted.answer(call, given)
     }
 }

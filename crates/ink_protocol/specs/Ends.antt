@@ -1,4 +1,4 @@
--- What a call of a source or a sink counts as a failure, whose failure ended a session, and what was written then.
+-- What a call of a source or a sink counts as a failure or as the end, whose failure ended a session, and what was written then.
 use Rattle.std.specs.Prelude.{◌≡◌, ◌<◌, ◌+◌, ◌%◌, ◌^◌, ℕ, List, ◌++◌, length, codes, Bool, true, false, ◌==◌, ◌&&◌, Option, Result, Ok, Err}
 use Rattle.std.specs.Io.KnownBytes.{Appends}
 use Rattle.ink_model.specs.Bytes.{is_filled}
@@ -11,7 +11,7 @@ use Rattle.ink_protocol.specs.declared.fault.RunFault.TheVariants as fault
 abbrev pub counted : ℕ → ℕ
 counted n = (n + 1) % 2 ^ 64
 
--- so many failures there are, after a call that failed or did not
+-- so many there are, after a call that is one more or is not
 abbrev pub after_call : Bool → ℕ → ℕ
 after_call true n = counted n
 after_call false n = n
@@ -20,6 +20,11 @@ after_call false n = n
 abbrev pub takes_nothing : {E : Type 0} → Result ℕ E → List ℕ → Bool
 takes_nothing (Ok n) bytes = n == 0 && is_filled bytes
 takes_nothing (Err e) bytes = true
+
+-- a read gave no byte
+abbrev pub gives_nothing : {E : Type 0} → Result ℕ E → Bool
+gives_nothing (Ok n) = n == 0
+gives_nothing (Err e) = false
 
 -- A source or a sink after a call: one failure more where the call says so, else as many, and it is the same one.
 abbrev pub Reports : Bool → ℕ → ℕ → ℕ → ℕ → Type 0

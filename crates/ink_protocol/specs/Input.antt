@@ -1,5 +1,5 @@
 -- What is read ahead of the lines, and what is taken of it.
-use Rattle.std.specs.Prelude.{◌≡◌, ◌<◌, ◌≤◌, ◌+◌, ℕ, List, [], ◌∷◌, ◌++◌, length, take, drop, false, Option, Result, Ok, Err}
+use Rattle.std.specs.Prelude.{◌≡◌, ◌<◌, ◌≤◌, ◌+◌, ℕ, List, [], ◌∷◌, ◌++◌, length, take, drop, Bool, true, false, Option, Result, Ok, Err}
 use Rattle.std.specs.Io.KnownBytes.{Consumes, IsAtEnd}
 use Rattle.ink_protocol.specs.Buffered.{Buffered}
 use Rattle.ink_model.specs.Bytes.{has_newline}
@@ -24,6 +24,19 @@ GivesNext left left' old new (Ok next.Bytes) = Takes left left' old new [] × (0
 GivesNext left left' old new (Ok next.End) = Takes left left' old new [] × (new.unread ≡ []) × IsAtEnd left'
 GivesNext left left' old new (Ok next.TooMany) = Takes left left' old new [] × (new.spare ≡ 0) × (0 < length new.unread)
 GivesNext left left' old new (Err e) = Takes left left' old new [] × (new.unread ≡ [])
+
+-- Nothing is left of what was read, and no more came.
+abbrev pub finds_end : {T E : Type 0} → Result T E → List ℕ → Bool
+finds_end (Ok x) [] = true
+finds_end (Ok x) (byte ∷ unread) = false
+finds_end (Err e) unread = false
+
+-- whether the source's end stands next
+abbrev pub is_end : Result Next ReadFailed → Bool
+is_end (Ok next.Bytes) = false
+is_end (Ok next.End) = true
+is_end (Ok next.TooMany) = false
+is_end (Err e) = false
 
 -- A newline stands there, and none before it.
 abbrev pub IsNewlineAt : List ℕ → ℕ → Type 0

@@ -1,5 +1,5 @@
 -- Lines taken from what a source gives.
-use Rattle.std.specs.Prelude.{◌≡◌, ◌<◌, ◌≤◌, ◌+◌, ℕ, max, List, [], ◌∷◌, ◌++◌, length, false, ◌⊎◌, Option, Result, Ok, Err}
+use Rattle.std.specs.Prelude.{◌≡◌, ◌<◌, ◌≤◌, ◌+◌, ℕ, max, List, [], ◌∷◌, ◌++◌, length, Bool, true, false, ◌⊎◌, Option, Result, Ok, Err}
 use Rattle.std.specs.Io.KnownBytes.{IsAtEnd}
 use Rattle.ink_model.specs.Bytes.{has_newline}
 use Rattle.ink_protocol.specs.Buffered.{Buffered}
@@ -39,3 +39,9 @@ GivesLine left left' old new limit (Err fault.Read) = TakesPart left left' old n
 GivesLine left left' old new limit (Err fault.Write) = ⊥
 GivesLine left left' old new limit (Err fault.TooLong) = (p : TakesPart left left' old new (limit + 1)) × IsTooLong limit new p.part
 GivesLine left left' old new limit (Err fault.OutOfMemory) = LacksMemory left left' old new limit
+
+-- whether it is what stands before the source's end
+abbrev pub is_last : Result Line RunFault → Bool
+is_last (Ok (a.Whole v)) = false
+is_last (Ok (a.Last v)) = true
+is_last (Err f) = false

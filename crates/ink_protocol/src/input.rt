@@ -2,7 +2,7 @@
 
 ghost use Rattle.std.specs.Prelude.{◌≡◌, ◌<◌, ◌≤◌, ◌+◌, ◌-◌, ℕ, max, List, [], false, Option, length, take, drop, is_err, IfOk, OnOk, OnErr, MatchOption, MatchResult};
 ghost use Rattle.ink_model.specs.Bytes.{has_newline};
-ghost use Rattle.ink_protocol.specs.Ends.{after_call};
+ghost use Rattle.ink_protocol.specs.Ends.{after_call, gives_nothing};
 ghost use Rattle.ink_protocol.specs.Input.{Extends, IsNewlineAt};
 ghost use Rattle.std.specs.Io.{ReadsAtMost};
 ghost use Rattle.std.specs.Io.KnownBytes.{Consumes, Keeps, IsAtEnd, ReadConsumes};
@@ -16,13 +16,16 @@ use std::marker::Model;
 #[error("read failed")]
 pub struct ReadFailed;
 
-/// A reader that counts its failures.
+/// A reader that counts its failures, and how often it was read at its end.
 pub trait Source {
     /// The bytes that reads will give from here on, where they are known.
     ghost remaining: { Self → Option (List ℕ) };
 
     /// How many reads have failed, by a counter of 64 bits.
     ghost failures: { Self → ℕ };
+
+    /// How many reads have given no byte, by a counter of 64 bits.
+    ghost ends: { Self → ℕ };
 
     /// Which source it is. A source around a reference says by it which reference it holds.
     ghost name: { Self → ℕ };
@@ -33,6 +36,7 @@ pub trait Source {
         ensures bound { ReadsAtMost result buffer.new }
         ensures bytes { ReadConsumes (remaining self.old) (remaining self.new) result buffer.new }
         ensures cause { failures self.new ≡ after_call (is_err result) (failures self.old) }
+        ensures ends { ends self.new ≡ after_call (gives_nothing result) (ends self.old) }
         ensures name { name self.new ≡ name self.old };
 }
 
@@ -76,7 +80,7 @@ impl Ahead {
     ghost use Rattle.std.specs.Prelude.{◌≡◌, ◌<◌, ◌≤◌, ◌+◌, max, [], length, take, drop, is_err, OnOk, OnErr};
     ghost use Rattle.std.specs.Io.KnownBytes.{IsAtEnd};
     ghost use Rattle.ink_protocol.specs.Ends.{after_call};
-    ghost use Rattle.ink_protocol.specs.Input.{Cuts, Extends, GivesNext, Takes};
+    ghost use Rattle.ink_protocol.specs.Input.{Cuts, Extends, GivesNext, Takes, finds_end, is_end};
 
     /// Nothing was read, and this many bytes may be taken.
     pub fn new(most: usize) -> Ahead
@@ -113,6 +117,7 @@ impl Ahead {
     ) -> Result<Next, ReadFailed>
         ensures gives { GivesNext (S.remaining source.old) (S.remaining source.new) self.old self.new result }
         ensures cause { S.failures source.new ≡ after_call (is_err result) (S.failures source.old) }
+        ensures ends { S.ends source.new ≡ after_call (is_end result) (S.ends source.old) }
         ensures name { S.name source.new ≡ S.name source.old }
         ensures bound { length self.new.unread ≤ max self.new.spare 1 }
         ensures room { length self.new.unread ≤ max (length self.old.unread) (max room 1) }
@@ -133,6 +138,7 @@ impl Ahead {
         ensures end { OnOk result (self.new.unread ≡ [] → IsAtEnd (S.remaining source.new)) }
         ensures err { OnErr result (self.new.unread ≡ []) }
         ensures cause { S.failures source.new ≡ after_call (is_err result) (S.failures source.old) }
+        ensures ends { S.ends source.new ≡ after_call (finds_end result self.new.unread) (S.ends source.old) }
         ensures name { S.name source.new ≡ S.name source.old }
         ensures bound { length self.new.unread ≤ max self.new.spare 1 }
         ensures room { length self.new.unread ≤ max (length self.old.unread) (max room 1) }
@@ -229,6 +235,7 @@ fn read_some<S: Source>(source: &mut S, chunk: &mut [u8], room: usize) -> Result
         (λ n. Consumes (S.remaining source.old) (S.remaining source.new) (take n chunk.new) × (n ≡ 0 → IsAtEnd (S.remaining source.new)))
         (λ _. Keeps (S.remaining source.old) (S.remaining source.new)) }
     ensures cause { S.failures source.new ≡ after_call (is_err result) (S.failures source.old) }
+    ensures ends { S.ends source.new ≡ after_call (gives_nothing result) (S.ends source.old) }
     ensures name { S.name source.new ≡ S.name source.old }
 {
     source.read(&mut chunk[..room])

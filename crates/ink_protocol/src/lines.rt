@@ -2,7 +2,7 @@
 
 ghost use Rattle.std.specs.Prelude.{◌≡◌, ◌≤◌, ◌+◌, length};
 ghost use Rattle.ink_protocol.specs.Ends.{after_call, reads_fail};
-ghost use Rattle.ink_protocol.specs.Lines.{GivesLine};
+ghost use Rattle.ink_protocol.specs.Lines.{GivesLine, is_last};
 
 use crate::fault::RunFault;
 use crate::input::{Ahead, Cut, Next, Source};
@@ -15,9 +15,9 @@ pub enum Line {
 }
 
 /// The next line, of at most so many bytes, in the memory of a buffer whose bytes go. No more is read than tells that it is
-/// longer. Errors: `Read`, where the source failed; `TooLong`, once what was read shows that the line is longer, or that all bytes
-/// were taken that may be and more are there, whatever memory there is; `OutOfMemory`, where memory was refused for a byte that
-/// the line may have.
+/// longer, and nothing after a read that gave no byte: that is the source's end. Errors: `Read`, where the source failed;
+/// `TooLong`, once what was read shows that the line is longer, or that all bytes were taken that may be and more are there,
+/// whatever memory there is; `OutOfMemory`, where memory was refused for a byte that the line may have.
 pub fn next_line<S: Source>(
     buffer: Vec<u8>,
     ahead: &mut Ahead,
@@ -27,6 +27,7 @@ pub fn next_line<S: Source>(
     ensures gives { GivesLine (S.remaining source.old) (S.remaining source.new) ahead.old ahead.new limit result }
     ensures bound { length ahead.new.unread ≤ ahead.new.spare + 1 }
     ensures cause { S.failures source.new ≡ after_call (reads_fail result) (S.failures source.old) }
+    ensures ends { S.ends source.new ≡ after_call (is_last result) (S.ends source.old) }
     ensures name { S.name source.new ≡ S.name source.old }
 {
     let mut line = buffer;

@@ -1,6 +1,6 @@
 //! Where answers are written.
 
-ghost use Rattle.std.specs.Prelude.{◌≡◌, ℕ, List, Option, is_err};
+ghost use Rattle.std.specs.Prelude.{◌≡◌, ◌<◌, ℕ, List, Option, is_err, length};
 ghost use Rattle.std.specs.Io.{WritesAtMost};
 ghost use Rattle.std.specs.Io.KnownBytes.{WriteAppends};
 ghost use Rattle.ink_protocol.specs.Ends.{Reports, after_call, takes_nothing, writes_fail, Writes, WritesText};
@@ -23,8 +23,10 @@ pub trait Sink {
     /// Which sink it is. A sink around a reference says by it which reference it holds.
     ghost name: { Self → ℕ };
 
-    /// Writes some bytes from the front of these, and tells how many. `WriteFailed` says that none were written.
+    /// Writes some bytes from the front of these, and tells how many. `WriteFailed` says that none were written. There is a byte
+    /// to write: a sink is never asked to write nothing.
     fn write(&mut self, bytes: &[u8]) -> Result<usize, WriteFailed>
+        requires some { 0 < length bytes.now }
         ensures bound { WritesAtMost result bytes.now }
         ensures bytes { WriteAppends (contents self.old) (contents self.new) result bytes.now }
         ensures cause { failures self.new ≡ after_call (takes_nothing result bytes.now) (failures self.old) }

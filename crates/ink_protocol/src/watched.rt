@@ -1,29 +1,35 @@
-//! Readers and writers of std as sources and sinks, which count their failures.
+//! Readers and writers of std as sources and sinks, which count their failures and how often they were read at their end.
 
 ghost use Rattle.std.specs.Prelude.{◌≡◌, is_err};
 ghost use Rattle.std.specs.Io.{ReadsAtMost, WritesAtMost};
 ghost use Rattle.std.specs.Io.KnownBytes.{ReadConsumes, WriteAppends};
-ghost use Rattle.ink_protocol.specs.Ends.{after_call, takes_nothing};
+ghost use Rattle.ink_protocol.specs.Ends.{after_call, gives_nothing, takes_nothing};
 
 use crate::input::{ReadFailed, Source};
 use crate::output::{Sink, WriteFailed};
 use std::io::{Read, Write};
 
 /// A reader or a writer of one's own, and how often it has failed: reads that failed, or writes that failed or took no byte
-/// though there was one. The count is one of 64 bits and goes round.
+/// though there was one; and how many reads have given no byte. The counts are of 64 bits and go round.
 #[derive(Drop)]
 pub struct Watched<X> {
     inner: X,
     pub failures: u64,
+    pub ends: u64,
 }
 
 impl<X> Watched<X> {
-    /// It has not failed yet.
+    /// It has not failed yet, and was not read at its end.
     pub fn new(inner: X) -> Watched<X>
         ensures same { result.inner ≡ inner }
         ensures sound { result.failures ≡ 0 }
+        ensures ends { result.ends ≡ 0 }
     {
-        Watched { inner, failures: 0 }
+        Watched {
+            inner,
+            failures: 0,
+            ends: 0,
+        }
     }
 
     /// The reader or the writer, as it is now.
@@ -39,10 +45,12 @@ impl<R: Read> Source for Watched<R> {
 
     ghost failures = { λ s. s.failures };
 
+    ghost ends = { λ s. s.ends };
+
     ghost name = { λ s. 0 };
 
     fn read(&mut self, buffer: &mut [u8]) -> Result<usize, ReadFailed> {
-        counted_read(&mut self.inner, &mut self.failures, buffer)
+        counted_read(&mut self.inner, &mut self.failures, &mut self.ends, buffer)
     }
 }
 
@@ -58,21 +66,27 @@ impl<W: Write> Sink for Watched<W> {
     }
 }
 
-/// A reader or a writer that is lent, and how often it has failed meanwhile, counted as by `Watched`.
+/// A reader or a writer that is lent, and how often it has failed and was read at its end meanwhile, counted as by `Watched`.
 #[derive(Drop)]
 pub struct Lent<'a, X> {
     inner: &'a mut X,
     failures: u64,
+    ends: u64,
 }
 
 impl<'a, X> Lent<'a, X> {
-    /// It has not failed yet.
+    /// It has not failed yet, and was not read at its end.
     pub fn over(inner: &'a mut X) -> Lent<'a, X>
         ensures same_reference { result.inner.ghost_name ≡ inner.entry.ghost_name }
         ensures value { result.inner.now ≡ inner.old }
         ensures sound { result.failures ≡ 0 }
+        ensures ends { result.ends ≡ 0 }
     {
-        Lent { inner, failures: 0 }
+        Lent {
+            inner,
+            failures: 0,
+            ends: 0,
+        }
     }
 }
 
@@ -81,10 +95,12 @@ impl<R: Read> Source for Lent<'_, R> {
 
     ghost failures = { λ s. s.failures };
 
+    ghost ends = { λ s. s.ends };
+
     ghost name = { λ s. s.inner.ghost_name };
 
     fn read(&mut self, buffer: &mut [u8]) -> Result<usize, ReadFailed> {
-        counted_read(self.inner, &mut self.failures, buffer)
+        counted_read(self.inner, &mut self.failures, &mut self.ends, buffer)
     }
 }
 
@@ -100,18 +116,25 @@ impl<W: Write> Sink for Lent<'_, W> {
     }
 }
 
-// One read, which is counted where it fails.
+// One read, which is counted where it fails or gives no byte.
 fn counted_read<R: Read>(
     reader: &mut R,
     failures: &mut u64,
+    ends: &mut u64,
     buffer: &mut [u8],
 ) -> Result<usize, ReadFailed>
     ensures bound { ReadsAtMost result buffer.new }
     ensures bytes { ReadConsumes (R.remaining reader.old) (R.remaining reader.new) result buffer.new }
     ensures count { failures.new ≡ after_call (is_err result) failures.old }
+    ensures ends { ends.new ≡ after_call (gives_nothing result) ends.old }
 {
     match reader.read(buffer) {
-        Ok(count) => Ok(count),
+        Ok(count) => {
+            if count == 0 {
+                *ends = ends.wrapping_add(1);
+            }
+            Ok(count)
+        }
         Err(_) => {
             *failures = failures.wrapping_add(1);
             Err(ReadFailed)

@@ -28,6 +28,7 @@ pieces-preserved g c =
       takes = further.0;
       within = further.1;
       cause = c.in-Ok.ensures.cause ∙ c.pieces.invariant.cause;
+      ends = rw c.in-Bytes.is at c.in-Ok.ensures.ends ∙ c.pieces.invariant.ends;
       name = c.in-Ok.ensures.name ∙ c.pieces.invariant.name;
     }
 

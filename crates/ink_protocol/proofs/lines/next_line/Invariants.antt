@@ -7,6 +7,7 @@ invariant-pieces g l = record {
   takes : TakesLine (g.S.Source.remaining l.fn.source) (g.S.Source.remaining l.source) l.fn.ahead l.ahead l.limit l.line.items l.line.items;
   within : length l.line.items ≤ l.limit;
   cause : g.S.Source.failures l.source ≡ g.S.Source.failures l.fn.source;
+  ends : g.S.Source.ends l.source ≡ g.S.Source.ends l.fn.source;
   name : g.S.Source.name l.source ≡ g.S.Source.name l.fn.source;
 }
 
