@@ -5,9 +5,7 @@ use Rattle.std.proofs.KnownBytes.{Appends-nil, Consumes-trans}
 use Rattle.ink_model.specs.Bytes.{has_newline}
 use Rattle.ink_model.specs.declared.limits.TheConstants.{MAX_STORY, MAX_INPUT}
 use Rattle.ink_model.specs.Opening.{opened}
-use Rattle.ink_model.specs.State.{State}
 use Rattle.ink_model.specs.Host.{Bindings}
-use Rattle.ink_model.specs.declared.host.Event.{Event}
 use Rattle.ink_host.specs.Desk.{DeskView}
 use Rattle.ink_host.specs.Telling.{Watching}
 use Rattle.ink_host.specs.declared.objects.Called.{Called}
@@ -17,7 +15,7 @@ use Rattle.ink_protocol.specs.Lines.{TakesLine, GivesLine}
 use Rattle.ink_player.specs.Playing.{IsStoryLine, PlaysOn, EndsEarly, PlayFails, PlayEnds, Plays, play_fault, OpenFails, Opens}
 use Rattle.ink_player.specs.Serving.{RunEnds, Runs}
 use Rattle.ink_protocol.specs.Spelled.{HasRoom}
-use Rattle.ink_player.specs.Words.{DealtAnew, PlayerView, state_of, story_of}
+use Rattle.ink_player.specs.Words.{PlayerView, Scene, anew, scene_of, story_of}
 use Rattle.ink_player.specs.declared.end.PlayEnd.{PlayEnd}
 use Rattle.ink_player.specs.declared.end.PlayFault.{PlayFault}
 use Rattle.ink_player.specs.declared.end.PlayFault.TheVariants as play
@@ -72,34 +70,40 @@ all_is a b o n line t = record {
   whole = inr (ap (λ l. line ++ l) t.2 ∙ append-nil line, refl, t.3);
 }
 
-module _ {P F O : Type 0} (turn_log : F → List Called) (state : O → Watching) (host : Bindings) (old : DeskView P F O) where
+module _ {P F O : Type 0} (turn_log : F → List Called) (refusals : F → ℕ) (state : O → Watching) (host : Bindings) (old : DeskView P F O) where
+  abbrev Played : Option (List ℕ) → Option (List ℕ) → Option (List ℕ) → Option (List ℕ) → Result (DeskView P F O) (PlayEnd P F O) → Type 0
+  Played a b h i r = Plays turn_log refusals state host old a b h i r
+
+  abbrev Opened : Option (List ℕ) → List ℕ → List ℕ → Result (Unit {0}) RunFault → DeskView P F O → Type 0
+  Opened left bytes written r new = PlaysOn turn_log refusals state host old left bytes written r new
+
   -- ---- ends before a session
 
   fails_early : (left : Option (List ℕ)) (bytes line input : List ℕ) (f : PlayFault) (new : DeskView P F O) → IsStoryLine left bytes line input → length bytes ≤ MAX_STORY + 1
-      → OpenFails line f → new ≡ old → PlayFails turn_log state host old [] left bytes [] f new
-  fails_early left bytes line input (play.Story r) new l bound p same = (early bytes bound, (same, refl), inl (line, input, l, p))
+      → OpenFails line f → new ≡ old → PlayFails turn_log refusals state host old left bytes [] f new
+  fails_early left bytes line input (play.Story r) new l bound p same = (early bytes bound, same, inl (line, input, l, p))
   fails_early left bytes line input (play.Start f) new l bound p same =
-      (early bytes bound, (same, refl), record { tree = p.0; story = record { line = line; input = input; story_line = l; reads = p.1 }; globals = p.2.0; why = p.2.1 })
+      (early bytes bound, same, record { tree = p.0; story = record { line = line; input = input; story_line = l; reads = p.1 }; globals = p.2.0; why = p.2.1 })
   fails_early left bytes line input (play.Run f) new l bound p same = absurd p
 
   plays_early : (a b h : Option (List ℕ)) (o n : Buffered) (taken : List ℕ) (r : Result (DeskView P F O) (PlayEnd P F O)) → o ≡ fresh → Takes a b o n taken → length (taken ++ n.unread) ≤ MAX_STORY + 1
-      → PlayEnds turn_log state host old [] b (taken ++ n.unread) [] r → Plays turn_log state host old [] a b h h r
+      → PlayEnds turn_log refusals state host old b (taken ++ n.unread) [] r → Played a b h h r
   plays_early a b h o n taken r e t bound p = record {
     bytes = t.got;
     consumed = t.consumed;
     bound = omega (arith, bound, ap length (got_is a b o n taken e t));
     written = [];
     appended = Appends-nil h;
-    ends = subst (λ l. PlayEnds turn_log state host old [] b l [] r) (sym (got_is a b o n taken e t)) p;
+    ends = subst (λ l. PlayEnds turn_log refusals state host old b l [] r) (sym (got_is a b o n taken e t)) p;
   }
 
   no_story_for : (a b h : Option (List ℕ)) (o n : Buffered) (f : RunFault) → o ≡ fresh → GivesLine a b o n MAX_STORY (Err f)
-      → Plays turn_log state host old [] a b h h (Err (record { fault = play_fault f; desk = old }))
+      → Played a b h h (Err (record { fault = play_fault f; desk = old }))
   no_story_for a b h o n fault.Read e g =
       let t = g.0.takes in
       let bound = story_bound a b o n g.0.part g.0.part e t in
       plays_early a b h o n g.0.part _ e t.takes bound
-      (inl (early _ bound, (refl, refl), refl, ap (λ l. has_newline (g.0.part ++ l)) g.1 ∙ ap has_newline (append-nil g.0.part) ∙ t.plain))
+      (inl (early _ bound, refl, refl, ap (λ l. has_newline (g.0.part ++ l)) g.1 ∙ ap has_newline (append-nil g.0.part) ∙ t.plain))
   no_story_for a b h o n fault.Write e g = absurd g
   no_story_for a b h o n fault.TooLong e g =
       let t = g.0.takes in
@@ -111,27 +115,27 @@ module _ {P F O : Type 0} (turn_log : F → List Called) (state : O → Watching
         | inr q ↦
             let no : ⊥ = omega (arith, q.0, q.1, count_is a b o n g.0.part e t.takes) in absurd no
       ] in
-      plays_early a b h o n g.0.part _ e t.takes bound (early _ bound, (refl, refl), inr (inr (refl, long.0, long.1)))
+      plays_early a b h o n g.0.part _ e t.takes bound (early _ bound, refl, inr (inr (refl, long.0, long.1)))
   no_story_for a b h o n fault.OutOfMemory e g =
       let none : length o.unread ≡ 0 = ap (λ z. length z.unread) e in
       let bound : length (g.part ++ n.unread) ≤ MAX_STORY + 1 = omega (arith, g.takes.room, none, length-append g.part n.unread) in
       let w = subst (λ m. HasRoom MAX_STORY m (g.part ++ n.unread) (g.part ++ n.unread)) (ap (λ z. z.spare) e) (has_room a b o n MAX_STORY (omega (arith, none)) g) in
-      plays_early a b h o n g.part _ e g.takes.takes bound (early _ bound, (refl, refl), inr (inl (refl, w)))
+      plays_early a b h o n g.part _ e g.takes.takes bound (early _ bound, refl, inr (inl (refl, w)))
 
   pub no_story : (a b h : Option (List ℕ)) (o n : Buffered) (f : RunFault) (pf : PlayFault) → o ≡ fresh → GivesLine a b o n MAX_STORY (Err f) → pf ≡ play_fault f
-      → Plays turn_log state host old [] a b h h (Err (record { fault = pf; desk = old }))
+      → Played a b h h (Err (record { fault = pf; desk = old }))
   no_story a b h o n f pf e g k =
-      subst (λ x. Plays turn_log state host old [] a b h h (Err (record { fault = x; desk = old }))) (sym k) (no_story_for a b h o n f e g)
+      subst (λ x. Played a b h h (Err (record { fault = x; desk = old }))) (sym k) (no_story_for a b h o n f e g)
 
   pub unopened : (a b h : Option (List ℕ)) (o n : Buffered) (line : List ℕ) (x : PlayEnd P F O) → o ≡ fresh → TakesStory a b o n line → Opens line (Err x) → x.desk ≡ old
-      → Plays turn_log state host old [] a b h h (Err x)
+      → Played a b h h (Err x)
   unopened a b h o n line x e t p same =
       let bound = story_bound a b o n (line ++ 10 ∷ []) line e t.0 in
       plays_early a b h o n (line ++ 10 ∷ []) (Err x) e t.0.takes bound
       (fails_early b _ line n.unread x.fault x.desk (record { plain = t.0.plain; within = t.1; whole = inl (append_assoc line (10 ∷ []) n.unread) }) bound p same)
 
   pub unopened_last : (a b h : Option (List ℕ)) (o n : Buffered) (line : List ℕ) (x : PlayEnd P F O) → o ≡ fresh → TakesAll a b o n line → Opens line (Err x) → x.desk ≡ old
-      → Plays turn_log state host old [] a b h h (Err x)
+      → Played a b h h (Err x)
   unopened_last a b h o n line x e t p same =
       let bound = story_bound a b o n line line e t.0 in
       plays_early a b h o n line (Err x) e t.0.takes bound (fails_early b _ line [] x.fault x.desk (all_is a b o n line t) bound p same)
@@ -139,26 +143,30 @@ module _ {P F O : Type 0} (turn_log : F → List Called) (state : O → Watching
   -- ---- a session after the story
 
   -- there is nothing after it
-  pub plays_last : (a b h : Option (List ℕ)) (o n : Buffered) (line : List ℕ) (p : PlayerView P F O) (d : DeskView P F O) → o ≡ fresh → TakesAll a b o n line → Opens line (Ok p) → DealtAnew turn_log state old [] d
-      → Plays turn_log state host old [] a b h h (Ok d)
-  plays_last a b h o n line p d e t opens dealt =
-      plays_early a b h o n line (Ok d) e t.0.takes (story_bound a b o n line line e t.0) (
-        record {
-          tree = story_of p;
-          story = record { line = line; input = []; story_line = all_is a b o n line t; reads = opens.0 };
-          first = opens.1.0;
-          opens = opens.1.1;
-          new = opened opens.1.0;
-          ends = record { at_end = t.3; within = none_within _; each = tt; session = (refl, refl, refl) };
-        },
-        dealt,
-      )
+  pub plays_last : (a b h : Option (List ℕ)) (o n : Buffered) (line : List ℕ) (p : PlayerView P F O) (d : DeskView P F O) → o ≡ fresh → TakesAll a b o n line → Opens line (Ok p) → d.events ≡ [] → d ≡ anew old
+      → Played a b h h (Ok d)
+  plays_last a b h o n line p d e t opens taken same =
+      plays_early a b h o n line (Ok d) e t.0.takes (story_bound a b o n line line e t.0) (record {
+        tree = story_of p;
+        story = record { line = line; input = []; story_line = all_is a b o n line t; reads = opens.0 };
+        first = opens.1.0;
+        opens = opens.1.1;
+        last = record { state = opened opens.1.0; desk = anew old };
+        ends = record { at_end = t.3; within = none_within _; each = tt; session = ([], (refl, refl, refl), refl) };
+        desk = same;
+        taken = taken;
+      })
 
-  plays_from : (a b c h j : Option (List ℕ)) (o n : Buffered) (line : List ℕ) (p : PlayerView P F O) (es : List Event) (new : State) (r : Result (Unit {0}) RunFault) (x : Result (DeskView P F O) (PlayEnd P F O))
-      → o ≡ fresh → TakesStory a b o n line → Opens line (Ok p) → Runs (story_of p) host es n.spare n.unread b c h j (state_of p) new r
-      → ((bytes written : List ℕ) → PlaysOn host es c bytes written r → PlayEnds turn_log state host old es c bytes written x)
-      → Plays turn_log state host old es a c h j x
-  plays_from a b c h j o n line p es new r x e t opens q into =
+  -- the player that was opened is as its story begins, and has the desk
+  opened_scene : (p : PlayerView P F O) (line : List ℕ) (opens : Opens line (Ok p)) → p.desk ≡ anew old → scene_of p ≡ record { state = opened opens.1.0; desk = anew old }
+  opened_scene p line opens desk =
+      ap (λ s. let x : Scene P F O = record { state = s; desk = p.desk } in x) opens.1.2 ∙ ap (λ d. let x : Scene P F O = record { state = opened opens.1.0; desk = d } in x) desk
+
+  plays_from : (a b c h j : Option (List ℕ)) (o n : Buffered) (line : List ℕ) (p : PlayerView P F O) (last : Scene P F O) (d : DeskView P F O) (r : Result (Unit {0}) RunFault) (x : Result (DeskView P F O) (PlayEnd P F O))
+      → o ≡ fresh → TakesStory a b o n line → Opens line (Ok p) → p.desk ≡ anew old → Runs turn_log refusals state (story_of p) host n.spare n.unread b c h j (scene_of p) last r
+      → d.events ≡ [] → d ≡ last.desk → ((bytes written : List ℕ) → Opened c bytes written r d → PlayEnds turn_log refusals state host old c bytes written x)
+      → Played a c h j x
+  plays_from a b c h j o n line p last d r x e t opens begun q taken same into =
       let got = t.0.takes.got in
       let bytes : got ++ q.bytes ≡ line ++ 10 ∷ (n.unread ++ q.bytes) =
       ap (λ l. l ++ q.bytes) (got_is a b o n (line ++ 10 ∷ []) e t.0.takes) ∙ append_assoc (line ++ 10 ∷ []) n.unread q.bytes ∙ append_assoc line (10 ∷ []) (n.unread ++ q.bytes) in
@@ -180,20 +188,22 @@ module _ {P F O : Type 0} (turn_log : F → List Called) (state : O → Watching
           };
           first = opens.1.0;
           opens = opens.1.1;
-          new = new;
-          ends = subst (λ m. RunEnds (story_of p) host es m c (n.unread ++ q.bytes) (opened opens.1.0) q.written new r) most
-              (subst (λ s. RunEnds (story_of p) host es n.spare c (n.unread ++ q.bytes) s q.written new r) opens.1.2 q.ends);
+          last = last;
+          ends = subst (λ m. RunEnds turn_log refusals state (story_of p) host m c (n.unread ++ q.bytes) (record { state = opened opens.1.0; desk = anew old }) q.written last r) most
+              (subst (λ s. RunEnds turn_log refusals state (story_of p) host n.spare c (n.unread ++ q.bytes) s q.written last r) (opened_scene p line opens begun) q.ends);
+          desk = same;
+          taken = taken;
         });
       }
 
-  pub plays_on : (a b c h j : Option (List ℕ)) (o n : Buffered) (line : List ℕ) (p : PlayerView P F O) (es : List Event) (new : State) (d : DeskView P F O)
-      → o ≡ fresh → TakesStory a b o n line → Opens line (Ok p) → Runs (story_of p) host es n.spare n.unread b c h j (state_of p) new (Ok tt)
-      → DealtAnew turn_log state old es d → Plays turn_log state host old es a c h j (Ok d)
-  plays_on a b c h j o n line p es new d e t opens q dealt =
-      plays_from a b c h j o n line p es new (Ok tt) (Ok d) e t opens q (λ bytes written y. (y, dealt))
+  pub plays_on : (a b c h j : Option (List ℕ)) (o n : Buffered) (line : List ℕ) (p : PlayerView P F O) (last : Scene P F O) (d : DeskView P F O)
+      → o ≡ fresh → TakesStory a b o n line → Opens line (Ok p) → p.desk ≡ anew old → Runs turn_log refusals state (story_of p) host n.spare n.unread b c h j (scene_of p) last (Ok tt)
+      → d.events ≡ [] → d ≡ last.desk → Played a c h j (Ok d)
+  plays_on a b c h j o n line p last d e t opens begun q taken same =
+      plays_from a b c h j o n line p last d (Ok tt) (Ok d) e t opens begun q taken same (λ bytes written y. y)
 
-  pub plays_short : (a b c h j : Option (List ℕ)) (o n : Buffered) (line : List ℕ) (p : PlayerView P F O) (es : List Event) (new : State) (f : RunFault) (d : DeskView P F O)
-      → o ≡ fresh → TakesStory a b o n line → Opens line (Ok p) → Runs (story_of p) host es n.spare n.unread b c h j (state_of p) new (Err f)
-      → DealtAnew turn_log state old es d → Plays turn_log state host old es a c h j (Err (record { fault = play.Run f; desk = d }))
-  plays_short a b c h j o n line p es new f d e t opens q dealt =
-      plays_from a b c h j o n line p es new (Err f) (Err (record { fault = play.Run f; desk = d })) e t opens q (λ bytes written y. inr (y, dealt))
+  pub plays_short : (a b c h j : Option (List ℕ)) (o n : Buffered) (line : List ℕ) (p : PlayerView P F O) (last : Scene P F O) (f : RunFault) (d : DeskView P F O)
+      → o ≡ fresh → TakesStory a b o n line → Opens line (Ok p) → p.desk ≡ anew old → Runs turn_log refusals state (story_of p) host n.spare n.unread b c h j (scene_of p) last (Err f)
+      → d.events ≡ [] → d ≡ last.desk → Played a c h j (Err (record { fault = play.Run f; desk = d }))
+  plays_short a b c h j o n line p last f d e t opens begun q taken same =
+      plays_from a b c h j o n line p last d (Err f) (Err (record { fault = play.Run f; desk = d })) e t opens begun q taken same (λ bytes written y. inr y)

@@ -4,10 +4,12 @@ use Rattle.std.specs.List.{AllByRecursion}
 use Rattle.std.specs.Option.{option_map}
 use Rattle.std.specs.Io.KnownBytes.{Appends, IsAtEnd}
 use Rattle.std.proofs.KnownBytes.{Appends-nil, Appends-trans, Consumes-trans}
+use Rattle.ink_host.specs.Telling.{Watching}
+use Rattle.ink_host.specs.declared.objects.Called.{Called}
 use Rattle.ink_model.specs.Answer.{Reply, Refuses, answer}
 use Rattle.ink_model.specs.Bytes.{has_newline, onto}
 use Rattle.ink_model.specs.Command.{Command, command_of, line_asks, lines_of}
-use Rattle.ink_model.specs.Session.{Does, Serves, Session}
+use Rattle.ink_model.specs.Session.{Does, Serves}
 use Rattle.ink_model.specs.State.{State}
 use Rattle.ink_model.specs.Host.{Bindings}
 use Rattle.ink_model.specs.Tree.{StoryTree}
@@ -19,7 +21,8 @@ use Rattle.ink_protocol.specs.declared.command.LineCommand.{LineCommand}
 use Rattle.ink_protocol.specs.Ends.{Falls, WritesText}
 use Rattle.ink_protocol.specs.Input.{Takes}
 use Rattle.ink_protocol.specs.Lines.{TakesLine, GivesLine}
-use Rattle.ink_player.specs.Serving.{ServesFront, RunEnds, Runs, Answered, Answers, ServesLine}
+use Rattle.ink_player.specs.Serving.{Answered, Answers, RunEnds, Runs, ServesFront, ServesLine, ServesLineBy, ServesLines}
+use Rattle.ink_player.specs.Words.{DealtOf, Scene}
 use Rattle.ink_protocol.specs.Spelled.{IsLine, spelled, Splits, IsFirst, IsLongInput, HasRoom}
 use Rattle.ink_model.specs.Unread.{PathFails}
 use Rattle.ink_model.specs.declared.limits.TheConstants.{MAX_LINE}
@@ -70,79 +73,6 @@ room_more most all line input rest e p = record {
   in_input = omega (arith, p.in_input, length-append line (10 ∷ input));
 }
 
-events_more : (first made before after : List Event) → made ≡ before ++ after → first ++ made ≡ (first ++ before) ++ after
-events_more first made before after e = ap (λ l. first ++ l) e ∙ sym (append_assoc first before after)
-
-module _ (s : StoryTree) (host : Bindings) (first : List Event) (line input : List ℕ) (old mid : State) (reply : Reply) (is : IsLine line) (serves : Serves s host first line old reply mid) where
-  abbrev front_more : (made : List Event) (written : List ℕ) (new : State) → ServesFront s host made input mid written new → ServesFront s host (first ++ made) (line ++ 10 ∷ input) old (answer reply ++ written) new
-  front_more made written new p = record {
-    lines = line ∷ p.lines;
-    rest = p.rest;
-    splits = splits_more line input p.lines p.rest is p.splits;
-    session = (reply, mid, written, first, made, refl, serves, refl, p.session);
-  }
-
-  module _ (made : List Event) (most all : ℕ) (left : Option (List ℕ)) (written : List ℕ) (new : State) (e : most + (length line + 1) ≡ all) where
-    ends_more : (r : Result (Unit {0}) RunFault) → RunEnds s host made most left input mid written new r → RunEnds s host (first ++ made) all left (line ++ 10 ∷ input) old (answer reply ++ written) new r
-    ends_more (Ok x) p = record {
-      at_end = p.at_end;
-      within = omega (arith, p.within, length-append line (10 ∷ input));
-      each = subst (AllByRecursion IsLine) (sym (lines_first line input is.plain)) (is, p.each);
-      session = subst (λ ls. Session s host (first ++ made) ls old (answer reply ++ written) new) (sym (lines_first line input is.plain))
-          (reply, mid, written, first, made, refl, serves, refl, p.session);
-    }
-    ends_more (Err fault.Read) p = record { served = front_more made written new p.served; plain = p.plain }
-    ends_more (Err fault.Write) p = record {
-      before = first ++ p.before;
-      after = p.after;
-      events = events_more first made p.before p.after p.events;
-      mid = p.mid;
-      answers = answer reply ++ p.answers;
-      served = front_more p.before p.answers p.mid p.served;
-      reply = p.reply;
-      first = p.first;
-      part = p.part;
-      unwritten = p.unwritten;
-      whole = p.whole;
-      cut = p.cut;
-      ends = ap (λ l. answer reply ++ l) p.ends ∙ sym (append_assoc (answer reply) p.answers p.part);
-    }
-    ends_more (Err fault.TooLong) p = record {
-      served = front_more made written new p.served;
-      over = elim p.over [ inl q ↦ inl q | inr q ↦ inr (over_more most all line p.served.lines p.served.rest e q) ];
-    }
-    ends_more (Err fault.OutOfMemory) p = record {
-      before = first ++ p.before;
-      after = p.after;
-      events = events_more first made p.before p.after p.events;
-      mid = p.mid;
-      served = front_more p.before written p.mid p.served;
-      next = elim p.next [ inl q ↦ inl (room_more most all line input p.served.rest e q.0, q.1, q.2) | inr q ↦ inr q ];
-    }
-
-pub runs_more : (s t : StoryTree) (host same : Bindings) (first made : List Event) (a b c h i j : Option (List ℕ)) (o m : Buffered) (old mid new : State) (r : Result (Unit {0}) RunFault)
-    → ServesLine s host first a b h i o m old mid → t ≡ s → same ≡ host → Runs t same made m.spare m.unread b c i j mid new r
-    → Runs s host (first ++ made) o.spare o.unread a c h j old new r
-runs_more s t host same first made a b c h i j o m old mid new r l e k p =
-    let q = subst (λ x. Runs s x made m.spare m.unread b c i j mid new r) k (subst (λ x. Runs x same made m.spare m.unread b c i j mid new r) e p) in
-    let bytes : o.unread ++ (l.takes.got ++ q.bytes) ≡ l.line ++ 10 ∷ (m.unread ++ q.bytes) =
-    sym (append_assoc o.unread l.takes.got q.bytes) ∙ ap (λ x. x ++ q.bytes) l.takes.bytes ∙ append_assoc (l.line ++ 10 ∷ []) m.unread q.bytes ∙ append_assoc l.line (10 ∷ []) (m.unread ++ q.bytes) in
-    let count : m.spare + (length l.line + 1) ≡ o.spare = omega (arith, l.takes.count, length-append l.line (10 ∷ [])) in
-    record {
-      bytes = l.takes.got ++ q.bytes;
-      consumed = Consumes-trans a b c l.takes.got q.bytes l.takes.consumed q.consumed;
-      bound = omega (arith, q.bound, count, ap length bytes, length-append l.line (10 ∷ (m.unread ++ q.bytes)));
-      written = answer l.answered.reply ++ q.written;
-      appended = Appends-trans h i j (answer l.answered.reply) q.written l.answered.appended q.appended;
-      ends = subst (λ x. RunEnds s host (first ++ made) o.spare c x old (answer l.answered.reply ++ q.written) new r) (sym bytes)
-          (ends_more s host first l.line (m.unread ++ q.bytes) old mid l.answered.reply l.is_line l.answered.serves made m.spare o.spare c q.written new count r q.ends);
-    }
-
--- ---- ends
-
-abbrev none_served : (s : StoryTree) (host : Bindings) (input : List ℕ) (old : State) → ServesFront s host [] input old [] old
-none_served s host input old = record { lines = []; rest = input; splits = record { whole = refl; each = tt }; session = (refl, refl, refl) }
-
 -- the last line, which ends at the reader's end
 abbrev pub TakesLast : Option (List ℕ) → Option (List ℕ) → Buffered → Buffered → List ℕ → Type 0
 TakesLast a b o n line = TakesLine a b o n (MAX_LINE + 1) line line × (length line ≤ MAX_LINE) × (n.unread ≡ []) × IsAtEnd b
@@ -150,120 +80,221 @@ TakesLast a b o n line = TakesLine a b o n (MAX_LINE + 1) line line × (length l
 all_taken : (line unread : List ℕ) → unread ≡ [] → line ++ unread ≡ line
 all_taken line unread e = ap (λ l. line ++ l) e ∙ append-nil line
 
-module _ (s : StoryTree) (host : Bindings) (a b h : Option (List ℕ)) (o n : Buffered) (bound : length n.unread ≤ n.spare + 1) (old : State) where
-  -- what was taken and what is left of what was read is the input
-  runs_of : (made : List Event) (i : Option (List ℕ)) (taken written : List ℕ) (new : State) (r : Result (Unit {0}) RunFault)
-      → Takes a b o n taken → Appends h i written → RunEnds s host made o.spare b (taken ++ n.unread) old written new r → Runs s host made o.spare o.unread a b h i old new r
-  runs_of made i taken written new r t w p = record {
-    bytes = t.got;
-    consumed = t.consumed;
-    bound = omega (arith, t.count, ap length t.bytes, length-append taken n.unread);
-    written = written;
-    appended = w;
-    ends = subst (λ x. RunEnds s host made o.spare b x old written new r) (sym t.bytes) p;
-  }
+module _ {P F O : Type 0} (turn_log : F → List Called) (refusals : F → ℕ) (state : O → Watching) where
+  module _ (s : StoryTree) (host : Bindings) where
+    abbrev Lines : List (List ℕ) → Scene P F O → List ℕ → Scene P F O → Type 0
+    Lines lines old written new = ServesLines turn_log refusals state s host lines old written new
 
-  -- nothing was served
-  ends_at : (part : List ℕ) (r : Result (Unit {0}) RunFault) → Takes a b o n part → RunEnds s host [] o.spare b (part ++ n.unread) old [] old r → Runs s host [] o.spare o.unread a b h h old old r
-  ends_at part r t p = runs_of [] h part [] old r t (Appends-nil h) p
+    abbrev Front : List ℕ → Scene P F O → List ℕ → Scene P F O → Type 0
+    Front input old written new = ServesFront turn_log refusals state s host input old written new
 
-  -- there is no line
-  pub no_line : (f : RunFault) → length o.unread ≤ 4096 → GivesLine a b o n MAX_LINE (Err f) → Runs s host [] o.spare o.unread a b h h old old (Err f)
-  no_line fault.Read few g =
-      ends_at g.0.part (Err fault.Read) g.0.takes.takes
-      (record { served = none_served s host _ old; plain = ap has_newline (all_taken g.0.part n.unread g.1) ∙ g.0.takes.plain })
-  no_line fault.Write few g = absurd g
-  no_line fault.TooLong few g =
-      let t = g.0.takes in
-      ends_at g.0.part (Err fault.TooLong) t.takes (record {
-        served = none_served s host _ old;
-        over = elim g.1 [
-          | inl q ↦ inl (record { front = g.0.part; more = n.unread; whole = refl; plain = t.plain; long = q })
-          | inr q ↦ inr (record { front = g.0.part; more = n.unread; whole = refl; plain = t.plain; count = omega (arith, t.takes.count, q.1); long = q.2 })
-        ];
-      })
-  no_line fault.OutOfMemory few g =
-      ends_at g.part (Err fault.OutOfMemory) g.takes.takes (record {
-        before = [];
-        after = [];
-        events = refl;
-        mid = old;
-        served = none_served s host _ old;
-        next = inl (has_room a b o n MAX_LINE (omega arith) g, refl, refl);
-      })
+    abbrev Ends : ℕ → Option (List ℕ) → List ℕ → Scene P F O → List ℕ → Scene P F O → Result (Unit {0}) RunFault → Type 0
+    Ends most left input old written new r = RunEnds turn_log refusals state s host most left input old written new r
 
-  pub no_last : (line : List ℕ) → TakesLast a b o n line → line ≡ [] → Runs s host [] o.spare o.unread a b h h old old (Ok tt)
-  no_last line t none =
-      let lines : lines_of (line ++ n.unread) ≡ [] = ap lines_of (all_taken line n.unread t.2 ∙ none) in
-      ends_at line (Ok tt) t.0.takes (record {
-        at_end = t.3;
-        within = omega (arith, t.0.takes.count, ap length (all_taken line n.unread t.2));
-        each = subst (AllByRecursion IsLine) (sym lines) tt;
-        session = subst (λ ls. Session s host [] ls old [] old) (sym lines) (refl, refl, refl);
-      })
+    abbrev Run : ℕ → List ℕ → Option (List ℕ) → Option (List ℕ) → Option (List ℕ) → Option (List ℕ) → Scene P F O → Scene P F O → Result (Unit {0}) RunFault → Type 0
+    Run most unread a b h i old new r = Runs turn_log refusals state s host most unread a b h i old new r
 
-  module _ (made : List Event) (i : Option (List ℕ)) (line : List ℕ) (new : State) where
-    -- a line was taken, and its answer not written
-    unserved : (taken : List ℕ) (f : RunFault) → Takes a b o n taken → IsLine line → IsFirst b (taken ++ n.unread) line → Answers s host made line h i old new (Err f)
-        → Runs s host made o.spare o.unread a b h i old new (Err f)
-    unserved taken fault.Read t l first p = absurd p
-    unserved taken fault.Write t l first p =
-        runs_of made i taken p.falls.part new (Err fault.Write) t p.falls.appended (record {
-          before = [];
-          after = made;
-          events = refl;
-          mid = old;
-          answers = [];
-          served = none_served s host _ old;
+    abbrev Line : List ℕ → Scene P F O → Reply → Scene P F O → Type 0
+    Line line old reply new = ServesLineBy turn_log refusals state s host line old reply new
+
+    abbrev Answer : List ℕ → Option (List ℕ) → Option (List ℕ) → Scene P F O → Scene P F O → Result (Unit {0}) RunFault → Type 0
+    Answer line h i old new r = Answers turn_log refusals state s host line h i old new r
+
+    -- no line, and one before others
+    no_lines : (old : Scene P F O) → Lines [] old [] old
+    no_lines old = ([], (refl, refl, refl), refl)
+
+    one_more : (line : List ℕ) (lines : List (List ℕ)) (old mid new : Scene P F O) (reply : Reply) (written : List ℕ) → Line line old reply mid → Lines lines mid written new
+        → Lines (line ∷ lines) old (answer reply ++ written) new
+    one_more line lines old mid new reply written l p = (l.events ++ p.0, (reply, mid.state, written, l.events, p.0, refl, l.serves, refl, p.1), (mid.desk, l.dealt, p.2))
+
+    module _ (line input : List ℕ) (old mid : Scene P F O) (reply : Reply) (is : IsLine line) (serves : Line line old reply mid) where
+      abbrev front_more : (written : List ℕ) (new : Scene P F O) → Front input mid written new → Front (line ++ 10 ∷ input) old (answer reply ++ written) new
+      front_more written new p = record {
+        lines = line ∷ p.lines;
+        rest = p.rest;
+        splits = splits_more line input p.lines p.rest is p.splits;
+        session = one_more line p.lines old mid new reply written serves p.session;
+      }
+
+      module _ (most all : ℕ) (left : Option (List ℕ)) (written : List ℕ) (new : Scene P F O) (e : most + (length line + 1) ≡ all) where
+        ends_more : (r : Result (Unit {0}) RunFault) → Ends most left input mid written new r → Ends all left (line ++ 10 ∷ input) old (answer reply ++ written) new r
+        ends_more (Ok x) p = record {
+          at_end = p.at_end;
+          within = omega (arith, p.within, length-append line (10 ∷ input));
+          each = subst (AllByRecursion IsLine) (sym (lines_first line input is.plain)) (is, p.each);
+          session = subst (λ ls. Lines ls old (answer reply ++ written) new) (sym (lines_first line input is.plain)) (one_more line (lines_of input) old mid new reply written serves p.session);
+        }
+        ends_more (Err fault.Read) p = record { served = front_more written new p.served; plain = p.plain }
+        ends_more (Err fault.Write) p = record {
+          mid = p.mid;
+          answers = answer reply ++ p.answers;
+          served = front_more p.answers p.mid p.served;
           reply = p.reply;
-          first = record { line = line; is_line = l; first = first; serves = p.serves };
-          part = p.falls.part;
-          unwritten = p.falls.left;
-          whole = p.falls.whole;
-          cut = p.falls.some_left;
-          ends = refl;
-        })
-    unserved taken fault.TooLong t l first p = absurd p
-    unserved taken fault.OutOfMemory t l first p =
-        runs_of made i taken [] new (Err fault.OutOfMemory) t p.appended (record {
-          before = [];
-          after = made;
-          events = refl;
-          mid = old;
+          first = p.first;
+          part = p.part;
+          unwritten = p.unwritten;
+          whole = p.whole;
+          cut = p.cut;
+          ends = ap (λ l. answer reply ++ l) p.ends ∙ sym (append_assoc (answer reply) p.answers p.part);
+        }
+        ends_more (Err fault.TooLong) p = record {
+          served = front_more written new p.served;
+          over = elim p.over [ inl q ↦ inl q | inr q ↦ inr (over_more most all line p.served.lines p.served.rest e q) ];
+        }
+        ends_more (Err fault.OutOfMemory) p = record {
+          mid = p.mid;
+          served = front_more written p.mid p.served;
+          next = elim p.next [ inl q ↦ inl (room_more most all line input p.served.rest e q.0, q.1) | inr q ↦ inr q ];
+        }
+
+  pub runs_more : (s t : StoryTree) (host same : Bindings) (a b c h i j : Option (List ℕ)) (o m : Buffered) (old mid new : Scene P F O) (r : Result (Unit {0}) RunFault)
+      → ServesLine turn_log refusals state s host a b h i o m old mid → t ≡ s → same ≡ host → Run t same m.spare m.unread b c i j mid new r
+      → Run s host o.spare o.unread a c h j old new r
+  runs_more s t host same a b c h i j o m old mid new r l e k p =
+      let q = subst (λ x. Run s x m.spare m.unread b c i j mid new r) k (subst (λ x. Run x same m.spare m.unread b c i j mid new r) e p) in
+      let bytes : o.unread ++ (l.takes.got ++ q.bytes) ≡ l.line ++ 10 ∷ (m.unread ++ q.bytes) =
+      sym (append_assoc o.unread l.takes.got q.bytes) ∙ ap (λ x. x ++ q.bytes) l.takes.bytes ∙ append_assoc (l.line ++ 10 ∷ []) m.unread q.bytes ∙ append_assoc l.line (10 ∷ []) (m.unread ++ q.bytes) in
+      let count : m.spare + (length l.line + 1) ≡ o.spare = omega (arith, l.takes.count, length-append l.line (10 ∷ [])) in
+      record {
+        bytes = l.takes.got ++ q.bytes;
+        consumed = Consumes-trans a b c l.takes.got q.bytes l.takes.consumed q.consumed;
+        bound = omega (arith, q.bound, count, ap length bytes, length-append l.line (10 ∷ (m.unread ++ q.bytes)));
+        written = answer l.answered.reply ++ q.written;
+        appended = Appends-trans h i j (answer l.answered.reply) q.written l.answered.appended q.appended;
+        ends = subst (λ x. Ends s host o.spare c x old (answer l.answered.reply ++ q.written) new r) (sym bytes)
+            (ends_more s host l.line (m.unread ++ q.bytes) old mid l.answered.reply l.is_line l.answered.serves m.spare o.spare c q.written new count r q.ends);
+      }
+
+  -- ---- ends
+
+  abbrev none_served : (s : StoryTree) (host : Bindings) (input : List ℕ) (old : Scene P F O) → Front s host input old [] old
+  none_served s host input old = record { lines = []; rest = input; splits = record { whole = refl; each = tt }; session = no_lines s host old }
+
+  module _ (s : StoryTree) (host : Bindings) (a b h : Option (List ℕ)) (o n : Buffered) (bound : length n.unread ≤ n.spare + 1) (old : Scene P F O) where
+    -- what was taken and what is left of what was read is the input
+    runs_of : (i : Option (List ℕ)) (taken written : List ℕ) (new : Scene P F O) (r : Result (Unit {0}) RunFault)
+        → Takes a b o n taken → Appends h i written → Ends s host o.spare b (taken ++ n.unread) old written new r → Run s host o.spare o.unread a b h i old new r
+    runs_of i taken written new r t w p = record {
+      bytes = t.got;
+      consumed = t.consumed;
+      bound = omega (arith, t.count, ap length t.bytes, length-append taken n.unread);
+      written = written;
+      appended = w;
+      ends = subst (λ x. Ends s host o.spare b x old written new r) (sym t.bytes) p;
+    }
+
+    -- nothing was served
+    ends_at : (part : List ℕ) (r : Result (Unit {0}) RunFault) → Takes a b o n part → Ends s host o.spare b (part ++ n.unread) old [] old r → Run s host o.spare o.unread a b h h old old r
+    ends_at part r t p = runs_of h part [] old r t (Appends-nil h) p
+
+    -- there is no line
+    pub no_line : (f : RunFault) → length o.unread ≤ 4096 → GivesLine a b o n MAX_LINE (Err f) → Run s host o.spare o.unread a b h h old old (Err f)
+    no_line fault.Read few g =
+        ends_at g.0.part (Err fault.Read) g.0.takes.takes
+        (record { served = none_served s host _ old; plain = ap has_newline (all_taken g.0.part n.unread g.1) ∙ g.0.takes.plain })
+    no_line fault.Write few g = absurd g
+    no_line fault.TooLong few g =
+        let t = g.0.takes in
+        ends_at g.0.part (Err fault.TooLong) t.takes (record {
           served = none_served s host _ old;
-          next = inr (p.reply, p.asks, record { line = line; is_line = l; first = first; serves = p.serves });
+          over = elim g.1 [
+            | inl q ↦ inl (record { front = g.0.part; more = n.unread; whole = refl; plain = t.plain; long = q })
+            | inr q ↦ inr (record { front = g.0.part; more = n.unread; whole = refl; plain = t.plain; count = omega (arith, t.takes.count, q.1); long = q.2 })
+          ];
         })
+    no_line fault.OutOfMemory few g =
+        ends_at g.part (Err fault.OutOfMemory) g.takes.takes
+        (record { mid = old; served = none_served s host _ old; next = inl (has_room a b o n MAX_LINE (omega arith) g, refl) })
 
-    pub whole_unserved : (f : RunFault) → TakesLine a b o n (MAX_LINE + 1) (line ++ 10 ∷ []) line × length line ≤ MAX_LINE → Answers s host made line h i old new (Err f)
-        → Runs s host made o.spare o.unread a b h i old new (Err f)
-    whole_unserved f t p =
-        unserved (line ++ 10 ∷ []) f t.0.takes (record { plain = t.0.plain; within = t.1 }) (inl (n.unread, append_assoc line (10 ∷ []) n.unread)) p
-
-    pub last_unserved : (f : RunFault) → TakesLast a b o n line → 0 < length line → Answers s host made line h i old new (Err f) → Runs s host made o.spare o.unread a b h i old new (Err f)
-    last_unserved f t some p =
-        unserved line f t.0.takes (record { plain = t.0.plain; within = t.1 }) (inr (all_taken line n.unread t.2, some, t.3)) p
-
-    pub last_served : TakesLast a b o n line → 0 < length line → Answered s host made line h i old new → Runs s host made o.spare o.unread a b h i old new (Ok tt)
-    last_served t some p =
-        let lines : lines_of (line ++ n.unread) ≡ line ∷ [] = ap lines_of (all_taken line n.unread t.2) ∙ lines_last line t.0.plain some in
-        runs_of made i line (answer p.reply) new (Ok tt) t.0.takes p.appended (record {
+    pub no_last : (line : List ℕ) → TakesLast a b o n line → line ≡ [] → Run s host o.spare o.unread a b h h old old (Ok tt)
+    no_last line t none =
+        let lines : lines_of (line ++ n.unread) ≡ [] = ap lines_of (all_taken line n.unread t.2 ∙ none) in
+        ends_at line (Ok tt) t.0.takes (record {
           at_end = t.3;
           within = omega (arith, t.0.takes.count, ap length (all_taken line n.unread t.2));
-          each = subst (AllByRecursion IsLine) (sym lines) (record { plain = t.0.plain; within = t.1 }, tt);
-          session = subst (λ ls. Session s host made ls old (answer p.reply) new) (sym lines)
-              (p.reply, new, [], made, [], sym (append-nil made), p.serves, sym (append-nil (answer p.reply)), (refl, refl, refl));
+          each = subst (AllByRecursion IsLine) (sym lines) tt;
+          session = subst (λ ls. Lines s host ls old [] old) (sym lines) (no_lines s host old);
         })
 
--- ---- one line's answer
+    module _ (i : Option (List ℕ)) (line : List ℕ) (new : Scene P F O) where
+      -- a line was taken, and its answer not written
+      unserved : (taken : List ℕ) (f : RunFault) → Takes a b o n taken → IsLine line → IsFirst b (taken ++ n.unread) line → Answer s host line h i old new (Err f)
+          → Run s host o.spare o.unread a b h i old new (Err f)
+      unserved taken fault.Read t l first p = absurd p
+      unserved taken fault.Write t l first p =
+          runs_of i taken p.falls.part new (Err fault.Write) t p.falls.appended (record {
+            mid = old;
+            answers = [];
+            served = none_served s host _ old;
+            reply = p.reply;
+            first = record { line = line; is_line = l; first = first; serves = p.serves };
+            part = p.falls.part;
+            unwritten = p.falls.left;
+            whole = p.falls.whole;
+            cut = p.falls.some_left;
+            ends = refl;
+          })
+      unserved taken fault.TooLong t l first p = absurd p
+      unserved taken fault.OutOfMemory t l first p =
+          runs_of i taken [] new (Err fault.OutOfMemory) t p.appended
+          (record { mid = old; served = none_served s host _ old; next = inr (p.reply, p.asks, record { line = line; is_line = l; first = first; serves = p.serves }) })
 
-module _ (s : StoryTree) (host : Bindings) (made : List Event) where
-  pub serves_by : (line : List ℕ) (k : Option Command) (old : State) (reply : Reply) (new : State) → k ≡ command_of line → Does s host made k old reply new → Serves s host made line old reply new
-  unfolding Serves
-  serves_by line k old reply new e p = inl (subst (λ x. Does s host made x old reply new) e p)
+      pub whole_unserved : (f : RunFault) → TakesLine a b o n (MAX_LINE + 1) (line ++ 10 ∷ []) line × length line ≤ MAX_LINE → Answer s host line h i old new (Err f)
+          → Run s host o.spare o.unread a b h i old new (Err f)
+      whole_unserved f t p =
+          unserved (line ++ 10 ∷ []) f t.0.takes (record { plain = t.0.plain; within = t.1 }) (inl (n.unread, append_assoc line (10 ∷ []) n.unread)) p
 
-  pub answers_as : (text line : List ℕ) (h i : Option (List ℕ)) (old new : State) (r : Result (Unit {0}) RunFault) → text ≡ line → Answers s host made text h i old new r
-      → Answers s host made line h i old new r
-  answers_as text line h i old new r e p = subst (λ l. Answers s host made l h i old new r) e p
+      pub last_unserved : (f : RunFault) → TakesLast a b o n line → 0 < length line → Answer s host line h i old new (Err f) → Run s host o.spare o.unread a b h i old new (Err f)
+      last_unserved f t some p =
+          unserved line f t.0.takes (record { plain = t.0.plain; within = t.1 }) (inr (all_taken line n.unread t.2, some, t.3)) p
+
+      pub last_served : TakesLast a b o n line → 0 < length line → Answered turn_log refusals state s host line h i old new → Run s host o.spare o.unread a b h i old new (Ok tt)
+      last_served t some p =
+          let lines : lines_of (line ++ n.unread) ≡ line ∷ [] = ap lines_of (all_taken line n.unread t.2) ∙ lines_last line t.0.plain some in
+          let one : Lines s host (line ∷ []) old (answer p.reply) new =
+          subst (λ w. Lines s host (line ∷ []) old w new) (append-nil (answer p.reply)) (one_more s host line [] old new new p.reply [] p.serves (no_lines s host new)) in
+          runs_of i line (answer p.reply) new (Ok tt) t.0.takes p.appended (record {
+            at_end = t.3;
+            within = omega (arith, t.0.takes.count, ap length (all_taken line n.unread t.2));
+            each = subst (AllByRecursion IsLine) (sym lines) (record { plain = t.0.plain; within = t.1 }, tt);
+            session = subst (λ ls. Lines s host ls old (answer p.reply) new) (sym lines) one;
+          })
+
+  -- ---- one line's answer
+
+  module _ (s : StoryTree) (host : Bindings) where
+    pub answers_as : (text line : List ℕ) (h i : Option (List ℕ)) (old new : Scene P F O) (r : Result (Unit {0}) RunFault) → text ≡ line → Answer s host text h i old new r
+        → Answer s host line h i old new r
+    answers_as text line h i old new r e p = subst (λ l. Answer s host l h i old new r) e p
+
+    -- the text of a reply's answer is written, or a front of it
+    pub answered_by : (line : List ℕ) (h i : Option (List ℕ)) (old new : Scene P F O) (r : Result (Unit {0}) RunFault) (reply : Reply) (text : List ℕ)
+        → Line s host line old reply new → text ≡ answer reply → WritesText h i text r → Answer s host line h i old new r
+    answered_by line h i old new (Ok x) reply text p e w = record { reply = reply; serves = p; appended = subst (Appends h i) e w }
+    answered_by line h i old new (Err fault.Read) reply text p e w = absurd w
+    answered_by line h i old new (Err fault.Write) reply text p e w = record { reply = reply; serves = p; falls = subst (Falls h i) e w }
+    answered_by line h i old new (Err fault.TooLong) reply text p e w = absurd w
+    answered_by line h i old new (Err fault.OutOfMemory) reply text p e w = absurd w
+
+  -- with what is bound otherwise spelled
+  pub runs_for : (s : StoryTree) (host same : Bindings) (most : ℕ) (unread : List ℕ) (a b h i : Option (List ℕ)) (old new : Scene P F O) (r : Result (Unit {0}) RunFault)
+      → same ≡ host → Run s same most unread a b h i old new r → Run s host most unread a b h i old new r
+  runs_for s host same most unread a b h i old new r e p = subst (λ x. Run s x most unread a b h i old new r) e p
+
+  -- what a command came to, and what it did to the objects, by the line's command
+  abbrev Came : StoryTree → Bindings → List Event → Option Command → Scene P F O → Reply → Scene P F O → Type 0
+  Came s host es k old reply new = (Does s host es k old.state reply new.state ⊎ ((es ≡ []) × PathFails k old.state reply new.state)) × DealtOf turn_log refusals state k old es reply new
+
+  pub came : (s : StoryTree) (host : Bindings) (es : List Event) (old : Scene P F O) (reply : Reply) (new : Scene P F O) (k j : Option LineCommand) → k ≡ j → Came s host es (option_map command_by j) old reply new
+      → Came s host es (option_map command_by k) old reply new
+  came s host es old reply new k j e p = subst (λ x. Came s host es (option_map command_by x) old reply new) (sym e) p
+
+-- ---- one command
+
+serves_by : (s : StoryTree) (host : Bindings) (made : List Event) (line : List ℕ) (k : Option Command) (old : State) (reply : Reply) (new : State) → k ≡ command_of line → Does s host made k old reply new → Serves s host made line old reply new
+unfolding Serves
+serves_by s host made line k old reply new e p = inl (subst (λ x. Does s host made x old reply new) e p)
 
 -- memory was refused for reading the path
 path_unread : (s : StoryTree) (host : Bindings) (line : List ℕ) (k : Option Command) (old : State) (reply : Reply) (new : State) → k ≡ command_of line → PathFails k old reply new → Serves s host [] line old reply new
@@ -280,38 +311,6 @@ serves_command s host line k old reply new e es (inr p) =
 pub serves_unread : (s : StoryTree) (host : Bindings) (line : List ℕ) (st : State) → line_asks line ≡ true → Serves s host [] line st (Refuses refusal.OutOfMemory) st
 unfolding Serves
 serves_unread s host line st h = inr (refl, inl (h, (refl, refl)))
-
--- the text of a reply's answer is written, or a front of it
-pub answered_by : (s : StoryTree) (host : Bindings) (es : List Event) (line : List ℕ) (h i : Option (List ℕ)) (old new : State) (r : Result (Unit {0}) RunFault) (reply : Reply) (text : List ℕ)
-    → Serves s host es line old reply new → text ≡ answer reply → WritesText h i text r → Answers s host es line h i old new r
-answered_by s host es line h i old new (Ok x) reply text p e w = record { reply = reply; serves = p; appended = subst (Appends h i) e w }
-answered_by s host es line h i old new (Err fault.Read) reply text p e w = absurd w
-answered_by s host es line h i old new (Err fault.Write) reply text p e w = record { reply = reply; serves = p; falls = subst (Falls h i) e w }
-answered_by s host es line h i old new (Err fault.TooLong) reply text p e w = absurd w
-answered_by s host es line h i old new (Err fault.OutOfMemory) reply text p e w = absurd w
-
--- what happened, joined otherwise
-pub runs_as : (s : StoryTree) (host : Bindings) (made es : List Event) (most : ℕ) (unread : List ℕ) (a b h i : Option (List ℕ)) (old new : State) (r : Result (Unit {0}) RunFault)
-    → made ≡ es → Runs s host made most unread a b h i old new r → Runs s host es most unread a b h i old new r
-runs_as s host made es most unread a b h i old new r e p = subst (λ l. Runs s host l most unread a b h i old new r) e p
-
--- with what is bound otherwise spelled
-pub runs_for : (s : StoryTree) (host same : Bindings) (es : List Event) (most : ℕ) (unread : List ℕ) (a b h i : Option (List ℕ)) (old new : State) (r : Result (Unit {0}) RunFault)
-    → same ≡ host → Runs s same es most unread a b h i old new r → Runs s host es most unread a b h i old new r
-runs_for s host same es most unread a b h i old new r e p = subst (λ x. Runs s x es most unread a b h i old new r) e p
-
--- a command in which no event happens, by the line's command
-pub command_does : (s : StoryTree) (host : Bindings) (old : State) (reply : Reply) (new : State) (k j : Option LineCommand) → k ≡ j
-    → Does s host [] (option_map command_by j) old reply new ⊎ PathFails (option_map command_by j) old reply new
-    → Does s host [] (option_map command_by k) old reply new ⊎ ((◌≡◌ {A = List Event} [] []) × PathFails (option_map command_by k) old reply new)
-command_does s host old reply new k j e (inl p) = inl (subst (λ x. Does s host [] (option_map command_by x) old reply new) (sym e) p)
-command_does s host old reply new k j e (inr p) = inr (refl, subst (λ x. PathFails (option_map command_by x) old reply new) (sym e) p)
-
--- a command with these events, by the line's command
-pub command_acts : (s : StoryTree) (host : Bindings) (es : List Event) (old : State) (reply : Reply) (new : State) (k j : Option LineCommand) → k ≡ j
-    → Does s host es (option_map command_by j) old reply new
-    → Does s host es (option_map command_by k) old reply new ⊎ ((es ≡ []) × PathFails (option_map command_by k) old reply new)
-command_acts s host es old reply new k j e p = inl (subst (λ x. Does s host es (option_map command_by x) old reply new) (sym e) p)
 
 pub none_left : (l : List ℕ) → length l ≡ 0 → l ≡ []
 none_left [] e = refl

@@ -2,7 +2,7 @@
 use Rattle.std.proofs.Common.{◌≡◌, ◌≢◌, ◌⊎◌, ◌∙◌, ap, sym, refl, subst, inl, inr, cond, ℕ, ℤ, List, [], ◌∷◌, ◌++◌, map, filter, Bool, true, false, bytes_eq, ◌&&◌, ◌||◌, if◌then◌else◌, Option, Some, None, IfSome, is_some, Result, Ok, Err, IfOk, OnOk, OnErr, is_ok, MatchBool, append-nil}
 use Rattle.ink_host.specs.Desk.{DeskView, Grew, Resting, Rows, at, bound_by, each, put, watches, without}
 use Rattle.ink_host.specs.declared.objects.Called.{Called}
-use Rattle.ink_host.specs.Telling.{AreRounds, IsRound, Round, Watching, log_of, rests, round, rounds}
+use Rattle.ink_host.specs.Telling.{IsRound, Watching, log_of, rests}
 use Rattle.ink_host.proofs.Laws.{bound-same, grew-grew, grew-none, watches-same}
 use Rattle.ink_look.specs.Ends.{EndsWith}
 use Rattle.ink_model.specs.Answer.{Reply, Acts, Breaks, Counts, Refuses, Tells, reply_of_visits}
@@ -30,7 +30,7 @@ use Rattle.ink_model.specs.declared.passage.Passage.{Passage}
 use Rattle.ink_model.specs.declared.value.Value.{Value}
 use Rattle.ink_player.specs.Extents.{EndsBy, FallsShortBy, GoesFrom, GoesOn, RunsBy}
 use Rattle.ink_player.specs.Visits.{FindsVisits, TellsVisits}
-use Rattle.ink_player.specs.Words.{Dealt, DealtByRun, DealtOnce, PlayerView, TellsOnce, TellsWatchers, all_told, aside_seen, bindings, condition_by, desk_of, fault_told, is_empty, state_of, story_of, told_from}
+use Rattle.ink_player.specs.Words.{DealtByRun, DealtOnce, PlayerView, TellsOnce, TellsWatchers, all_told, aside_seen, bindings, condition_by, desk_of, fault_told, is_empty, state_of, story_of, told_from}
 use Rattle.ink_player.specs.declared.passages.Extent.{Extent}
 use Rattle.ink_step.specs.declared.machine.Machine.{Machine}
 use Rattle.ink_step.specs.Words.{aside_in, aside_of, config_of}
@@ -135,10 +135,6 @@ or-left false b h = absurd (cc)
 abbrev states : {O : Type 0} → (O → Watching) → Rows O → Rows Watching
 states state rows = each (λ n w. state w) rows
 
-rounds-rounds : (rs qs : List Round) (rows : Rows Watching) → rounds (rs ++ qs) rows ≡ rounds qs (rounds rs rows)
-rounds-rounds [] qs rows = refl
-rounds-rounds (r ∷ rs) qs rows = rounds-rounds rs qs (round r.next r.changes r.changes r.answers rows)
-
 module _ {O : Type 0} (state : O → Watching) where
   -- one of them is at rest, and the others without it
   pub rest-at : (name : List ℕ) (rows : Rows O) → Resting (rests state) rows → IfSome (at name rows) (λ w. rests state w ≡ true)
@@ -181,10 +177,6 @@ module _ {O : Type 0} (state : O → Watching) where
   quiet-fault n cs a b OutOfMemory es same = inr (refl, (refl, same))
   quiet-fault n cs a b f es same = inl (refl, same)
 
-  once-rounds : (n : ℕ) (cs : List Change) (o : Option Bool) (saw : List Event) (a b : Rows O) → TellsOnce state n cs o saw a b → (rs : List Round) × AreRounds state rs a b
-  once-rounds n cs (Some all) saw a b h = (record { next = n; changes = cs; answers = h.0.answers; one_each = h.0.one_each } ∷ [], h.1)
-  once-rounds n cs None saw a b h = ([], h.1)
-
 -- ---- between a player and its host
 
 module _ {P F O : Type 0} (turn_log : F → List Called) (state : O → Watching) where
@@ -199,10 +191,6 @@ module _ {P F O : Type 0} (turn_log : F → List Called) (state : O → Watching
   grown-none a =
       let g = grew-none turn_log (log_of state) a in
       record { events = refl; numbered = g.numbered; next = g.next; functions = g.functions; watchers = g.watchers }
-
-  -- nothing happened
-  pub dealt-none : (a : DeskView P F O) → Dealt turn_log state a [] a
-  dealt-none a = (grown-none a, ([], refl))
 
   -- nobody was told, whatever there was to tell
   abbrev Untold : DeskView P F O → DeskView P F O → Type 0
@@ -220,40 +208,6 @@ module _ {P F O : Type 0} (turn_log : F → List Called) (state : O → Watching
   pub run-none : (cs : List Change) (a : DeskView P F O) (r : Refusal) → DealtByRun turn_log state cs a [] (Refuses r) a
   run-none cs a r = record { grew = grown-none a; made = []; saw = []; events = refl; tells = inl (refl, refl) }
 
-  -- first these events, then those
-  pub dealt-dealt : (a b c : DeskView P F O) (es fs : List Event)
-      → Dealt turn_log state a es b → Dealt turn_log state b fs c → Dealt turn_log state a (es ++ fs) c
-  dealt-dealt a b c es fs g h =
-      let mid : DeskView P F O = record b { events = a.events ++ es } in
-      let last : DeskView P F O = record c { events = (a.events ++ es) ++ fs } in
-      let k : Grew turn_log (log_of state) mid fs last =
-      record { events = refl; numbered = h.0.numbered; next = h.0.next; functions = h.0.functions; watchers = h.0.watchers } in
-      let w = grew-grew turn_log (log_of state) a mid last es fs g.0 k in (
-        record { events = refl; numbered = w.numbered; next = w.next; functions = w.functions; watchers = w.watchers },
-        (g.1.0 ++ h.1.0, h.1.1 ∙ ap (rounds h.1.0) g.1.1 ∙ sym (rounds-rounds g.1.0 h.1.0 (states state a.watchers))),
-      )
-
-  pub dealt-kept : (a b : DeskView P F O) → b ≡ a → Dealt turn_log state a [] b
-  dealt-kept a b e = subst (λ x. Dealt turn_log state a [] x) (sym e) (dealt-none a)
-
-  -- what one command does
-  pub dealt-once : (cs : List Change) (a b : DeskView P F O) (es : List Event) (reply : Reply) → DealtOnce turn_log state cs a es reply b → Dealt turn_log state a es b
-  dealt-once cs a b es reply h = (h.0, once-rounds state a.next cs (all_told reply) es a.watchers b.watchers h.1)
-
-  pub dealt-run : (cs : List Change) (a b : DeskView P F O) (es : List Event) (reply : Reply) → DealtByRun turn_log state cs a es reply b → Dealt turn_log state a es b
-  dealt-run cs a b es reply h =
-      let n = later a.next (calls a.next h.made) in (
-        h.grew,
-        elim h.tells [
-          | inl told ↦ once-rounds state n cs (all_told reply) h.saw a.watchers b.watchers told
-          | inr untold ↦ once-rounds state n cs None h.saw a.watchers b.watchers untold.1
-        ],
-      )
-
-  -- between desks that are the same
-  pub dealt-as : (a a' b b' : DeskView P F O) (es : List Event) → a' ≡ a → b' ≡ b → Dealt turn_log state a' es b' → Dealt turn_log state a es b
-  dealt-as a a' b b' es e k g = subst (λ x. Dealt turn_log state x es b) e (subst (λ x. Dealt turn_log state a' es x) k g)
-
   -- all that was to be told is watched
   pub tells-all : {E : Type 0} (r : Result Bool E) (d0 d1 : DeskView P F O) (start now : Values) (cs : List Change) → cs ≡ told (watches d0.watchers) start now
       → TellsWatchers turn_log state d0 cs (filter (λ c. watches d0.watchers c.name) cs) r d1
@@ -265,11 +219,11 @@ module _ {P F O : Type 0} (turn_log : F → List Called) (state : O → Watching
 
   -- names stay bound as they are, and the same are watched
   pub bindings-same : (meaning : P → List Value → Option Given) (a b : DeskView P F O) (es : List Event)
-      → Dealt turn_log state a es b → bindings meaning b ≡ bindings meaning a
+      → Grew turn_log (log_of state) a es (record b { events = a.events ++ es }) → bindings meaning b ≡ bindings meaning a
   bindings-same meaning a b es g =
       let mid : DeskView P F O = record b { events = a.events ++ es } in
-      ap (λ w. let x : Bindings = record { functions = bound_by meaning b.functions; watches = w } in x) (watches-same turn_log (log_of state) a mid es g.0)
-      ∙ ap (λ k. let x : Bindings = record { functions = k; watches = watches a.watchers } in x) (bound-same turn_log (log_of state) meaning a mid es g.0)
+      ap (λ w. let x : Bindings = record { functions = bound_by meaning b.functions; watches = w } in x) (watches-same turn_log (log_of state) a mid es g)
+      ∙ ap (λ k. let x : Bindings = record { functions = k; watches = watches a.watchers } in x) (bound-same turn_log (log_of state) meaning a mid es g)
 
   -- ---- a running command: it left this machine, and a desk whose turn functions were called
 

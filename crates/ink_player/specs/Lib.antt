@@ -5,5 +5,6 @@ pub mod Playing
 pub mod Paths
 pub mod Visits
 pub mod Saving
+pub mod Loading
 pub mod Passages
 pub mod Extents

@@ -8,9 +8,7 @@ use Rattle.ink_model.specs.declared.limits.TheConstants.{MAX_STORY, MAX_INPUT}
 use Rattle.ink_model.specs.Configuration.{Configuration}
 use Rattle.ink_model.specs.Opening.{opening, opened}
 use Rattle.ink_model.specs.Acceptance.{accepted_story}
-use Rattle.ink_model.specs.State.{State}
 use Rattle.ink_model.specs.Host.{Bindings}
-use Rattle.ink_model.specs.declared.host.Event.{Event}
 use Rattle.ink_host.specs.Desk.{DeskView}
 use Rattle.ink_host.specs.Telling.{Watching}
 use Rattle.ink_host.specs.declared.objects.Called.{Called}
@@ -22,7 +20,7 @@ use Rattle.ink_model.specs.declared.fault.ReadRefusal.{ReadRefusal}
 use Rattle.ink_player.specs.Serving.{RunEnds}
 use Rattle.ink_protocol.specs.Spelled.{HasRoom}
 use Rattle.ink_step.specs.Steps.{FailsToOpen}
-use Rattle.ink_player.specs.Words.{DealtAnew, PlayerView, anew, desk_of, state_of, story_of}
+use Rattle.ink_player.specs.Words.{PlayerView, Scene, anew, desk_of, state_of, story_of}
 use Rattle.ink_player.specs.declared.end.PlayEnd.{PlayEnd}
 use Rattle.ink_player.specs.declared.end.PlayFault.{PlayFault}
 use Rattle.ink_player.specs.declared.end.PlayFault.TheVariants as play
@@ -42,16 +40,6 @@ pub record BringsStory (left : Option (List ℕ)) (bytes : List ℕ) (tree : Sto
   pub input : List ℕ
   pub story_line : IsStoryLine left bytes line input
   pub reads : accepted_story line ≡ Ok tree
-
--- The story was opened, and the lines behind it were served to the reader's end or to what ended the session. The input's
--- limit counts the story and its newline.
-pub record PlaysOn (h : Bindings) (es : List Event) (left : Option (List ℕ)) (bytes written : List ℕ) (result : Result (Unit {0}) RunFault) : Type 0 where
-  pub tree : StoryTree
-  pub story : BringsStory left bytes tree
-  pub first : Configuration
-  pub opens : opening tree ≡ Ok first
-  pub new : State
-  pub ends : RunEnds tree h es (MAX_INPUT - (length story.line + 1)) left story.input (opened first) written new result
 
 -- the story ended what came: nothing was written, and no more was read than tells that a story is over its limit
 pub record EndsEarly (bytes written : List ℕ) : Type 0 where
@@ -76,32 +64,39 @@ pub record IsUnopened (left : Option (List ℕ)) (bytes : List ℕ) (f : Fault) 
   pub globals : Values
   pub why : FailsToOpen tree f globals
 
--- no player was opened: nothing happened, and the desk is as it was
-abbrev pub LeftAlone : {P F O : Type 0} → DeskView P F O → List Event → DeskView P F O → Type 0
-LeftAlone old es new = (new ≡ old) × (es ≡ [])
+module _ {P F O : Type 0} (turn_log : F → List Called) (refusals : F → ℕ) (state : O → Watching) (h : Bindings) (old : DeskView P F O) where
+  -- The story was opened, and the lines behind it were served to the reader's end or to what ended the session. The input's
+  -- limit counts the story and its newline. The desk is as the last line left it, with no event on it.
+  pub record PlaysOn (left : Option (List ℕ)) (bytes written : List ℕ) (result : Result (Unit {0}) RunFault) (new : DeskView P F O) : Type 0 where
+    pub tree : StoryTree
+    pub story : BringsStory left bytes tree
+    pub first : Configuration
+    pub opens : opening tree ≡ Ok first
+    pub last : Scene P F O
+    pub ends : RunEnds turn_log refusals state tree h (MAX_INPUT - (length story.line + 1)) left story.input (record { state = opened first; desk = anew old }) written last result
+    pub desk : new ≡ last.desk
+    pub taken : new.events ≡ []
 
-module _ {P F O : Type 0} (turn_log : F → List Called) (state : O → Watching) (h : Bindings) (old : DeskView P F O) where
   -- Why a play failed, and what became of its desk: a story that is refused or cannot be opened leaves it alone, and so does a
   -- reader that fails within the story; else a player had it.
-  abbrev pub PlayFails : List Event → Option (List ℕ) → List ℕ → List ℕ → PlayFault → DeskView P F O → Type 0
-  PlayFails es left bytes written (play.Story r) new = EndsEarly bytes written × LeftAlone old es new × IsStoryRefused left bytes r
-  PlayFails es left bytes written (play.Start f) new = EndsEarly bytes written × LeftAlone old es new × IsUnopened left bytes f
-  PlayFails es left bytes written (play.Run f) new =
-      (EndsEarly bytes written × LeftAlone old es new × (f ≡ fault.Read) × (has_newline bytes ≡ false))
-      ⊎ (PlaysOn h es left bytes written (Err f) × DealtAnew turn_log state old es new)
+  abbrev pub PlayFails : Option (List ℕ) → List ℕ → List ℕ → PlayFault → DeskView P F O → Type 0
+  PlayFails left bytes written (play.Story r) new = EndsEarly bytes written × (new ≡ old) × IsStoryRefused left bytes r
+  PlayFails left bytes written (play.Start f) new = EndsEarly bytes written × (new ≡ old) × IsUnopened left bytes f
+  PlayFails left bytes written (play.Run f) new =
+      (EndsEarly bytes written × (new ≡ old) × (f ≡ fault.Read) × (has_newline bytes ≡ false)) ⊎ PlaysOn left bytes written (Err f) new
 
-  abbrev pub PlayEnds : List Event → Option (List ℕ) → List ℕ → List ℕ → Result (DeskView P F O) (PlayEnd P F O) → Type 0
-  PlayEnds es left bytes written (Ok new) = PlaysOn h es left bytes written (Ok tt) × DealtAnew turn_log state old es new
-  PlayEnds es left bytes written (Err e) = PlayFails es left bytes written e.fault e.desk
+  abbrev pub PlayEnds : Option (List ℕ) → List ℕ → List ℕ → Result (DeskView P F O) (PlayEnd P F O) → Type 0
+  PlayEnds left bytes written (Ok new) = PlaysOn left bytes written (Ok tt) new
+  PlayEnds left bytes written (Err e) = PlayFails left bytes written e.fault e.desk
 
   -- Which bytes were read, not more than one beyond those that an input may have, what was written, and how it ended.
-  pub record Plays (es : List Event) (left left' held held' : Option (List ℕ)) (result : Result (DeskView P F O) (PlayEnd P F O)) : Type 0 where
+  pub record Plays (left left' held held' : Option (List ℕ)) (result : Result (DeskView P F O) (PlayEnd P F O)) : Type 0 where
     pub bytes : List ℕ
     pub consumed : Consumes left left' bytes
     pub bound : length bytes ≤ MAX_INPUT + 1
     pub written : List ℕ
     pub appended : Appends held held' written
-    pub ends : PlayEnds es left' bytes written result
+    pub ends : PlayEnds left' bytes written result
 
 -- ---- parts of it
 

@@ -3,13 +3,15 @@ use Rattle.std.specs.Prelude.{◌≡◌, ◌≢◌, ◌⊎◌, ℕ, List, [], �
 use Rattle.ink_check.specs.Words.{story_tree}
 use Rattle.ink_check.specs.declared.story.Story.{Story}
 use Rattle.ink_host.specs.Desk.{DeskView, Grew, Rows, bound_by, each, watches}
-use Rattle.ink_host.specs.Telling.{AreRounds, IsRound, Round, Watching, log_of}
+use Rattle.ink_host.specs.Telling.{IsRound, Watching, log_of}
 use Rattle.ink_host.specs.declared.objects.Called.{Called}
 use Rattle.ink_model.specs.Answer.{Reply, Tells, Acts, Breaks}
+use Rattle.ink_model.specs.Command as command
+use Rattle.ink_model.specs.Command.{Command}
 use Rattle.ink_model.specs.Configuration.{Configuration}
 use Rattle.ink_model.specs.Events.{Made, calls, later}
 use Rattle.ink_model.specs.Flows.{Aside}
-use Rattle.ink_model.specs.Host.{Bindings}
+use Rattle.ink_model.specs.Host.{Bindings, value_given}
 use Rattle.ink_model.specs.Save.Sound.{AsideFits}
 use Rattle.ink_model.specs.State.{State, Condition, Ready, Broken, globals_of}
 use Rattle.ink_model.specs.Store.{Values}
@@ -33,6 +35,11 @@ pub record PlayerView (P F O : Type 0) : Type 0 where
   pub desk : DeskView P F O
   pub machine : Machine
   pub broken : Option Fault
+
+-- What is seen of it between commands: where its story stands, and the desk.
+pub record Scene (P F O : Type 0) : Type 0 where
+  pub state : State
+  pub desk : DeskView P F O
 
 -- there is none
 abbrev pub is_empty : {X : Type 0} → List X → Bool
@@ -83,6 +90,9 @@ module _ {P F O : Type 0} where
   abbrev pub state_of : PlayerView P F O → State
   state_of p = record { condition = condition_by p.broken (config_of (story_of p) p.machine); aside = aside_seen p; stamp = p.desk.next }
 
+  abbrev pub scene_of : PlayerView P F O → Scene P F O
+  scene_of p = record { state = state_of p; desk = desk_of p }
+
   -- what the names on a desk are bound to, by what its pure functions mean, and which are watched
   abbrev pub bindings : (P → List Value → Option Given) → DeskView P F O → Bindings
   bindings meaning d = record { functions = bound_by meaning d.functions; watches = watches d.watchers }
@@ -90,16 +100,6 @@ module _ {P F O : Type 0} where
   -- as a player is opened with a desk: there is no event yet
   abbrev pub anew : DeskView P F O → DeskView P F O
   anew d = record d { events = []; next = 0 }
-
-  -- The objects on a desk were called and told just these events, and those were taken. Watchers were told in rounds, and nothing
-  -- else was done to them.
-  abbrev pub Dealt : (F → List Called) → (O → Watching) → DeskView P F O → List Event → DeskView P F O → Type 0
-  Dealt turn_log state old es new = Grew turn_log (log_of state) old es (record new { events = old.events ++ es })
-      × ((rs : List Round) × AreRounds state rs old.watchers new.watchers)
-
-  -- The same of the desk with which a player was opened, on which no event is left.
-  abbrev pub DealtAnew : (F → List Called) → (O → Watching) → DeskView P F O → List Event → DeskView P F O → Type 0
-  DealtAnew turn_log state old es new = (new.events ≡ []) × Dealt turn_log state (anew old) es new
 
   -- what is told where globals were those of a state, and are these now
   abbrev pub told_from : DeskView P F O → State → Values → List Change
@@ -124,6 +124,24 @@ module _ {P F O : Type 0} where
   abbrev pub CommandStopsAtRefusal : (F → ℕ) → DeskView P F O → DeskView P F O → Reply → Type 0
   CommandStopsAtRefusal refusals old new (Breaks f events) = StopsAtRefusal refusals old new (f ≡ OutOfMemory)
   CommandStopsAtRefusal refusals old new reply = KeepsRefusals refusals old new
+
+  -- what is told of all globals, where they have other values after a command, or were not there before it
+  abbrev pub changed : Scene P F O → Scene P F O → List Change
+  changed old new = told_from old.desk old.state (globals_of new.state.condition)
+
+  -- What one command did to the objects on a desk, with these events, as the calls of a player say it of themselves. A command that
+  -- neither runs nor may change a global leaves the desk alone.
+  abbrev pub DealtBy : (F → List Called) → (O → Watching) → Option Command → Scene P F O → List Event → Reply → Scene P F O → Type 0
+  DealtBy turn_log state (Some command.Continue) old es reply new = DealtByRun turn_log state (changed old new) old.desk es reply new.desk
+  DealtBy turn_log state (Some command.Through) old es reply new = DealtByRun turn_log state (changed old new) old.desk es reply new.desk
+  DealtBy turn_log state (Some (command.Set name (Some value))) old es reply new = DealtOnce turn_log state (told_from old.desk old.state ((name, value_given value) ∷ [])) old.desk es reply new.desk
+  DealtBy turn_log state (Some (command.Load saved)) old es reply new = DealtOnce turn_log state (changed old new) old.desk es reply new.desk
+  DealtBy turn_log state (Some command.Restart) old es reply new = DealtOnce turn_log state (changed old new) old.desk es reply new.desk
+  DealtBy turn_log state k old es reply new = (es ≡ []) × (new.desk ≡ old.desk)
+
+  -- The same; and one turn function at the most was refused memory, once, and then the command broke the player with OutOfMemory.
+  abbrev pub DealtOf : (F → List Called) → (F → ℕ) → (O → Watching) → Option Command → Scene P F O → List Event → Reply → Scene P F O → Type 0
+  DealtOf turn_log refusals state k old es reply new = DealtBy turn_log state k old es reply new × CommandStopsAtRefusal refusals old.desk new.desk reply
 
   -- The watchers were told these changes, those of them that are watched: all of them, or all but those for which a watcher found
   -- no memory. Or memory was refused for telling, with something to tell, and nothing has changed.

@@ -97,6 +97,7 @@ impl<P: PureFn, F: TurnFn, O: Watcher> Player<P, F, O> {
     ghost use Rattle.ink_model.specs.Store.{Values};
     ghost use Rattle.ink_step.specs.Steps.{FailsToOpen};
     ghost use Rattle.ink_model.specs.Save.Reads.{Reads};
+    ghost use Rattle.ink_player.specs.Loading.{LoadsText, TextReads, TextReadsAsState};
     ghost use Rattle.ink_player.specs.Paths.{JumpsTo};
     ghost use Rattle.ink_player.specs.Saving.{IsOldSave, LoadsAs, ReadsAsState};
     ghost use Rattle.ink_player.specs.Visits.{TellsVisits};
@@ -146,7 +147,8 @@ impl<P: PureFn, F: TurnFn, O: Watcher> Player<P, F, O> {
     /// then. A fault breaks the player: that of a step that faulted with no newline open, `OutOfSteps` after 1,000,000 steps without
     /// one, and `OutOfMemory` where memory was refused to a step, to a look past a newline at a step that calls no turn function, to
     /// the passage, or to a watcher that is told: then the line stands, and all others are told. What happened with the objects of
-    /// the host is among the answer's events, also after a fault, which tells no watcher (docs/HOST.md).
+    /// the host is among the answer's events, also after a fault; a fault of a step, of the passage or of room for telling tells no
+    /// watcher (docs/HOST.md).
     pub fn continue_line(&mut self) -> Result<Passage, Halt>
         ensures does { (es : List Happening) × Continue (story_of self.old) (bindings P.meaning (desk_of self.old)) es (state_of self.old) (reply_of result) (state_of self.new)
             × DealtByRun F.log O.state (told_from (desk_of self.old) (state_of self.old) (globals_of (state_of self.new).condition)) (desk_of self.old) es (reply_of result) (desk_of self.new) }
@@ -161,7 +163,7 @@ impl<P: PureFn, F: TurnFn, O: Watcher> Player<P, F, O> {
     /// stopped; nothing has changed then. A fault breaks the player: that of the step that faulted, `OutOfSteps` after 1,000,000
     /// steps, and `OutOfMemory` where memory was refused to a step, to the passage, or to a watcher that is told: then the run
     /// stands, and all others are told. What happened with the objects of the host is among the answer's events, also after a
-    /// fault, which tells no watcher (docs/HOST.md).
+    /// fault; a fault of a step, of the passage or of room for telling tells no watcher (docs/HOST.md).
     pub fn through(&mut self) -> Result<Passage, Halt>
         ensures does { (es : List Happening) × Through (story_of self.old) (bindings P.meaning (desk_of self.old)) es (state_of self.old) (reply_of result) (state_of self.new)
             × DealtByRun F.log O.state (told_from (desk_of self.old) (state_of self.old) (globals_of (state_of self.new).condition)) (desk_of self.old) es (reply_of result) (desk_of self.new) }
@@ -244,9 +246,10 @@ impl<P: PureFn, F: TurnFn, O: Watcher> Player<P, F, O> {
         end_telling(&mut self.desk, &mut self.broken, all)
     }
 
-    /// A global's value; of a broken player as it stood before the step that faulted. Takes no memory: a text, a target or a tag
-    /// has one owner more. Refused with `NoSuchVariable` where there is no such global, and with `OutOfMemory` where a text, a
-    /// target or a tag has as many owners already as can be counted.
+    /// A global's value. Of a broken player it is the one from before the step that faulted; after `OutOfMemory` at a command's end,
+    /// or of a watcher, the one that the command left. Takes no memory: a text, a target or a tag has one owner more. Refused with
+    /// `NoSuchVariable` where there is no such global, and with `OutOfMemory` where a text, a target or a tag has as many owners
+    /// already as can be counted.
     pub fn get(&self, name: &str) -> Result<Value, Refusal>
         ensures { Get name.now (state_of self.now) (reply_of_value result) (state_of self.now) }
     {
@@ -371,6 +374,29 @@ impl<P: PureFn, F: TurnFn, O: Watcher> Player<P, F, O> {
         }
     }
 
+    /// Does what `load` does with the JSON value that a text spells, such as one of `save_text`. Refused as `load` is; also with
+    /// `BadSave` where the text is no JSON, and with `OutOfMemory` where memory was refused to read one that is not empty; nothing has
+    /// changed then.
+    pub fn load_text(&mut self, text: &str) -> Result<Seq<Event>, Halt>
+        ensures does { (es : List Happening) × LoadsText (story_of self.old) (bindings P.meaning (desk_of self.old)) es text.now (state_of self.old) (reply_of_events result) (state_of self.new)
+            × DealtOnce F.log O.state (told_from (desk_of self.old) (state_of self.old) (globals_of (state_of self.new).condition)) (desk_of self.old) es (reply_of_events result) (desk_of self.new) }
+        ensures functions { (desk_of self.new).functions ≡ (desk_of self.old).functions }
+        ensures rest { Resting (rests O.state) (desk_of self.old).watchers → Resting (rests O.state) (desk_of self.new).watchers }
+        ensures story { story_of self.new ≡ story_of self.old }
+        ensures stands { IfOk result (λ events. TextReadsAsState (story_of self.new) text.now (state_of self.new)) }
+        ensures reads { (g : Game) → TextReads (story_of self.old) text.now g → LoadsAs g (reply_of_events result) (state_of self.new) }
+    {
+        match Json::from_str(self.alloc, text) {
+            Ok(json) => self.load(&json),
+            Err(error) => {
+                if error.is_memory() {
+                    return Err(Halt::Refused(Refusal::OutOfMemory));
+                }
+                Err(Halt::Refused(Refusal::BadSave))
+            }
+        }
+    }
+
     /// Begins anew, as the story was opened, with one flow; a broken player too. Watchers are told of each global that has another value than
     /// before, or was not there (docs/HOST.md, "Telling"). Refused with `OutOfMemory` alone, where the declarations run to a step
     /// that asks for memory, or memory for telling was refused; nothing has changed then. A fault of the declarations breaks the
@@ -477,8 +503,8 @@ impl<P: PureFn, F: TurnFn, O: Watcher> Player<P, F, O> {
         }
     }
 
-    /// Binds a name to a pure function. The function or turn function that was bound to it is handed back; where memory is
-    /// refused the given one is, and nothing has changed. Memory is asked for only where nothing was bound to the name.
+    /// Binds a pure function to a name, and hands back what was bound to it before, a pure function or a turn function. Memory is
+    /// asked for only where nothing was; where it is refused the given function comes back, and nothing has changed.
     pub fn bind_pure(&mut self, name: &str, function: P) -> Result<Option<Bound<P, F>>, P>
         ensures old { IfOk result (λ old. old ≡ at name.now (desk_of self.old).functions) }
         ensures kept { OnOk result (desk_of self.new ≡ record (desk_of self.old) { functions = put name.now (Bound.Pure function) (desk_of self.old).functions }) }
@@ -491,7 +517,8 @@ impl<P: PureFn, F: TurnFn, O: Watcher> Player<P, F, O> {
         self.desk.bind_pure(name, function)
     }
 
-    /// The same of a turn function.
+    /// Binds a turn function to a name, and hands back what was bound to it before, a pure function or a turn function. Memory is
+    /// asked for only where nothing was; where it is refused the given function comes back, and nothing has changed.
     pub fn bind_turn(&mut self, name: &str, function: F) -> Result<Option<Bound<P, F>>, F>
         ensures old { IfOk result (λ old. old ≡ at name.now (desk_of self.old).functions) }
         ensures kept { OnOk result (desk_of self.new ≡ record (desk_of self.old) { functions = put name.now (Bound.Turn function) (desk_of self.old).functions }) }
@@ -504,7 +531,7 @@ impl<P: PureFn, F: TurnFn, O: Watcher> Player<P, F, O> {
         self.desk.bind_turn(name, function)
     }
 
-    /// Takes away what is bound to a name, and hands it back; none where nothing is. Takes no memory.
+    /// Takes away the function that is bound to a name, and hands it back; none where nothing is. Takes no memory.
     pub fn unbind(&mut self, name: &str) -> Option<Bound<P, F>>
         ensures old { result ≡ at name.now (desk_of self.old).functions }
         ensures desk { desk_of self.new ≡ record (desk_of self.old) { functions = without name.now (desk_of self.old).functions } }
@@ -514,8 +541,8 @@ impl<P: PureFn, F: TurnFn, O: Watcher> Player<P, F, O> {
         self.desk.unbind(name)
     }
 
-    /// Watches the global of a name, whether it is there or not. The watcher of that name before is handed back; where memory is
-    /// refused the given one is, and nothing has changed. Memory is asked for only where nobody watched it.
+    /// Binds a watcher to the name of a global, whether that is there or not, and hands back the watcher that was bound to it before.
+    /// Memory is asked for only where none was; where it is refused the given watcher comes back, and nothing has changed.
     pub fn watch(&mut self, name: &str, watcher: O) -> Result<Option<O>, O>
         ensures old { IfOk result (λ old. old ≡ at name.now (desk_of self.old).watchers) }
         ensures old_rest { Resting (rests O.state) (desk_of self.old).watchers → IfOk result (λ old. IfSome old (λ w. rests O.state w ≡ true)) }
@@ -530,7 +557,7 @@ impl<P: PureFn, F: TurnFn, O: Watcher> Player<P, F, O> {
         self.desk.watch(name, watcher)
     }
 
-    /// Takes away the watcher of a name, and hands it back; none where there is none. Takes no memory.
+    /// Takes away the watcher that is bound to a name, and hands it back; none where there is none. Takes no memory.
     pub fn unwatch(&mut self, name: &str) -> Option<O>
         ensures old { result ≡ at name.now (desk_of self.old).watchers }
         ensures old_rest { Resting (rests O.state) (desk_of self.old).watchers → IfSome result (λ w. rests O.state w ≡ true) }
@@ -542,8 +569,8 @@ impl<P: PureFn, F: TurnFn, O: Watcher> Player<P, F, O> {
         self.desk.unwatch(name)
     }
 
-    /// The fault that broke the player, if one did. Takes no memory.
-    pub(crate) fn fault(&self) -> Option<Fault>
+    /// The fault by which the player is broken, until a load or a restart; none where it is not broken. Takes no memory.
+    pub fn fault(&self) -> Option<Fault>
         ensures { result ≡ fault_in (state_of self.now).condition }
     {
         self.broken

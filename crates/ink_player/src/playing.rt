@@ -1,11 +1,10 @@
 //! Playing a story over bytes (docs/PROTOCOL.md, "Playing").
 
-ghost use Rattle.std.specs.Prelude.{◌≡◌, List, Ok, IfOk, IfErr};
+ghost use Rattle.std.specs.Prelude.{◌≡◌, Ok, IfOk, IfErr};
 ghost use Rattle.ink_check.specs.Words.{story_tree};
 ghost use Rattle.ink_host.specs.Desk.{Resting};
 ghost use Rattle.ink_host.specs.Telling.{rests};
 ghost use Rattle.ink_model.specs.Acceptance as rules;
-ghost use Rattle.ink_model.specs.declared.host.Event.{Event};
 ghost use Rattle.ink_player.specs.Ends.{play_reads_fail, play_writes_fail};
 ghost use Rattle.ink_player.specs.Playing.{IsRefused, Opens, OpensDesk, Plays, desk_left, play_fault};
 ghost use Rattle.ink_player.specs.Words.{bindings};
@@ -34,7 +33,7 @@ pub fn play<R: Read, W: Write, P: PureFn, F: TurnFn, O: Watcher>(
     writer: &mut W,
     desk: Desk<P, F, O>,
 ) -> Result<Desk<P, F, O>, PlayEnd<P, F, O>>
-    ensures plays { (es : List Event) × Plays F.log O.state (bindings P.meaning desk) desk es (R.remaining reader.old) (R.remaining reader.new) (W.contents writer.old) (W.contents writer.new) result }
+    ensures plays { Plays F.log F.refusals O.state (bindings P.meaning desk) desk (R.remaining reader.old) (R.remaining reader.new) (W.contents writer.old) (W.contents writer.new) result }
     ensures rest { Resting (rests O.state) desk.watchers → Resting (rests O.state) (desk_left result).watchers }
 {
     let mut source = Lent::over(reader);
@@ -51,7 +50,7 @@ pub fn serve_story<S: Source, T: Sink, P: PureFn, F: TurnFn, O: Watcher>(
     sink: &mut T,
     desk: Desk<P, F, O>,
 ) -> Result<Desk<P, F, O>, PlayEnd<P, F, O>>
-    ensures plays { (es : List Event) × Plays F.log O.state (bindings P.meaning desk) desk es (S.remaining source.old) (S.remaining source.new) (T.contents sink.old) (T.contents sink.new) result }
+    ensures plays { Plays F.log F.refusals O.state (bindings P.meaning desk) desk (S.remaining source.old) (S.remaining source.new) (T.contents sink.old) (T.contents sink.new) result }
     ensures rest { Resting (rests O.state) desk.watchers → Resting (rests O.state) (desk_left result).watchers }
     ensures source { Reports (play_reads_fail result) (S.failures source.old) (S.failures source.new) (S.name source.old) (S.name source.new) }
     ensures sink { Reports (play_writes_fail result) (T.failures sink.old) (T.failures sink.new) (T.name sink.old) (T.name sink.new) }

@@ -1,17 +1,18 @@
 //! Sessions over command lines (docs/PROTOCOL.md, "Sessions").
 
-ghost use Rattle.std.specs.Prelude.{◌≡◌, ℕ, List, [], ◌⊎◌, option_map};
+ghost use Rattle.std.specs.Prelude.{◌≡◌, ℕ, List, [], ◌⊎◌, Some, option_map};
 ghost use Rattle.ink_host.specs.Desk.{Resting};
 ghost use Rattle.ink_host.specs.Telling.{rests};
 ghost use Rattle.ink_model.specs.Answer.{Refuses, reply_of_events};
-ghost use Rattle.ink_model.specs.Session.{Does, Load, Serves, Set};
+ghost use Rattle.ink_model.specs.Command as ink;
+ghost use Rattle.ink_model.specs.Session.{Does, Load, Set};
 ghost use Rattle.ink_model.specs.Host.{Bindings};
 ghost use Rattle.ink_model.specs.declared.host.Event.{Event as Happening};
 ghost use Rattle.ink_protocol.specs.Commands.{command_by};
 ghost use Rattle.ink_protocol.specs.Replies.{HasTextOf, reply_by};
-ghost use Rattle.ink_player.specs.Words.{Dealt, bindings, desk_of, state_of, story_of};
+ghost use Rattle.ink_player.specs.Words.{DealtBy, DealtOf, bindings, desk_of, scene_of, state_of, story_of};
 ghost use Rattle.ink_protocol.specs.Ends.{Reports, reads_fail, writes_fail};
-ghost use Rattle.ink_player.specs.Serving.{Answers, Runs, ServesNext};
+ghost use Rattle.ink_player.specs.Serving.{Answers, Runs, ServesLineBy, ServesNext};
 ghost use Rattle.ink_model.specs.Unread.{PathFails};
 ghost use Rattle.ink_model.specs.declared.limits.TheConstants.{MAX_INPUT};
 ghost use Rattle.serde_json.specs.Data.{Data};
@@ -53,7 +54,8 @@ pub(crate) enum Served {
 }
 
 /// Serves command lines until the reader's end (docs/PROTOCOL.md, "Sessions"): the answer to each line is written as soon
-/// as the line is complete. Reads what is there, one read at a time, and at most one byte more than an input may have.
+/// as the line is complete. Reads what is there, one read at a time, and at most one byte more than an input may have. To the
+/// objects of the host each command does what the player's call of it does.
 ///
 /// Errors, where the answers to earlier lines have been written: `Read`, where the reader failed; `Write`, where the writer
 /// failed or took no byte, and the command whose answer could not be written has taken effect; `TooLong`, where a line is
@@ -65,9 +67,8 @@ pub fn run<R: Read, W: Write, P: PureFn, F: TurnFn, O: Watcher>(
     writer: &mut W,
     player: &mut Player<P, F, O>,
 ) -> Result<(), RunFault>
-    ensures runs { (es : List Happening) × Runs (story_of player.old) (bindings P.meaning (desk_of player.old)) es MAX_INPUT [] (R.remaining reader.old) (R.remaining reader.new)
-        (W.contents writer.old) (W.contents writer.new) (state_of player.old) (state_of player.new) result
-        × Dealt F.log O.state (desk_of player.old) es (desk_of player.new) }
+    ensures runs { Runs F.log F.refusals O.state (story_of player.old) (bindings P.meaning (desk_of player.old)) MAX_INPUT [] (R.remaining reader.old) (R.remaining reader.new)
+        (W.contents writer.old) (W.contents writer.new) (scene_of player.old) (scene_of player.new) result }
     ensures rest { Resting (rests O.state) (desk_of player.old).watchers → Resting (rests O.state) (desk_of player.new).watchers }
     ensures story { story_of player.new ≡ story_of player.old }
 {
@@ -85,9 +86,8 @@ pub fn serve<S: Source, T: Sink, P: PureFn, F: TurnFn, O: Watcher>(
     sink: &mut T,
     player: &mut Player<P, F, O>,
 ) -> Result<(), RunFault>
-    ensures runs { (es : List Happening) × Runs (story_of player.old) (bindings P.meaning (desk_of player.old)) es MAX_INPUT [] (S.remaining source.old) (S.remaining source.new)
-        (T.contents sink.old) (T.contents sink.new) (state_of player.old) (state_of player.new) result
-        × Dealt F.log O.state (desk_of player.old) es (desk_of player.new) }
+    ensures runs { Runs F.log F.refusals O.state (story_of player.old) (bindings P.meaning (desk_of player.old)) MAX_INPUT [] (S.remaining source.old) (S.remaining source.new)
+        (T.contents sink.old) (T.contents sink.new) (scene_of player.old) (scene_of player.new) result }
     ensures rest { Resting (rests O.state) (desk_of player.old).watchers → Resting (rests O.state) (desk_of player.new).watchers }
     ensures story { story_of player.new ≡ story_of player.old }
     ensures source { Reports (reads_fail result) (S.failures source.old) (S.failures source.new) (S.name source.old) (S.name source.new) }
@@ -105,9 +105,8 @@ pub(crate) fn serve_lines<S: Source, T: Sink, P: PureFn, F: TurnFn, O: Watcher>(
     sink: &mut T,
     player: &mut Player<P, F, O>,
 ) -> Result<(), RunFault>
-    ensures runs { (es : List Happening) × Runs (story_of player.old) (bindings P.meaning (desk_of player.old)) es ahead.old.spare ahead.old.unread (S.remaining source.old) (S.remaining source.new)
-        (T.contents sink.old) (T.contents sink.new) (state_of player.old) (state_of player.new) result
-        × Dealt F.log O.state (desk_of player.old) es (desk_of player.new) }
+    ensures runs { Runs F.log F.refusals O.state (story_of player.old) (bindings P.meaning (desk_of player.old)) ahead.old.spare ahead.old.unread (S.remaining source.old) (S.remaining source.new)
+        (T.contents sink.old) (T.contents sink.new) (scene_of player.old) (scene_of player.new) result }
     ensures rest { Resting (rests O.state) (desk_of player.old).watchers → Resting (rests O.state) (desk_of player.new).watchers }
     ensures story { story_of player.new ≡ story_of player.old }
     ensures source { Reports (reads_fail result) (S.failures source.old) (S.failures source.new) (S.name source.old) (S.name source.new) }
@@ -132,9 +131,8 @@ fn serve_line<S: Source, T: Sink, P: PureFn, F: TurnFn, O: Watcher>(
     sink: &mut T,
     player: &mut Player<P, F, O>,
 ) -> Result<Served, RunFault>
-    ensures next { (es : List Happening) × ServesNext (story_of player.old) (bindings P.meaning (desk_of player.old)) es (S.remaining source.old) (S.remaining source.new) (T.contents sink.old) (T.contents sink.new)
-        ahead.old ahead.new (state_of player.old) (state_of player.new) result
-        × Dealt F.log O.state (desk_of player.old) es (desk_of player.new) }
+    ensures next { ServesNext F.log F.refusals O.state (story_of player.old) (bindings P.meaning (desk_of player.old)) (S.remaining source.old) (S.remaining source.new) (T.contents sink.old) (T.contents sink.new)
+        ahead.old ahead.new (scene_of player.old) (scene_of player.new) result }
     ensures rest { Resting (rests O.state) (desk_of player.old).watchers → Resting (rests O.state) (desk_of player.new).watchers }
     ensures story { story_of player.new ≡ story_of player.old }
     ensures source { Reports (reads_fail result) (S.failures source.old) (S.failures source.new) (S.name source.old) (S.name source.new) }
@@ -174,8 +172,7 @@ fn answer_line<T: Sink, P: PureFn, F: TurnFn, O: Watcher>(
     player: &mut Player<P, F, O>,
     line: &[u8],
 ) -> Result<(), RunFault>
-    ensures answers { (es : List Happening) × Answers (story_of player.old) (bindings P.meaning (desk_of player.old)) es line.now (T.contents sink.old) (T.contents sink.new) (state_of player.old) (state_of player.new) result
-        × Dealt F.log O.state (desk_of player.old) es (desk_of player.new) }
+    ensures answers { Answers F.log F.refusals O.state (story_of player.old) (bindings P.meaning (desk_of player.old)) line.now (T.contents sink.old) (T.contents sink.new) (scene_of player.old) (scene_of player.new) result }
     ensures rest { Resting (rests O.state) (desk_of player.old).watchers → Resting (rests O.state) (desk_of player.new).watchers }
     ensures story { story_of player.new ≡ story_of player.old }
     ensures sink { Reports (writes_fail result) (T.failures sink.old) (T.failures sink.new) (T.name sink.old) (T.name sink.new) }
@@ -199,9 +196,8 @@ fn outcome_of<P: PureFn, F: TurnFn, O: Watcher>(
     player: &mut Player<P, F, O>,
     line: &[u8],
 ) -> Outcome
-    ensures serves { (es : List Happening) × (saved : Data) × HasTextOf saved result
-        × Serves (story_of player.old) (bindings P.meaning (desk_of player.old)) es line.now (state_of player.old) (reply_by saved result) (state_of player.new)
-        × Dealt F.log O.state (desk_of player.old) es (desk_of player.new) }
+    ensures serves { (saved : Data) × HasTextOf saved result
+        × ServesLineBy F.log F.refusals O.state (story_of player.old) (bindings P.meaning (desk_of player.old)) line.now (scene_of player.old) (reply_by saved result) (scene_of player.new) }
     ensures rest { Resting (rests O.state) (desk_of player.old).watchers → Resting (rests O.state) (desk_of player.new).watchers }
     ensures story { story_of player.new ≡ story_of player.old }
 {
@@ -219,7 +215,7 @@ fn perform<P: PureFn, F: TurnFn, O: Watcher>(
     ensures does { (es : List Happening) × (saved : Data) × HasTextOf saved result
         × (Does (story_of player.old) (bindings P.meaning (desk_of player.old)) es (option_map command_by command.entry) (state_of player.old) (reply_by saved result) (state_of player.new)
         ⊎ ((es ≡ []) × PathFails (option_map command_by command.entry) (state_of player.old) (reply_by saved result) (state_of player.new)))
-        × Dealt F.log O.state (desk_of player.old) es (desk_of player.new) }
+        × DealtOf F.log F.refusals O.state (option_map command_by command.entry) (scene_of player.old) es (reply_by saved result) (scene_of player.new) }
     ensures rest { Resting (rests O.state) (desk_of player.old).watchers → Resting (rests O.state) (desk_of player.new).watchers }
     ensures story { story_of player.new ≡ story_of player.old }
 {
@@ -247,7 +243,8 @@ fn set<P: PureFn, F: TurnFn, O: Watcher>(
     value: Option<Given>,
 ) -> Result<Seq<Event>, Halt>
     ensures does { (es : List Happening) × Set (bindings P.meaning (desk_of player.old)) es name.now value (state_of player.old) (reply_of_events result) (state_of player.new)
-        × Dealt F.log O.state (desk_of player.old) es (desk_of player.new) }
+        × DealtBy F.log O.state (Some (ink.Set name.now value)) (scene_of player.old) es (reply_of_events result) (scene_of player.new) }
+    ensures functions { (desk_of player.new).functions ≡ (desk_of player.old).functions }
     ensures rest { Resting (rests O.state) (desk_of player.old).watchers → Resting (rests O.state) (desk_of player.new).watchers }
     ensures story { story_of player.new ≡ story_of player.old }
 {
@@ -273,7 +270,8 @@ fn load<P: PureFn, F: TurnFn, O: Watcher>(
     saved: Option<Json>,
 ) -> Result<Seq<Event>, Halt>
     ensures does { (es : List Happening) × Load (story_of player.old) (bindings P.meaning (desk_of player.old)) es (option_map view saved) (state_of player.old) (reply_of_events result) (state_of player.new)
-        × Dealt F.log O.state (desk_of player.old) es (desk_of player.new) }
+        × DealtBy F.log O.state (Some (ink.Load (option_map view saved))) (scene_of player.old) es (reply_of_events result) (scene_of player.new) }
+    ensures functions { (desk_of player.new).functions ≡ (desk_of player.old).functions }
     ensures rest { Resting (rests O.state) (desk_of player.old).watchers → Resting (rests O.state) (desk_of player.new).watchers }
     ensures story { story_of player.new ≡ story_of player.old }
 {

@@ -82,15 +82,15 @@ begins {ds = ds} {new = new} saves old end lines told same h = record {
 pub goes-on : {well : Bool} {ds : List Deed} {new : Places} (saves : Bool) (old mid : Places) → mid.before ≡ old.before ++ option_to_list old.here → UpTo well (IsBeginning saves mid) ds new → UpTo well (GoesOn saves old) ds new
 goes-on saves old mid is h = record { rest = h.rest; end = h.end; course = inl (h.course.0 ∙ is, h.course.1); whole = h.whole }
 
-pub goes-unnoted : {well : Bool} {ds : List Deed} {new : Places} (saves : Bool) (old mid : Places) → mid.before ≡ old.before → UpTo well (IsBeginning saves mid) ds new → UpTo well (GoesOn saves old) (Says LastLacks ∷ ds) new
-goes-unnoted {ds = ds} saves old mid is h = record { rest = h.rest; end = h.end; course = inr (ds ++ h.rest, refl, h.course.0 ∙ is, h.course.1); whole = h.whole }
+pub goes-unnoted : {well : Bool} {ds : List Deed} {new : Places} (saves : Bool) (old mid : Places) → is_some old.here ≡ true → mid.before ≡ old.before → UpTo well (IsBeginning saves mid) ds new → UpTo well (GoesOn saves old) (Says LastLacks ∷ ds) new
+goes-unnoted {ds = ds} saves old mid noted is h = record { rest = h.rest; end = h.end; course = inr (noted, ds ++ h.rest, refl, h.course.0 ∙ is, h.course.1); whole = h.whole }
 
-pub goes-part : (saves : Bool) (old : Places) → (rest : List Deed) × (end : Places) × GoesOn saves old (Says LastLacks ∷ rest) end
-goes-part saves old =
-    let more = any-telling saves in (more.0, record { before = old.before; here = None }, inr (more.0, refl, refl, more.1))
+pub goes-part : (saves : Bool) (old : Places) → is_some old.here ≡ true → (rest : List Deed) × (end : Places) × GoesOn saves old (Says LastLacks ∷ rest) end
+goes-part saves old noted =
+    let more = any-telling saves in (more.0, record { before = old.before; here = None }, inr (noted, more.0, refl, refl, more.1))
 
 any-going : (saves : Bool) (old : Places) → (rest : List Deed) × (end : Places) × GoesOn saves old rest end
-any-going saves old = let part = goes-part saves old in (Says LastLacks ∷ part.0, part.1, part.2)
+any-going saves old = let more = any-telling saves in (more.0, record { before = old.before ++ option_to_list old.here; here = None }, inl (refl, more.1))
 
 -- ---- a command that was given
 
@@ -197,9 +197,9 @@ number-some n i h e = omega arith
 
 -- ---- what was typed
 
-module _ {P F O : Type 0} {meaning : P → List Value → Option Given} {turn_log : F → List Called} {state : O → Watching} {look : Look} where
+module _ {P F O : Type 0} {meaning : P → List Value → Option Given} {turn_log : F → List Called} {refusals : F → ℕ} {state : O → Watching} {look : Look} where
   -- it was this
   pub goes-as : {b : Asked} {new : Places} {p q : PlayerView P F O} {held held' : Option (List ℕ)} {kept kept' : Option (Option (List ℕ))} {well : Bool} (saves : Bool) (old : Places) (a : Asked) → b ≡ a
-      → (ds : List Deed) × UpTo well (IsCourse saves old a) ds new × Played meaning turn_log state look p ds q held held' kept kept' well
-      → (ds : List Deed) × UpTo well (IsCourse saves old b) ds new × Played meaning turn_log state look p ds q held held' kept kept' well
+      → (ds : List Deed) × UpTo well (IsCourse saves old a) ds new × Played meaning turn_log refusals state look p ds q held held' kept kept' well
+      → (ds : List Deed) × UpTo well (IsCourse saves old b) ds new × Played meaning turn_log refusals state look p ds q held held' kept kept' well
   goes-as {new = new} {well = well} saves old a is g = (g.0, subst (λ x. UpTo well (IsCourse saves old x) g.0 new) (sym is) g.1, g.2)

@@ -1,6 +1,9 @@
 -- Lines that are told one after another, and the stop behind them.
 use Rattle.std.proofs.Common.{◌≡◌, ◌≢◌, ℕ, List, [], ◌∷◌, ◌++◌, Bool, true, false, Option, None, Some, Result, Ok, Err, IfOk, ◌∙◌, ap, inl, inr, refl, sym, subst, append_assoc, append-nil, true≢false}
 use Rattle.serde_json.specs.Data.{Data}
+use Rattle.ink_host.specs.Desk.{DeskView}
+use Rattle.ink_host.specs.Telling.{Watching}
+use Rattle.ink_host.specs.declared.objects.Called.{Called}
 use Rattle.ink_model.specs.Answer.{Reply, Acts, Breaks, Counts, Refuses, Saves, Shows, Tells, reply_of_halt}
 use Rattle.ink_model.specs.Command as command
 use Rattle.ink_model.specs.Host.{Bindings}
@@ -12,7 +15,7 @@ use Rattle.ink_model.specs.declared.fault.Refusal.{Refusal}
 use Rattle.ink_model.specs.declared.fault.Refusal.TheVariants as refusal
 use Rattle.ink_model.specs.declared.passage.Shown.{Shown}
 use Rattle.ink_reader.specs.Course.{IsBreak, IsNoted, IsStop, IsTold, TellsPlace, end_behind, place_told}
-use Rattle.ink_reader.specs.Deeds.{AreDone, AreShelved, Deed, Gives, Goes, Offers, Says}
+use Rattle.ink_reader.specs.Deeds.{AreDealt, AreDone, AreShelved, Deed, Gives, Goes, Offers, Says}
 use Rattle.ink_reader.specs.Steps.{ToldBy, are_offered, break_told, end_after, stop_told, whereabouts_told}
 use Rattle.ink_reader.specs.Whereabouts.{path_of}
 use Rattle.ink_reader.specs.Words.{PlaceLacks, Stopped}
@@ -96,6 +99,14 @@ module _ {E : Type 0} where
   break-done s h st (halt.Fault f events) (Ok None) = (refl, refl)
   break-done s h st (halt.Fault f events) (Ok (Some path)) = (st, [], [], refl, (refl, refl), (refl, refl))
   break-done s h st (halt.Fault f events) (Err e) = (st, [], [], refl, (refl, refl), (refl, refl))
+
+  -- nor to the objects of a host
+  pub break-dealt : {P F O : Type 0} (turn_log : F → List Called) (refusals : F → ℕ) (state : O → Watching) (s : StoryTree) (h : Bindings) (st : State) (x : Halt) (path : Result (Option (List ℕ)) E) (desk : DeskView P F O)
+      → AreDealt turn_log refusals state s h [] (break_told (reply_of_halt x) path) st st (break-done s h st x path) desk desk
+  break-dealt turn_log refusals state s h st (halt.Refused r) path desk = refl
+  break-dealt turn_log refusals state s h st (halt.Fault f events) (Ok None) desk = refl
+  break-dealt turn_log refusals state s h st (halt.Fault f events) (Ok (Some path)) desk = refl
+  break-dealt turn_log refusals state s h st (halt.Fault f events) (Err e) desk = refl
 
   -- or of a shelf
   pub break-shelved : (kept : Option (Option (List ℕ))) (x : Halt) (path : Result (Option (List ℕ)) E) → AreShelved kept (break_told (reply_of_halt x) path) kept

@@ -1,5 +1,5 @@
 -- What a reading does for what is typed (docs/READER.md, "What is typed").
-use Rattle.std.specs.Prelude.{◌≡◌, ◌⊎◌, ℕ, zero, suc, List, [], ◌∷◌, ◌++◌, Bool, true, false, MatchBool, Option, Some, None, Result, Ok, Err}
+use Rattle.std.specs.Prelude.{◌≡◌, ◌⊎◌, ℕ, zero, suc, List, [], ◌∷◌, ◌++◌, Bool, true, false, MatchBool, Option, Some, None, is_some, Result, Ok, Err}
 use Rattle.std.specs.Option.{option_to_list}
 use Rattle.serde_json.specs.Data.{Data}
 use Rattle.serde_json.specs.Read.{read}
@@ -96,10 +96,11 @@ pub record IsTelling (saves : Bool) (ds : List Deed) (here : Option (List ℕ)) 
   pub told : IsTold told.Stop lines end
   pub stop : IsStop saves end rest here
 
--- It goes on from a place that is noted among those before choices; or there is no memory for that, and it is said.
+-- It goes on from where it stood: if that is a place that was noted, it comes behind those before choices; or there is no memory for
+-- that, and it is said.
 abbrev pub GoesOn : Bool → Places → List Deed → Places → Type 0
 GoesOn saves old ds new = ((new.before ≡ old.before ++ option_to_list old.here) × IsTelling saves ds new.here)
-    ⊎ ((rest : List Deed) × (ds ≡ Says LastLacks ∷ rest) × (new.before ≡ old.before) × IsTelling saves rest new.here)
+    ⊎ ((is_some old.here ≡ true) × (rest : List Deed) × (ds ≡ Says LastLacks ∷ rest) × (new.before ≡ old.before) × IsTelling saves rest new.here)
 
 -- ---- what is typed
 

@@ -1,6 +1,7 @@
 -- What a reading does, one deed after another, and what is shown of it (docs/READER.md, "What is shown").
 use Rattle.std.specs.Prelude.{◌≡◌, ℕ, List, [], ◌∷◌, ◌++◌, Bool, true, Option, Some, Result, Ok, Err, codes}
 use Rattle.std.specs.Io.KnownBytes.{Appends}
+use Rattle.ink_host.specs.Desk.{DeskView}
 use Rattle.ink_host.specs.Telling.{Watching}
 use Rattle.ink_host.specs.declared.objects.Called.{Called}
 use Rattle.ink_model.specs.Answer.{Reply, Acts, Breaks, Counts, Refuses, Saves, Shows, Tells}
@@ -19,7 +20,7 @@ use Rattle.ink_model.specs.declared.value.Value.{Value}
 use Rattle.ink_page.specs.Sentences.{fault_sentence, refusal_sentence}
 use Rattle.ink_page.specs.Showing.{choices_shown, events_shown, passage_shown, said, value_shown}
 use Rattle.ink_page.specs.declared.page.Look.{Look}
-use Rattle.ink_player.specs.Words.{Dealt, PlayerView, bindings, desk_of, state_of, story_of}
+use Rattle.ink_player.specs.Words.{DealtOf, PlayerView, bindings, desk_of, scene_of, state_of, story_of}
 use Rattle.ink_reader.specs.Kept as shelf
 use Rattle.ink_reader.specs.Words.{Word, broke_before, broke_off, word_text}
 use Rattle.ink_reader.specs.declared.shelf.NotKept.{NotKept}
@@ -109,12 +110,21 @@ abbrev pub AreShelved : Option (Option (List ℕ)) → List Deed → Option (Opt
 AreShelved old [] new = new ≡ old
 AreShelved old (d ∷ ds) new = (mid : Option (Option (List ℕ))) × IsShelved old d mid × AreShelved mid ds new
 
-module _ {P F O : Type 0} (meaning : P → List Value → Option Given) (turn_log : F → List Called) (state : O → Watching) where
+module _ {P F O : Type 0} (turn_log : F → List Called) (refusals : F → ℕ) (state : O → Watching) (s : StoryTree) (h : Bindings) where
+  -- What deeds in turn did to the objects of a host: a command did this, by its own events and reply, and nothing else did anything.
+  abbrev pub AreDealt : (es : List Event) (ds : List Deed) (old new : State) → AreDone s h es ds old new → DeskView P F O → DeskView P F O → Type 0
+  AreDealt es [] old new done before after = after ≡ before
+  AreDealt es (Gives k reply ∷ ds) old new (mid, first, others, joined, does, done) before after =
+      (between : DeskView P F O) × DealtOf turn_log refusals state (Some k) (record { state = old; desk = before }) first reply (record { state = mid; desk = between })
+      × AreDealt others ds mid new done between after
+  AreDealt es (d ∷ ds) old new (mid, first, others, joined, does, done) before after = AreDealt others ds mid new done before after
+
+module _ {P F O : Type 0} (meaning : P → List Value → Option Given) (turn_log : F → List Called) (refusals : F → ℕ) (state : O → Watching) where
   -- a player was given this command, its objects were called and told what happened at it, and it answered
   pub record Gave (old : PlayerView P F O) (k : Command) (reply : Reply) (new : PlayerView P F O) : Type 0 where
     pub events : List Event
     pub does : Does (story_of old) (bindings meaning (desk_of old)) events (Some k) (state_of old) reply (state_of new)
-    pub dealt : Dealt turn_log state (desk_of old) events (desk_of new)
+    pub dealt : DealtOf turn_log refusals state (Some k) (scene_of old) events reply (scene_of new)
     pub story : story_of new ≡ story_of old
 
   -- Between these two moments a reading did this and nothing else: its player was given these commands, in order, and its objects
@@ -123,7 +133,7 @@ module _ {P F O : Type 0} (meaning : P → List Value → Option Given) (turn_lo
   pub record Played (look : Look) (old : PlayerView P F O) (ds : List Deed) (new : PlayerView P F O) (held held' : Option (List ℕ)) (kept kept' : Option (Option (List ℕ))) (well : Bool) : Type 0 where
     pub events : List Event
     pub done : AreDone (story_of old) (bindings meaning (desk_of old)) events ds (state_of old) (state_of new)
-    pub dealt : Dealt turn_log state (desk_of old) events (desk_of new)
+    pub dealt : AreDealt turn_log refusals state (story_of old) (bindings meaning (desk_of old)) events ds (state_of old) (state_of new) done (desk_of old) (desk_of new)
     pub story : story_of new ≡ story_of old
     pub shelved : AreShelved kept ds kept'
     pub written : well ≡ true → Appends held held' (deeds_shown look ds)

@@ -20,7 +20,7 @@ use serde_json::Value as Json;
 pub(crate) fn next_line<P: PureFn, F: TurnFn, O: Watcher>(
     player: &mut Player<P, F, O>,
 ) -> Result<Passage, Halt>
-    ensures { Gave P.meaning F.log O.state player.old command.Continue (reply_of result) player.new }
+    ensures { Gave P.meaning F.log F.refusals O.state player.old command.Continue (reply_of result) player.new }
 {
     player.continue_line()
 }
@@ -30,7 +30,7 @@ pub(crate) fn take_choice<P: PureFn, F: TurnFn, O: Watcher>(
     player: &mut Player<P, F, O>,
     index: u32,
 ) -> Result<(), Refusal>
-    ensures { Gave P.meaning F.log O.state player.old (command.Choose index) (reply_of_landing result) player.new }
+    ensures { Gave P.meaning F.log F.refusals O.state player.old (command.Choose index) (reply_of_landing result) player.new }
 {
     player.choose(index)
 }
@@ -40,7 +40,7 @@ pub(crate) fn load_save<P: PureFn, F: TurnFn, O: Watcher>(
     player: &mut Player<P, F, O>,
     save: &Json,
 ) -> Result<Seq<Event>, Halt>
-    ensures { Gave P.meaning F.log O.state player.old (command.Load (Some (view save.now))) (reply_of_events result) player.new }
+    ensures { Gave P.meaning F.log F.refusals O.state player.old (command.Load (Some (view save.now))) (reply_of_events result) player.new }
 {
     player.load(save)
 }
@@ -49,7 +49,7 @@ pub(crate) fn load_save<P: PureFn, F: TurnFn, O: Watcher>(
 pub(crate) fn begin_anew<P: PureFn, F: TurnFn, O: Watcher>(
     player: &mut Player<P, F, O>,
 ) -> Result<Seq<Event>, Halt>
-    ensures { Gave P.meaning F.log O.state player.old command.Restart (reply_of_events result) player.new }
+    ensures { Gave P.meaning F.log F.refusals O.state player.old command.Restart (reply_of_events result) player.new }
 {
     player.restart()
 }
@@ -58,7 +58,7 @@ pub(crate) fn begin_anew<P: PureFn, F: TurnFn, O: Watcher>(
 pub(crate) fn save_of<P: PureFn, F: TurnFn, O: Watcher>(
     player: &Player<P, F, O>,
 ) -> Result<Text, Refusal>
-    ensures gave { (j : Data) × IsTextOf j result × Gave P.meaning F.log O.state player.now command.Save (reply_of_text j result) player.now }
+    ensures gave { (j : Data) × IsTextOf j result × Gave P.meaning F.log F.refusals O.state player.now command.Save (reply_of_text j result) player.now }
     ensures reads { IfOk result (λ text. (j : Data) × (text ≡ compact_text j) × ReadsAsState (story_of player.now) j (state_of player.now)) }
 {
     player.save_text()
@@ -68,7 +68,7 @@ pub(crate) fn save_of<P: PureFn, F: TurnFn, O: Watcher>(
 pub(crate) fn place_of<P: PureFn, F: TurnFn, O: Watcher>(
     player: &Player<P, F, O>,
 ) -> Result<Json, Refusal>
-    ensures { Gave P.meaning F.log O.state player.now command.Save (reply_of_json result) player.now }
+    ensures { Gave P.meaning F.log F.refusals O.state player.now command.Save (reply_of_json result) player.now }
 {
     player.save()
 }
@@ -78,7 +78,7 @@ pub(crate) fn value_of<P: PureFn, F: TurnFn, O: Watcher>(
     player: &Player<P, F, O>,
     name: &str,
 ) -> Result<Value, Refusal>
-    ensures { Gave P.meaning F.log O.state player.now (command.Get name.now) (reply_of_value result) player.now }
+    ensures { Gave P.meaning F.log F.refusals O.state player.now (command.Get name.now) (reply_of_value result) player.now }
 {
     player.get(name)
 }

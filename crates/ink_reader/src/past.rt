@@ -1,6 +1,6 @@
 //! Where a story stood.
 
-ghost use Rattle.std.specs.Prelude.{◌≡◌, ◌++◌, [], ◌∷◌, List, ℕ, Option, None, MatchOption, OnErr, OnOk, is_some};
+ghost use Rattle.std.specs.Prelude.{◌≡◌, ◌++◌, [], ◌∷◌, List, ℕ, Option, None, MatchOption, OnErr, OnOk, is_some, true};
 ghost use Rattle.std.specs.Option.{option_to_list};
 ghost use Rattle.ink_reader.specs.Kept.{Noted};
 
@@ -41,11 +41,13 @@ impl Past {
         self.here = here;
     }
 
-    /// The story went on from here, to which it can be gone back. The one error is a refused request for memory.
+    /// The story went on from here, to which it can be gone back. The one error is a refused request for memory, which is made
+    /// only where it stood at a choice that was noted.
     pub(crate) fn leave(&mut self) -> Result<(), AllocError>
         ensures here { self.new.here ≡ None }
         ensures before { OnOk result (self.new.before.items ≡ self.old.before.items ++ option_to_list self.old.here) }
         ensures stays { OnErr result (self.new.before.items ≡ self.old.before.items) }
+        ensures memory { OnErr result (is_some self.old.here ≡ true) }
         ensures noted { Noted self.old.before.items self.old.here self.new.before.items }
     {
         if let Some(here) = self.here.take() {

@@ -76,7 +76,7 @@ impl<P: PureFn, F: TurnFn, O: Watcher> Reader<P, F, O> {
         shelf: &mut S,
     ) -> Result<(), RunFault>
         ensures reads { (ds : List Deed) × UpTo (is_ok result) (IsCourse self.old.saves (places_of self.old.past) (asked_by typed.entry)) ds (places_of self.new.past)
-            × Played P.meaning F.log O.state self.old.look self.old.player ds self.new.player (T.contents sink.old) (T.contents sink.new) (S.kept shelf.old) (S.kept shelf.new) (is_ok result) }
+            × Played P.meaning F.log F.refusals O.state self.old.look self.old.player ds self.new.player (T.contents sink.old) (T.contents sink.new) (S.kept shelf.old) (S.kept shelf.new) (is_ok result) }
         ensures settings { (self.new.look ≡ self.old.look) × (self.new.saves ≡ self.old.saves) }
         ensures keeps { KeptAs (story_of self.new.player) (state_of self.new.player) (S.kept shelf.old) (S.kept shelf.new) }
         ensures notes { Notes (asked_by typed.entry) self.old.past.before.items self.old.past.here self.new.past.before.items }
@@ -103,7 +103,7 @@ impl<P: PureFn, F: TurnFn, O: Watcher> Reader<P, F, O> {
     /// Tells the story from where the player stands, up to where it stops.
     pub fn begin<T: Sink, S: Shelf>(&mut self, sink: &mut T, shelf: &mut S) -> Result<(), RunFault>
         ensures reads { (ds : List Deed) × UpTo (is_ok result) (IsBeginning self.old.saves (places_of self.old.past)) ds (places_of self.new.past)
-            × Played P.meaning F.log O.state self.old.look self.old.player ds self.new.player (T.contents sink.old) (T.contents sink.new) (S.kept shelf.old) (S.kept shelf.new) (is_ok result) }
+            × Played P.meaning F.log F.refusals O.state self.old.look self.old.player ds self.new.player (T.contents sink.old) (T.contents sink.new) (S.kept shelf.old) (S.kept shelf.new) (is_ok result) }
         ensures settings { (self.new.look ≡ self.old.look) × (self.new.saves ≡ self.old.saves) }
         ensures stops { OnOk result (is_running (state_of self.new.player).condition ≡ false) }
         ensures keeps { KeptAs (story_of self.new.player) (state_of self.new.player) (S.kept shelf.old) (S.kept shelf.new) }
@@ -124,7 +124,7 @@ impl<P: PureFn, F: TurnFn, O: Watcher> Reader<P, F, O> {
     ) -> Result<bool, RunFault>
         ensures reads { (ds : List Deed) × UpTo (is_ok result) (IsCourse self.old.saves (places_of self.old.past) asks.Load) ds (places_of self.new.past)
             × IfOk result (λ loaded. loaded ≡ has_loaded ds)
-            × Played P.meaning F.log O.state self.old.look self.old.player ds self.new.player (T.contents sink.old) (T.contents sink.new) (S.kept shelf.old) (S.kept shelf.new) (is_ok result) }
+            × Played P.meaning F.log F.refusals O.state self.old.look self.old.player ds self.new.player (T.contents sink.old) (T.contents sink.new) (S.kept shelf.old) (S.kept shelf.new) (is_ok result) }
         ensures look { self.new.look ≡ self.old.look }
         ensures saves { IfOk result (λ loaded. self.new.saves ≡ (self.old.saves && loaded)) }
         ensures keeps { KeptAs (story_of self.new.player) (state_of self.new.player) (S.kept shelf.old) (S.kept shelf.new) }
@@ -141,7 +141,7 @@ impl<P: PureFn, F: TurnFn, O: Watcher> Reader<P, F, O> {
     /// Saves where the story stands at a choice, unless it is not to save by itself: the reading ends.
     pub fn quit<T: Sink, S: Shelf>(&self, sink: &mut T, shelf: &mut S) -> Result<(), RunFault>
         ensures reads { (ds : List Deed) × UpTo (is_ok result) (IsEnding self.now.saves (places_of self.now.past)) ds (places_of self.now.past)
-            × Played P.meaning F.log O.state self.now.look self.now.player ds self.now.player (T.contents sink.old) (T.contents sink.new) (S.kept shelf.old) (S.kept shelf.new) (is_ok result) }
+            × Played P.meaning F.log F.refusals O.state self.now.look self.now.player ds self.now.player (T.contents sink.old) (T.contents sink.new) (S.kept shelf.old) (S.kept shelf.new) (is_ok result) }
         ensures keeps { KeptAs (story_of self.now.player) (state_of self.now.player) (S.kept shelf.old) (S.kept shelf.new) }
         ensures sink { Reports (writes_fail result) (T.failures sink.old) (T.failures sink.new) (T.name sink.old) (T.name sink.new) }
         ensures fault { IfErr result FailsToShow }

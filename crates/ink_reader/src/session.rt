@@ -27,7 +27,7 @@ impl<P: PureFn, F: TurnFn, O: Watcher> Reader<P, F, O> {
     ) -> Result<(), RunFault>
         ensures reads { (lines_read : List (Option (List ℕ))) × (ds : List Deed) × AreNext (L.coming lines.old) lines_read (L.coming lines.new)
             × ReadTo (is_ok result) (IsSession self.old.saves (places_of self.old.past)) lines_read ds (places_of self.new.past)
-            × Played P.meaning F.log O.state self.old.look self.old.player ds self.new.player (T.contents sink.old) (T.contents sink.new) (S.kept shelf.old) (S.kept shelf.new) (is_ok result) }
+            × Played P.meaning F.log F.refusals O.state self.old.look self.old.player ds self.new.player (T.contents sink.old) (T.contents sink.new) (S.kept shelf.old) (S.kept shelf.new) (is_ok result) }
         ensures look { self.new.look ≡ self.old.look }
         ensures sink { Reports (writes_fail result) (T.failures sink.old) (T.failures sink.new) (T.name sink.old) (T.name sink.new) }
         ensures lines { L.failures lines.new ≡ after_call (reads_fail result) (L.failures lines.old) }
@@ -48,7 +48,7 @@ impl<P: PureFn, F: TurnFn, O: Watcher> Reader<P, F, O> {
     ) -> Result<bool, RunFault>
         ensures reads { (lines_read : List (Option (List ℕ))) × (ds : List Deed) × AreNext (L.coming lines.old) lines_read (L.coming lines.new)
             × ReadBy result (IsSession self.old.saves (places_of self.old.past)) self.new.saves lines_read ds (places_of self.new.past)
-            × Played P.meaning F.log O.state self.old.look self.old.player ds self.new.player (T.contents sink.old) (T.contents sink.new) (S.kept shelf.old) (S.kept shelf.new) (is_ok result) }
+            × Played P.meaning F.log F.refusals O.state self.old.look self.old.player ds self.new.player (T.contents sink.old) (T.contents sink.new) (S.kept shelf.old) (S.kept shelf.new) (is_ok result) }
         ensures look { self.new.look ≡ self.old.look }
         ensures sink { Reports (writes_fail result) (T.failures sink.old) (T.failures sink.new) (T.name sink.old) (T.name sink.new) }
         ensures lines { L.failures lines.new ≡ after_call (reads_fail result) (L.failures lines.old) }
@@ -70,7 +70,7 @@ impl<P: PureFn, F: TurnFn, O: Watcher> Reader<P, F, O> {
     ) -> Result<bool, RunFault>
         ensures reads { (lines_read : List (Option (List ℕ))) × (ds : List Deed) × AreNext (L.coming lines.old) lines_read (L.coming lines.new)
             × ReadBy result (IsOffer self.old.saves (places_of self.old.past)) self.new.saves lines_read ds (places_of self.new.past)
-            × Played P.meaning F.log O.state self.old.look self.old.player ds self.new.player (T.contents sink.old) (T.contents sink.new) (S.kept shelf.old) (S.kept shelf.new) (is_ok result) }
+            × Played P.meaning F.log F.refusals O.state self.old.look self.old.player ds self.new.player (T.contents sink.old) (T.contents sink.new) (S.kept shelf.old) (S.kept shelf.new) (is_ok result) }
         ensures look { self.new.look ≡ self.old.look }
         ensures sink { Reports (writes_fail result) (T.failures sink.old) (T.failures sink.new) (T.name sink.old) (T.name sink.new) }
         ensures lines { L.failures lines.new ≡ after_call (reads_fail result) (L.failures lines.old) }
@@ -94,7 +94,7 @@ impl<P: PureFn, F: TurnFn, O: Watcher> Reader<P, F, O> {
         shelf: &mut S,
     ) -> Result<bool, RunFault>
         ensures reads { (ds : List Deed) × ReadBy result (Starts (bytes_eq wish.now (codes "n")) self.old.saves (places_of self.old.past)) self.new.saves [] ds (places_of self.new.past)
-            × Played P.meaning F.log O.state self.old.look self.old.player ds self.new.player (T.contents sink.old) (T.contents sink.new) (S.kept shelf.old) (S.kept shelf.new) (is_ok result) }
+            × Played P.meaning F.log F.refusals O.state self.old.look self.old.player ds self.new.player (T.contents sink.old) (T.contents sink.new) (S.kept shelf.old) (S.kept shelf.new) (is_ok result) }
         ensures look { self.new.look ≡ self.old.look }
         ensures sink { Reports (writes_fail result) (T.failures sink.old) (T.failures sink.new) (T.name sink.old) (T.name sink.new) }
         ensures fault { reads_fail result ≡ false }
@@ -111,7 +111,7 @@ impl<P: PureFn, F: TurnFn, O: Watcher> Reader<P, F, O> {
     // Begins the story: the reading goes on.
     fn start<T: Sink, S: Shelf>(&mut self, sink: &mut T, shelf: &mut S) -> Result<bool, RunFault>
         ensures reads { (ds : List Deed) × ReadBy result (Begins self.old.saves (places_of self.old.past)) self.old.saves [] ds (places_of self.new.past)
-            × Played P.meaning F.log O.state self.old.look self.old.player ds self.new.player (T.contents sink.old) (T.contents sink.new) (S.kept shelf.old) (S.kept shelf.new) (is_ok result) }
+            × Played P.meaning F.log F.refusals O.state self.old.look self.old.player ds self.new.player (T.contents sink.old) (T.contents sink.new) (S.kept shelf.old) (S.kept shelf.new) (is_ok result) }
         ensures settings { (self.new.look ≡ self.old.look) × (self.new.saves ≡ self.old.saves) }
         ensures sink { Reports (writes_fail result) (T.failures sink.old) (T.failures sink.new) (T.name sink.old) (T.name sink.new) }
         ensures fault { reads_fail result ≡ false }
@@ -129,7 +129,7 @@ impl<P: PureFn, F: TurnFn, O: Watcher> Reader<P, F, O> {
     ) -> Result<(), RunFault>
         ensures reads { (lines_read : List (Option (List ℕ))) × (ds : List Deed) × AreNext (L.coming lines.old) lines_read (L.coming lines.new)
             × ReadTo (is_ok result) (IsReading self.old.saves (places_of self.old.past)) lines_read ds (places_of self.new.past)
-            × Played P.meaning F.log O.state self.old.look self.old.player ds self.new.player (T.contents sink.old) (T.contents sink.new) (S.kept shelf.old) (S.kept shelf.new) (is_ok result) }
+            × Played P.meaning F.log F.refusals O.state self.old.look self.old.player ds self.new.player (T.contents sink.old) (T.contents sink.new) (S.kept shelf.old) (S.kept shelf.new) (is_ok result) }
         ensures settings { (self.new.look ≡ self.old.look) × (self.new.saves ≡ self.old.saves) }
         ensures sink { Reports (writes_fail result) (T.failures sink.old) (T.failures sink.new) (T.name sink.old) (T.name sink.new) }
         ensures lines { L.failures lines.new ≡ after_call (reads_fail result) (L.failures lines.old) }
@@ -152,7 +152,7 @@ impl<P: PureFn, F: TurnFn, O: Watcher> Reader<P, F, O> {
     ) -> Result<bool, RunFault>
         ensures reads { (lines_read : List (Option (List ℕ))) × (ds : List Deed) × AreNext (L.coming lines.old) lines_read (L.coming lines.new)
             × ReadBy result (IsReading self.old.saves (places_of self.old.past)) self.old.saves lines_read ds (places_of self.new.past)
-            × Played P.meaning F.log O.state self.old.look self.old.player ds self.new.player (T.contents sink.old) (T.contents sink.new) (S.kept shelf.old) (S.kept shelf.new) (is_ok result) }
+            × Played P.meaning F.log F.refusals O.state self.old.look self.old.player ds self.new.player (T.contents sink.old) (T.contents sink.new) (S.kept shelf.old) (S.kept shelf.new) (is_ok result) }
         ensures settings { (self.new.look ≡ self.old.look) × (self.new.saves ≡ self.old.saves) }
         ensures sink { Reports (writes_fail result) (T.failures sink.old) (T.failures sink.new) (T.name sink.old) (T.name sink.new) }
         ensures lines { L.failures lines.new ≡ after_call (reads_fail result) (L.failures lines.old) }
@@ -174,7 +174,7 @@ impl<P: PureFn, F: TurnFn, O: Watcher> Reader<P, F, O> {
     ) -> Result<bool, RunFault>
         ensures reads { (ds : List Deed) × UpTo (is_ok result) (Follows self.old.saves (places_of self.old.past) (asked_by typed.entry)) ds (places_of self.new.past)
             × IfOk result (λ goes. quits (asked_by typed.entry) ≡ not goes)
-            × Played P.meaning F.log O.state self.old.look self.old.player ds self.new.player (T.contents sink.old) (T.contents sink.new) (S.kept shelf.old) (S.kept shelf.new) (is_ok result) }
+            × Played P.meaning F.log F.refusals O.state self.old.look self.old.player ds self.new.player (T.contents sink.old) (T.contents sink.new) (S.kept shelf.old) (S.kept shelf.new) (is_ok result) }
         ensures settings { (self.new.look ≡ self.old.look) × (self.new.saves ≡ self.old.saves) }
         ensures sink { Reports (writes_fail result) (T.failures sink.old) (T.failures sink.new) (T.name sink.old) (T.name sink.new) }
         ensures fault { reads_fail result ≡ false }
@@ -192,7 +192,7 @@ impl<P: PureFn, F: TurnFn, O: Watcher> Reader<P, F, O> {
     fn end<T: Sink, S: Shelf>(&self, sink: &mut T, shelf: &mut S) -> Result<bool, RunFault>
         ensures reads { (ds : List Deed) × UpTo (is_ok result) (IsEnding self.now.saves (places_of self.now.past)) ds (places_of self.now.past)
             × IfOk result (λ goes. goes ≡ false)
-            × Played P.meaning F.log O.state self.now.look self.now.player ds self.now.player (T.contents sink.old) (T.contents sink.new) (S.kept shelf.old) (S.kept shelf.new) (is_ok result) }
+            × Played P.meaning F.log F.refusals O.state self.now.look self.now.player ds self.now.player (T.contents sink.old) (T.contents sink.new) (S.kept shelf.old) (S.kept shelf.new) (is_ok result) }
         ensures sink { Reports (writes_fail result) (T.failures sink.old) (T.failures sink.new) (T.name sink.old) (T.name sink.new) }
         ensures fault { IfErr result FailsToShow }
     {

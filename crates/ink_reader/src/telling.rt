@@ -49,7 +49,7 @@ pub(crate) fn tell<T: Sink, P: PureFn, F: TurnFn, O: Watcher>(
     sink: &mut T,
     player: &mut Player<P, F, O>,
 ) -> Result<Told, RunFault>
-    ensures lines { (ds : List Deed) × ToldBy result ds × ((kept : Option (Option (List ℕ))) → Played P.meaning F.log O.state look player.old ds player.new (T.contents sink.old) (T.contents sink.new) kept kept (is_ok result)) }
+    ensures lines { (ds : List Deed) × ToldBy result ds × ((kept : Option (Option (List ℕ))) → Played P.meaning F.log F.refusals O.state look player.old ds player.new (T.contents sink.old) (T.contents sink.new) kept kept (is_ok result)) }
     ensures stops { OnOk result (is_running (state_of player.new).condition ≡ false) }
     ensures sink { Reports (writes_fail result) (T.failures sink.old) (T.failures sink.new) (T.name sink.old) (T.name sink.new) }
     ensures fault { reads_fail result ≡ false }
@@ -75,7 +75,7 @@ fn tell_line<T: Sink, P: PureFn, F: TurnFn, O: Watcher>(
     player: &mut Player<P, F, O>,
 ) -> Result<Told, RunFault>
     ensures line { (place : Reply) × (reply : Reply) × (ds : List Deed) × IsBreak place reply ds × IfOk result (λ end. end ≡ end_after reply)
-        × ((kept : Option (Option (List ℕ))) → Played P.meaning F.log O.state look player.old (Gives command.Save place ∷ Gives command.Continue reply ∷ ds) player.new (T.contents sink.old) (T.contents sink.new) kept kept (is_ok result)) }
+        × ((kept : Option (Option (List ℕ))) → Played P.meaning F.log F.refusals O.state look player.old (Gives command.Save place ∷ Gives command.Continue reply ∷ ds) player.new (T.contents sink.old) (T.contents sink.new) kept kept (is_ok result)) }
     ensures stops { IfOk result (λ end. end ≡ Told.Break → is_running (state_of player.new).condition ≡ false) }
     ensures sink { Reports (writes_fail result) (T.failures sink.old) (T.failures sink.new) (T.name sink.old) (T.name sink.new) }
     ensures fault { IfErr result FailsToShow }

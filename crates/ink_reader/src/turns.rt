@@ -37,7 +37,7 @@ impl<P: PureFn, F: TurnFn, O: Watcher> Reader<P, F, O> {
         shelf: &mut S,
     ) -> Result<(), RunFault>
         ensures reads { (ds : List Deed) × UpTo (is_ok result) (IsBeginning self.old.saves (places_of self.old.past)) ds (places_of self.new.past)
-            × Played P.meaning F.log O.state self.old.look self.old.player ds self.new.player (T.contents sink.old) (T.contents sink.new) (S.kept shelf.old) (S.kept shelf.new) (is_ok result) }
+            × Played P.meaning F.log F.refusals O.state self.old.look self.old.player ds self.new.player (T.contents sink.old) (T.contents sink.new) (S.kept shelf.old) (S.kept shelf.new) (is_ok result) }
         ensures settings { (self.new.look ≡ self.old.look) × (self.new.saves ≡ self.old.saves) }
         ensures stops { OnOk result (is_running (state_of self.new.player).condition ≡ false) }
         ensures keeps { KeptAs (story_of self.new.player) (state_of self.new.player) (S.kept shelf.old) (S.kept shelf.new) }
@@ -60,7 +60,7 @@ impl<P: PureFn, F: TurnFn, O: Watcher> Reader<P, F, O> {
     ) -> Result<(), RunFault>
         requires { self.old.past.here ≡ None }
         ensures reads { (ds : List Deed) × UpTo (is_ok result) (λ ds new. IsStop self.old.saves told ds new.here) ds (places_of self.new.past)
-            × Played P.meaning F.log O.state self.old.look self.old.player ds self.new.player (T.contents sink.old) (T.contents sink.new) (S.kept shelf.old) (S.kept shelf.new) (is_ok result) }
+            × Played P.meaning F.log F.refusals O.state self.old.look self.old.player ds self.new.player (T.contents sink.old) (T.contents sink.new) (S.kept shelf.old) (S.kept shelf.new) (is_ok result) }
         ensures settings { (self.new.look ≡ self.old.look) × (self.new.saves ≡ self.old.saves) }
         ensures player { self.new.player ≡ self.old.player }
         ensures keeps { KeptAs (story_of self.new.player) (state_of self.new.player) (S.kept shelf.old) (S.kept shelf.new) }
@@ -82,7 +82,7 @@ impl<P: PureFn, F: TurnFn, O: Watcher> Reader<P, F, O> {
     fn note<T: Sink, S: Shelf>(&mut self, sink: &mut T, shelf: &mut S) -> Result<(), RunFault>
         requires { self.old.past.here ≡ None }
         ensures reads { (ds : List Deed) × UpTo (is_ok result) (λ ds new. IsNoted self.old.saves ds new.here) ds (places_of self.new.past)
-            × Played P.meaning F.log O.state self.old.look self.old.player ds self.new.player (T.contents sink.old) (T.contents sink.new) (S.kept shelf.old) (S.kept shelf.new) (is_ok result) }
+            × Played P.meaning F.log F.refusals O.state self.old.look self.old.player ds self.new.player (T.contents sink.old) (T.contents sink.new) (S.kept shelf.old) (S.kept shelf.new) (is_ok result) }
         ensures settings { (self.new.look ≡ self.old.look) × (self.new.saves ≡ self.old.saves) }
         ensures player { self.new.player ≡ self.old.player }
         ensures keeps { KeptAs (story_of self.new.player) (state_of self.new.player) (S.kept shelf.old) (S.kept shelf.new) }
@@ -112,7 +112,7 @@ impl<P: PureFn, F: TurnFn, O: Watcher> Reader<P, F, O> {
         shelf: &mut S,
     ) -> Result<(), RunFault>
         ensures reads { (ds : List Deed) × SavesItself self.now.saves save.now ds
-            × Played P.meaning F.log O.state self.now.look self.now.player ds self.now.player (T.contents sink.old) (T.contents sink.new) (S.kept shelf.old) (S.kept shelf.new) (is_ok result) }
+            × Played P.meaning F.log F.refusals O.state self.now.look self.now.player ds self.now.player (T.contents sink.old) (T.contents sink.new) (S.kept shelf.old) (S.kept shelf.new) (is_ok result) }
         ensures keeps { (S.kept shelf.new ≡ S.kept shelf.old) ⊎ (S.kept shelf.new ≡ Some (Some save.now)) }
         ensures sink { Reports (writes_fail result) (T.failures sink.old) (T.failures sink.new) (T.name sink.old) (T.name sink.new) }
         ensures fault { IfErr result FailsToShow }
@@ -133,7 +133,7 @@ impl<P: PureFn, F: TurnFn, O: Watcher> Reader<P, F, O> {
         shelf: &mut S,
     ) -> Result<(), RunFault>
         ensures reads { (ds : List Deed) × UpTo (is_ok result) (IsCourse self.old.saves (places_of self.old.past) (asks.Choice number)) ds (places_of self.new.past)
-            × Played P.meaning F.log O.state self.old.look self.old.player ds self.new.player (T.contents sink.old) (T.contents sink.new) (S.kept shelf.old) (S.kept shelf.new) (is_ok result) }
+            × Played P.meaning F.log F.refusals O.state self.old.look self.old.player ds self.new.player (T.contents sink.old) (T.contents sink.new) (S.kept shelf.old) (S.kept shelf.new) (is_ok result) }
         ensures settings { (self.new.look ≡ self.old.look) × (self.new.saves ≡ self.old.saves) }
         ensures keeps { KeptAs (story_of self.new.player) (state_of self.new.player) (S.kept shelf.old) (S.kept shelf.new) }
         ensures notes { Notes (asks.Choice number) self.old.past.before.items self.old.past.here self.new.past.before.items }
@@ -154,7 +154,7 @@ impl<P: PureFn, F: TurnFn, O: Watcher> Reader<P, F, O> {
     #[tactic(auto, using(crate::proofs::Causes::unread, crate::proofs::Causes::unread_shown))]
     fn leave<T: Sink, S: Shelf>(&mut self, sink: &mut T, shelf: &mut S) -> Result<(), RunFault>
         ensures reads { (ds : List Deed) × UpTo (is_ok result) (GoesOn self.old.saves (places_of self.old.past)) ds (places_of self.new.past)
-            × Played P.meaning F.log O.state self.old.look self.old.player ds self.new.player (T.contents sink.old) (T.contents sink.new) (S.kept shelf.old) (S.kept shelf.new) (is_ok result) }
+            × Played P.meaning F.log F.refusals O.state self.old.look self.old.player ds self.new.player (T.contents sink.old) (T.contents sink.new) (S.kept shelf.old) (S.kept shelf.new) (is_ok result) }
         ensures settings { (self.new.look ≡ self.old.look) × (self.new.saves ≡ self.old.saves) }
         ensures keeps { KeptAs (story_of self.new.player) (state_of self.new.player) (S.kept shelf.old) (S.kept shelf.new) }
         ensures noted { Noted self.old.past.before.items self.old.past.here self.new.past.before.items }
@@ -180,7 +180,7 @@ impl<P: PureFn, F: TurnFn, O: Watcher> Reader<P, F, O> {
         shelf: &mut S,
     ) -> Result<(), RunFault>
         ensures reads { (ds : List Deed) × UpTo (is_ok result) (IsCourse self.old.saves (places_of self.old.past) asks.Back) ds (places_of self.new.past)
-            × Played P.meaning F.log O.state self.old.look self.old.player ds self.new.player (T.contents sink.old) (T.contents sink.new) (S.kept shelf.old) (S.kept shelf.new) (is_ok result) }
+            × Played P.meaning F.log F.refusals O.state self.old.look self.old.player ds self.new.player (T.contents sink.old) (T.contents sink.new) (S.kept shelf.old) (S.kept shelf.new) (is_ok result) }
         ensures settings { (self.new.look ≡ self.old.look) × (self.new.saves ≡ self.old.saves) }
         ensures keeps { KeptAs (story_of self.new.player) (state_of self.new.player) (S.kept shelf.old) (S.kept shelf.new) }
         ensures notes { Notes asks.Back self.old.past.before.items self.old.past.here self.new.past.before.items }
@@ -214,7 +214,7 @@ impl<P: PureFn, F: TurnFn, O: Watcher> Reader<P, F, O> {
     // Stands where a save stands, and tells whether it does; where it does not, it says why.
     fn stand_at<T: Sink>(&mut self, json: &Json, sink: &mut T) -> Result<bool, RunFault>
         ensures loads { (reply : Reply) × IfOk result (λ stands. stands ≡ acts reply)
-            × ((kept : Option (Option (List ℕ))) → Played P.meaning F.log O.state self.old.look self.old.player (Gives (command.Load (Some (view json.now))) reply ∷ []) self.new.player (T.contents sink.old) (T.contents sink.new) kept kept (is_ok result)) }
+            × ((kept : Option (Option (List ℕ))) → Played P.meaning F.log F.refusals O.state self.old.look self.old.player (Gives (command.Load (Some (view json.now))) reply ∷ []) self.new.player (T.contents sink.old) (T.contents sink.new) kept kept (is_ok result)) }
         ensures settings { (self.new.look ≡ self.old.look) × (self.new.saves ≡ self.old.saves) }
         ensures past { self.new.past ≡ self.old.past }
         ensures sink { Reports (writes_fail result) (T.failures sink.old) (T.failures sink.new) (T.name sink.old) (T.name sink.new) }
@@ -232,7 +232,7 @@ impl<P: PureFn, F: TurnFn, O: Watcher> Reader<P, F, O> {
         shelf: &mut S,
     ) -> Result<(), RunFault>
         ensures reads { (ds : List Deed) × UpTo (is_ok result) (IsCourse self.old.saves (places_of self.old.past) asks.Restart) ds (places_of self.new.past)
-            × Played P.meaning F.log O.state self.old.look self.old.player ds self.new.player (T.contents sink.old) (T.contents sink.new) (S.kept shelf.old) (S.kept shelf.new) (is_ok result) }
+            × Played P.meaning F.log F.refusals O.state self.old.look self.old.player ds self.new.player (T.contents sink.old) (T.contents sink.new) (S.kept shelf.old) (S.kept shelf.new) (is_ok result) }
         ensures settings { (self.new.look ≡ self.old.look) × (self.new.saves ≡ self.old.saves) }
         ensures keeps { KeptAs (story_of self.new.player) (state_of self.new.player) (S.kept shelf.old) (S.kept shelf.new) }
         ensures notes { Notes asks.Restart self.old.past.before.items self.old.past.here self.new.past.before.items }
@@ -249,7 +249,7 @@ impl<P: PureFn, F: TurnFn, O: Watcher> Reader<P, F, O> {
 
     /// Tells a global's value.
     pub(crate) fn tell_variable<T: Sink>(&self, name: &str, sink: &mut T) -> Result<(), RunFault>
-        ensures shows { (reply : Reply) × ((kept : Option (Option (List ℕ))) → Played P.meaning F.log O.state self.now.look self.now.player (Gives (command.Get name.now) reply ∷ []) self.now.player (T.contents sink.old) (T.contents sink.new) kept kept (is_ok result)) }
+        ensures shows { (reply : Reply) × ((kept : Option (Option (List ℕ))) → Played P.meaning F.log F.refusals O.state self.now.look self.now.player (Gives (command.Get name.now) reply ∷ []) self.now.player (T.contents sink.old) (T.contents sink.new) kept kept (is_ok result)) }
         ensures sink { Reports (writes_fail result) (T.failures sink.old) (T.failures sink.new) (T.name sink.old) (T.name sink.new) }
         ensures fault { IfErr result FailsToShow }
     {
@@ -265,7 +265,7 @@ impl<P: PureFn, F: TurnFn, O: Watcher> Reader<P, F, O> {
         sink: &mut T,
         shelf: &mut S,
     ) -> Result<(), RunFault>
-        ensures reads { (ds : List Deed) × IsSaving ds × Played P.meaning F.log O.state self.now.look self.now.player ds self.now.player (T.contents sink.old) (T.contents sink.new) (S.kept shelf.old) (S.kept shelf.new) (is_ok result) }
+        ensures reads { (ds : List Deed) × IsSaving ds × Played P.meaning F.log F.refusals O.state self.now.look self.now.player ds self.now.player (T.contents sink.old) (T.contents sink.new) (S.kept shelf.old) (S.kept shelf.new) (is_ok result) }
         ensures keeps { KeptAs (story_of self.now.player) (state_of self.now.player) (S.kept shelf.old) (S.kept shelf.new) }
         ensures sink { Reports (writes_fail result) (T.failures sink.old) (T.failures sink.new) (T.name sink.old) (T.name sink.new) }
         ensures fault { IfErr result FailsToShow }
@@ -283,7 +283,7 @@ impl<P: PureFn, F: TurnFn, O: Watcher> Reader<P, F, O> {
         sink: &mut T,
         shelf: &mut S,
     ) -> Result<(), RunFault>
-        ensures reads { (answer : Result (Unit {0}) NotKept) × Played P.meaning F.log O.state self.now.look self.now.player (Keeps save.now answer ∷ saving_told answer) self.now.player (T.contents sink.old) (T.contents sink.new) (S.kept shelf.old) (S.kept shelf.new) (is_ok result) }
+        ensures reads { (answer : Result (Unit {0}) NotKept) × Played P.meaning F.log F.refusals O.state self.now.look self.now.player (Keeps save.now answer ∷ saving_told answer) self.now.player (T.contents sink.old) (T.contents sink.new) (S.kept shelf.old) (S.kept shelf.new) (is_ok result) }
         ensures keeps { (S.kept shelf.new ≡ S.kept shelf.old) ⊎ (S.kept shelf.new ≡ Some (Some save.now)) }
         ensures sink { Reports (writes_fail result) (T.failures sink.old) (T.failures sink.new) (T.name sink.old) (T.name sink.new) }
         ensures fault { IfErr result FailsToShow }
@@ -303,7 +303,7 @@ impl<P: PureFn, F: TurnFn, O: Watcher> Reader<P, F, O> {
     ) -> Result<bool, RunFault>
         ensures reads { (ds : List Deed) × UpTo (is_ok result) (IsCourse self.old.saves (places_of self.old.past) asks.Load) ds (places_of self.new.past)
             × IfOk result (λ loaded. loaded ≡ has_loaded ds)
-            × Played P.meaning F.log O.state self.old.look self.old.player ds self.new.player (T.contents sink.old) (T.contents sink.new) (S.kept shelf.old) (S.kept shelf.new) (is_ok result) }
+            × Played P.meaning F.log F.refusals O.state self.old.look self.old.player ds self.new.player (T.contents sink.old) (T.contents sink.new) (S.kept shelf.old) (S.kept shelf.new) (is_ok result) }
         ensures settings { (self.new.look ≡ self.old.look) × (self.new.saves ≡ self.old.saves) }
         ensures keeps { KeptAs (story_of self.new.player) (state_of self.new.player) (S.kept shelf.old) (S.kept shelf.new) }
         ensures notes { Notes asks.Load self.old.past.before.items self.old.past.here self.new.past.before.items }

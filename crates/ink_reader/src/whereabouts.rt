@@ -24,7 +24,7 @@ pub(crate) fn next_path<P: PureFn, F: TurnFn, O: Watcher>(
     alloc: Global,
     player: &Player<P, F, O>,
 ) -> Result<Option<Text>, AllocError>
-    ensures { (place : Reply) × TellsPlace place (whereabouts_told result) × Gave P.meaning F.log O.state player.now command.Save place player.now }
+    ensures { (place : Reply) × TellsPlace place (whereabouts_told result) × Gave P.meaning F.log F.refusals O.state player.now command.Save place player.now }
 {
     match place_of(player) {
         Ok(save) => flow_path(alloc, &save),

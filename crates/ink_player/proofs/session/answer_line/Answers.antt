@@ -5,9 +5,5 @@ use Rattle.ink_player.proofs.session.answer_line.Goals as goal
 
 pub returns-in-Some-clause-answers : goal.returns-in-Some-clause-answers
 returns-in-Some-clause-answers g c =
-    let served = c.outcome_of-outcome.ensures.serves in (
-      served.0,
-      answered_by _ _ served.0 _ _ _ _ _ c.write_answer.result (reply_by served.1 c.outcome_of-outcome.result) _ served.3 (c.as_bytes.ensures.value ∙ c.in-Some.ensures.text served.1)
-          c.write_answer.ensures.written,
-      served.4,
-    )
+    let served = c.outcome_of-outcome.ensures.serves in
+    answered_by g.F.TurnFn.log g.F.TurnFn.refusals g.O.Watcher.state _ _ _ _ _ _ _ c.write_answer.result (reply_by served.0 c.outcome_of-outcome.result) _ served.2 (c.as_bytes.ensures.value ∙ c.in-Some.ensures.text served.0) c.write_answer.ensures.written

@@ -6,7 +6,7 @@ use Rattle.ink_model.specs.Answer.{Refuses, reply_of_events}
 use Rattle.ink_model.specs.Session.{Load}
 use Rattle.ink_model.specs.declared.fault.Refusal.TheVariants as refusal
 use Rattle.ink_player.specs.Words.{bindings, desk_of, state_of, story_of}
-use Rattle.ink_player.proofs.Tellings.{dealt-none, dealt-once}
+use Rattle.ink_player.proofs.Tellings.{once-none}
 use Rattle.ink_player.proofs.session.load.Goals as goal
 
 pub returns-in_default-clause-does : goal.returns-in_default-clause-does
@@ -15,7 +15,7 @@ returns-in_default-clause-does g c =
     let h = bindings g.P.PureFn.meaning (desk_of p) in (
       [],
       subst (λ (v : Option Value). Load (story_of p) h [] (option_map view v) (state_of p) (Refuses refusal.BadSave) (state_of p)) (sym c.in_default.is) (refl, (refl, refl)),
-      dealt-none g.F.TurnFn.log g.O.Watcher.state (desk_of p),
+      once-none g.F.TurnFn.log g.O.Watcher.state (desk_of p),
     )
 
 pub returns-clause-does : goal.returns-clause-does
@@ -24,5 +24,5 @@ returns-clause-does g c =
     let does = c.load.ensures.does in (
       does.0,
       subst (λ (v : Option Value). Load (story_of p) (bindings g.P.PureFn.meaning (desk_of p)) does.0 (option_map view v) (state_of p) (reply_of_events c.load.result) (state_of c.load.new.self)) (sym c.in-Some.is) does.1,
-      dealt-once g.F.TurnFn.log g.O.Watcher.state _ (desk_of p) (desk_of c.load.new.self) does.0 (reply_of_events c.load.result) does.2,
+      does.2,
     )

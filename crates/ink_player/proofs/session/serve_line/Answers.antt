@@ -1,46 +1,29 @@
-use Rattle.std.proofs.Common.{[], ◌<◌, ◌≡◌, length, Ok, Err, sym, vec_len, arith}
+use Rattle.std.proofs.Common.{◌<◌, ◌≡◌, length, Ok, Err, sym, vec_len, arith}
 use Rattle.std.proofs.lemmas.Bool.{eqb-false, eqb-true}
 use Rattle.ink_player.proofs.Sessions.{no_last, no_line, none_left, whole_unserved, last_unserved, last_served, answers_as}
-use Rattle.ink_player.proofs.Tellings.{dealt-none}
 use Rattle.ink_player.proofs.session.serve_line.Goals as goal
 
 pub returns-in-Err-clause-next : goal.returns-in-Err-clause-next
-returns-in-Err-clause-next g c =
-    ([], no_line _ _ _ _ _ _ _ c.in-Err.ensures.bound _ c.in-Err.fault c.bounds.ensures c.in-Err.ensures.gives, dealt-none g.F.TurnFn.log g.O.Watcher.state _)
+returns-in-Err-clause-next g c = no_line g.F.TurnFn.log g.F.TurnFn.refusals g.O.Watcher.state _ _ _ _ _ _ _ c.in-Err.ensures.bound _ c.in-Err.fault c.bounds.ensures c.in-Err.ensures.gives
 
 pub returns-in-Err-answer_line-clause-next : goal.returns-in-Err-answer_line-clause-next
 returns-in-Err-answer_line-clause-next g c =
-    let answers = c.in-Err-answer_line.ensures.answers in (
-      answers.0,
-      whole_unserved _ _ _ _ _ _ _ c.in-Ok.ensures.bound _ answers.0 _ c.in-Whole.line.items _ c.in-Err-answer_line.fault (rw c.in-Whole.is at c.in-Ok.ensures.gives)
-          (answers_as _ _ _ _ _ _ _ _ _ (Err c.in-Err-answer_line.fault) c.deref.ensures.value answers.1),
-      answers.2,
-    )
+    whole_unserved g.F.TurnFn.log g.F.TurnFn.refusals g.O.Watcher.state _ _ _ _ _ _ _ c.in-Ok.ensures.bound _ _ c.in-Whole.line.items _ c.in-Err-answer_line.fault (rw c.in-Whole.is at c.in-Ok.ensures.gives)
+    (answers_as g.F.TurnFn.log g.F.TurnFn.refusals g.O.Watcher.state _ _ _ _ _ _ _ _ (Err c.in-Err-answer_line.fault) c.deref.ensures.value c.in-Err-answer_line.ensures.answers)
 
 pub returns-in-Err-answer_line-2-clause-next : goal.returns-in-Err-answer_line-2-clause-next
 returns-in-Err-answer_line-2-clause-next g c =
     let some : 0 < length c.in-Last.line.items = omega (arith, eqb-false (vec_len c.in-Last.line) 0 (sym c.if-is_empty.ensures), c.in-Last.line.ok.0) in
-    let answers = c.in-Err-answer_line-2.ensures.answers in (
-      answers.0,
-      last_unserved _ _ _ _ _ _ _ c.in-Ok.ensures.bound _ answers.0 _ c.in-Last.line.items _ c.in-Err-answer_line-2.fault (rw c.in-Last.is at c.in-Ok.ensures.gives) some
-          (answers_as _ _ _ _ _ _ _ _ _ (Err c.in-Err-answer_line-2.fault) c.deref-in-Last.ensures.value answers.1),
-      answers.2,
-    )
+    last_unserved g.F.TurnFn.log g.F.TurnFn.refusals g.O.Watcher.state _ _ _ _ _ _ _ c.in-Ok.ensures.bound _ _ c.in-Last.line.items _ c.in-Err-answer_line-2.fault (rw c.in-Last.is at c.in-Ok.ensures.gives) some
+    (answers_as g.F.TurnFn.log g.F.TurnFn.refusals g.O.Watcher.state _ _ _ _ _ _ _ _ (Err c.in-Err-answer_line-2.fault) c.deref-in-Last.ensures.value c.in-Err-answer_line-2.ensures.answers)
 
 pub returns-in_default-answer_line-clause-next : goal.returns-in_default-answer_line-clause-next
 returns-in_default-answer_line-clause-next g c =
     let some : 0 < length c.in-Last.line.items = omega (arith, eqb-false (vec_len c.in-Last.line) 0 (sym c.if-is_empty.ensures), c.in-Last.line.ok.0) in
-    let answers = c.in_default-answer_line.ensures.answers in (
-      answers.0,
-      last_served _ _ _ _ _ _ _ c.in-Ok.ensures.bound _ answers.0 _ c.in-Last.line.items _ (rw c.in-Last.is at c.in-Ok.ensures.gives) some
-          (answers_as _ _ _ _ _ _ _ _ _ (Ok tt) c.deref-in-Last.ensures.value answers.1),
-      answers.2,
-    )
+    last_served g.F.TurnFn.log g.F.TurnFn.refusals g.O.Watcher.state _ _ _ _ _ _ _ c.in-Ok.ensures.bound _ _ c.in-Last.line.items _ (rw c.in-Last.is at c.in-Ok.ensures.gives) some
+    (answers_as g.F.TurnFn.log g.F.TurnFn.refusals g.O.Watcher.state _ _ _ _ _ _ _ _ (Ok tt) c.deref-in-Last.ensures.value c.in_default-answer_line.ensures.answers)
 
 pub returns-then-is_empty-clause-next : goal.returns-then-is_empty-clause-next
 returns-then-is_empty-clause-next g c =
-    let none : length c.in-Last.line.items ≡ 0 = omega (arith, eqb-true (vec_len c.in-Last.line) 0 (sym c.if-is_empty.ensures), c.in-Last.line.ok.0) in (
-      [],
-      no_last _ _ _ _ _ _ _ c.in-Ok.ensures.bound _ c.in-Last.line.items (rw c.in-Last.is at c.in-Ok.ensures.gives) (none_left c.in-Last.line.items none),
-      dealt-none g.F.TurnFn.log g.O.Watcher.state _,
-    )
+    let none : length c.in-Last.line.items ≡ 0 = omega (arith, eqb-true (vec_len c.in-Last.line) 0 (sym c.if-is_empty.ensures), c.in-Last.line.ok.0) in
+    no_last g.F.TurnFn.log g.F.TurnFn.refusals g.O.Watcher.state _ _ _ _ _ _ _ c.in-Ok.ensures.bound _ c.in-Last.line.items (rw c.in-Last.is at c.in-Ok.ensures.gives) (none_left c.in-Last.line.items none)

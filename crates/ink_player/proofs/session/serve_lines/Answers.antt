@@ -1,60 +1,39 @@
-use Rattle.std.proofs.Common.{[], ◌++◌, ◌∙◌, append_assoc, refl, sym, Ok, Err}
-use Rattle.ink_player.proofs.Sessions.{runs_as, runs_more}
-use Rattle.ink_player.specs.Words.{desk_of}
-use Rattle.ink_player.proofs.Tellings.{bindings-same, dealt-dealt, dealt-none}
+use Rattle.std.proofs.Common.{◌∙◌, refl, Ok, Err}
+use Rattle.ink_model.specs.Command.{command_of}
+use Rattle.ink_player.proofs.Dealing.{command_binds}
+use Rattle.ink_player.proofs.Sessions.{runs_more}
+use Rattle.ink_player.specs.Words.{scene_of}
 use Rattle.ink_player.proofs.session.serve_lines.Goals as goal
 
 pub lines-init : goal.lines-init
-lines-init g c = (
-  [],
-  record {
-    dealt = dealt-none g.F.TurnFn.log g.O.Watcher.state _;
-    ends = λ left held new es r p. p;
-    rest = λ rest. rest;
-    story = refl;
-    read_cause = refl;
-    write_cause = refl;
-    source_name = refl;
-    sink_name = refl;
-  },
-)
+lines-init g c = record {
+  ends = λ left held new r p. p;
+  rest = λ rest. rest;
+  story = refl;
+  read_cause = refl;
+  write_cause = refl;
+  source_name = refl;
+  sink_name = refl;
+}
 
 pub lines-preserved : goal.lines-preserved
 lines-preserved g c =
     let served = rw c.in-Ok-More.field-0-is at c.in-Ok-More.ensures.next in
     let before = c.lines.invariant in
     let after = c.in-Ok-More.ensures in
-    let turn = g.F.TurnFn.log in
-    let watch = g.O.Watcher.state in (
-      before.0 ++ served.0,
-      record {
-        dealt = dealt-dealt turn watch (desk_of c.args.player.now) (desk_of c.lines.player) (desk_of c.serve_line.new.player) before.0 served.0 before.1.dealt served.2;
-        ends = λ left held new es r p. runs_as _ _ _ _ _ _ _ _ _ _ _ _ r (sym (append_assoc before.0 served.0 es))
-            (before.1.ends left held new (served.0 ++ es) r
-            (runs_more _ _ _ _ served.0 es _ _ _ _ _ _ _ _ _ _ _ r served.1 after.story (bindings-same turn watch g.P.PureFn.meaning (desk_of c.lines.player) (desk_of c.serve_line.new.player) served.0 served.2) p));
-        rest = λ rest. after.rest (before.1.rest rest);
-        story = after.story ∙ before.1.story;
-        read_cause = after.source.0 ∙ before.1.read_cause;
-        write_cause = after.sink.0 ∙ before.1.write_cause;
-        source_name = after.source.1 ∙ before.1.source_name;
-        sink_name = after.sink.1 ∙ before.1.sink_name;
-      },
-    )
+    let line = served.answered.serves in
+    let binds = command_binds g.F.TurnFn.log g.O.Watcher.state g.P.PureFn.meaning (command_of served.line) (scene_of c.lines.player) line.events served.answered.reply (scene_of c.serve_line.new.player) line.dealt.0 in record {
+      ends = λ left held new r p. before.ends left held new r (runs_more g.F.TurnFn.log g.F.TurnFn.refusals g.O.Watcher.state _ _ _ _ _ _ _ _ _ _ _ _ _ _ _ r served after.story binds p);
+      rest = λ rest. after.rest (before.rest rest);
+      story = after.story ∙ before.story;
+      read_cause = after.source.0 ∙ before.read_cause;
+      write_cause = after.sink.0 ∙ before.write_cause;
+      source_name = after.source.1 ∙ before.source_name;
+      sink_name = after.sink.1 ∙ before.sink_name;
+    }
 
 pub returns-in-Ok-Done-clause-runs : goal.returns-in-Ok-Done-clause-runs
-returns-in-Ok-Done-clause-runs g c =
-    let served = rw c.in-Ok-Done.field-0-is at c.in-Ok-Done.ensures.next in
-    let before = c.lines.invariant in (
-      before.0 ++ served.0,
-      before.1.ends _ _ _ served.0 (Ok tt) served.1,
-      dealt-dealt g.F.TurnFn.log g.O.Watcher.state (desk_of c.args.player.now) (desk_of c.lines.player) (desk_of c.serve_line.new.player) before.0 served.0 before.1.dealt served.2,
-    )
+returns-in-Ok-Done-clause-runs g c = c.lines.invariant.ends _ _ _ (Ok tt) (rw c.in-Ok-Done.field-0-is at c.in-Ok-Done.ensures.next)
 
 pub returns-in-Err-clause-runs : goal.returns-in-Err-clause-runs
-returns-in-Err-clause-runs g c =
-    let served = c.in-Err.ensures.next in
-    let before = c.lines.invariant in (
-      before.0 ++ served.0,
-      before.1.ends _ _ _ served.0 (Err c.in-Err.fault) served.1,
-      dealt-dealt g.F.TurnFn.log g.O.Watcher.state (desk_of c.args.player.now) (desk_of c.lines.player) (desk_of c.serve_line.new.player) before.0 served.0 before.1.dealt served.2,
-    )
+returns-in-Err-clause-runs g c = c.lines.invariant.ends _ _ _ (Err c.in-Err.fault) c.in-Err.ensures.next

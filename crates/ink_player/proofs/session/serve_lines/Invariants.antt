@@ -1,24 +1,23 @@
-use Rattle.std.proofs.Common.{◌≡◌, ℕ, List, ◌++◌, Option, Result}
+use Rattle.std.proofs.Common.{◌≡◌, ℕ, List, Option, Result}
 use Rattle.ink_host.specs.Desk.{Resting}
 use Rattle.ink_host.specs.Telling.{rests}
-use Rattle.ink_model.specs.State.{State}
-use Rattle.ink_model.specs.declared.host.Event.{Event}
-use Rattle.ink_player.specs.Words.{Dealt, bindings, desk_of, state_of, story_of}
+use Rattle.ink_player.specs.Words.{Scene, bindings, desk_of, scene_of, story_of}
 use Rattle.ink_player.specs.Serving.{Runs}
 use Rattle.ink_protocol.specs.declared.fault.RunFault.{RunFault}
 use Rattle.ink_player.proofs.session.serve_lines.Given as goal
 
--- however the session goes on from here, so it goes from the start, with what happened before
+-- however the session goes on from here, so it goes from the start
 abbrev pub invariant-lines : goal.invariant-lines
 invariant-lines g l =
     let left = g.S.Source.remaining in
     let held = g.T.Sink.contents in
     let meaning = g.P.PureFn.meaning in
-    (before : List Event) × record {
-      dealt : Dealt g.F.TurnFn.log g.O.Watcher.state (desk_of l.fn.player) before (desk_of l.player);
-      ends : (left' held' : Option (List ℕ)) (new : State) (es : List Event) (r : Result (Unit {0}) RunFault)
-          → Runs (story_of l.player) (bindings meaning (desk_of l.player)) es l.ahead.spare l.ahead.unread (left l.source) left' (held l.sink) held' (state_of l.player) new r
-          → Runs (story_of l.fn.player) (bindings meaning (desk_of l.fn.player)) (before ++ es) l.fn.ahead.spare l.fn.ahead.unread (left l.fn.source) left' (held l.fn.sink) held' (state_of l.fn.player) new r;
+    let turn = g.F.TurnFn.log in
+    let refusals = g.F.TurnFn.refusals in
+    let watch = g.O.Watcher.state in record {
+      ends : (left' held' : Option (List ℕ)) (new : Scene g.row.P.Denot g.row.F.Denot g.row.O.Denot) (r : Result (Unit {0}) RunFault)
+          → Runs turn refusals watch (story_of l.player) (bindings meaning (desk_of l.player)) l.ahead.spare l.ahead.unread (left l.source) left' (held l.sink) held' (scene_of l.player) new r
+          → Runs turn refusals watch (story_of l.fn.player) (bindings meaning (desk_of l.fn.player)) l.fn.ahead.spare l.fn.ahead.unread (left l.fn.source) left' (held l.fn.sink) held' (scene_of l.fn.player) new r;
       rest : Resting (rests g.O.Watcher.state) (desk_of l.fn.player).watchers → Resting (rests g.O.Watcher.state) (desk_of l.player).watchers;
       story : story_of l.player ≡ story_of l.fn.player;
       read_cause : g.S.Source.failures l.source ≡ g.S.Source.failures l.fn.source;

@@ -3,4 +3,4 @@ use Rattle.ink_reader.proofs.Playing.{gave-kept}
 use Rattle.ink_reader.proofs.moves.take_choice.Goals as goal
 
 pub returns : goal.returns
-returns g c = gave-kept (refl, c.choose.ensures.does) c.choose.ensures.desk c.choose.ensures.story
+returns g c = gave-kept (refl, c.choose.ensures.does) (refl, c.choose.ensures.desk) c.choose.ensures.desk c.choose.ensures.story

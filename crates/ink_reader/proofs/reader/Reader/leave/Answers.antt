@@ -17,13 +17,16 @@ pub returns-in_err-say-clause-reads : goal.returns-in_err-say-clause-reads
 returns-in_err-say-clause-reads g c =
     let old = c.args.self.now in
     let lost = (err_from_is_err_and c.from_residual.result c.from_residual.ensures.1).1 in
-    (Says LastLacks ∷ [], up-part lost (goes-part old.saves (places_of old.past)), played-lost lost (played-says c.say.result LastLacks refl c.say.ensures.shows))
+    let noted = on_err c.leave.result c.leave.ensures.memory (sym c.is_ok.ensures.value ∙ c.if-is_ok.false) in
+    (Says LastLacks ∷ [], up-part lost (goes-part old.saves (places_of old.past) noted), played-lost lost (played-says c.say.result LastLacks refl c.say.ensures.shows))
 
 pub returns-clause-reads : goal.returns-clause-reads
 returns-clause-reads g c =
     let old = c.args.self.now in
-    let told = c.go_on-2.ensures.reads in (
+    let told = c.go_on-2.ensures.reads in
+    let unnoted = sym c.is_ok.ensures.value ∙ c.if-is_ok.false in
+    let noted = on_err c.leave.result c.leave.ensures.memory unnoted in (
       Says LastLacks ∷ told.0,
-      goes-unnoted old.saves (places_of old.past) (places_of c.leave.new.self) (on_err c.leave.result c.leave.ensures.stays (sym c.is_ok.ensures.value ∙ c.if-is_ok.false)) told.1,
+      goes-unnoted old.saves (places_of old.past) (places_of c.leave.new.self) noted (on_err c.leave.result c.leave.ensures.stays unnoted) told.1,
       played-played (played-well c.in_ok-say.was (played-says c.say.result LastLacks refl c.say.ensures.shows)) told.2,
     )

@@ -15,5 +15,5 @@ invariant-lines g l = record {
   read_cause : g.L.Lines.failures l.lines ≡ g.L.Lines.failures l.fn.lines;
   reads : (lines_read : List (Option (List ℕ))) × (ds : List Deed) × AreNext (g.L.Lines.coming l.fn.lines) lines_read (g.L.Lines.coming l.lines)
       × Continues (IsReading l.fn.self.saves (places_of l.fn.self.past)) l.fn.self.saves lines_read ds (places_of l.self.past)
-      × Played g.P.PureFn.meaning g.F.TurnFn.log g.O.Watcher.state l.fn.self.look l.fn.self.player ds l.self.player (g.T.Sink.contents l.fn.sink) (g.T.Sink.contents l.sink) (g.S.Shelf.kept l.fn.shelf) (g.S.Shelf.kept l.shelf) true;
+      × Played g.P.PureFn.meaning g.F.TurnFn.log g.F.TurnFn.refusals g.O.Watcher.state l.fn.self.look l.fn.self.player ds l.self.player (g.T.Sink.contents l.fn.sink) (g.T.Sink.contents l.sink) (g.S.Shelf.kept l.fn.shelf) (g.S.Shelf.kept l.shelf) true;
 }
