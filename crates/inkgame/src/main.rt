@@ -5,7 +5,7 @@
 mod objects;
 mod story;
 
-use ink_player::{Desk, Halt, Passage, PlayEnd, Player, Refusal, open_story};
+use ink_player::{Desk, Halt, Passage, PlayEnd, PlayFault, Player, Refusal, open_story};
 use objects::{Die, Inn, Purse};
 use std::alloc::{AllocError, Global};
 use std::io;
@@ -22,7 +22,7 @@ type Game<R> = Player<Inn, Die, Purse<R>>;
 #[derive(Drop)]
 enum GameFault {
     Memory,
-    Story,
+    Story(PlayFault),
     Terminal,
 }
 
@@ -33,8 +33,9 @@ impl From<AllocError> for GameFault {
 }
 
 impl<P: Drop, F: Drop, O: Drop> From<PlayEnd<P, F, O>> for GameFault {
-    fn from(_end: PlayEnd<P, F, O>) -> GameFault {
-        GameFault::Story
+    fn from(end: PlayEnd<P, F, O>) -> GameFault {
+        let PlayEnd { fault, desk: _ } = end;
+        GameFault::Story(fault)
     }
 }
 
@@ -47,7 +48,22 @@ impl From<io::Error> for GameFault {
 fn main(rt: HostRuntime) -> ExitCode {
     match run(rt) {
         Ok(()) => ExitCode::SUCCESS,
-        Err(_) => ExitCode::FAILURE,
+        Err(fault) => {
+            let _ = complain(&rt, &fault);
+            ExitCode::FAILURE
+        }
+    }
+}
+
+/// Says on standard error why the game ended before its input did: of a story that is refused why and where, and of one that
+/// cannot be opened the fault.
+fn complain(rt: &impl Eprint, fault: &GameFault) -> io::Result<()> {
+    match fault {
+        GameFault::Memory => eprintln!(rt; "inkgame: out of memory"),
+        GameFault::Story(PlayFault::Story(why)) => eprintln!(rt; "inkgame: story refused: {why}"),
+        GameFault::Story(PlayFault::Start(why)) => eprintln!(rt; "inkgame: story fault: {why}"),
+        GameFault::Story(PlayFault::Run(why)) => eprintln!(rt; "inkgame: run fault: {why}"),
+        GameFault::Terminal => eprintln!(rt; "inkgame: reading or writing failed"),
     }
 }
 
@@ -97,7 +113,7 @@ fn take<R: Print + Drop>(rt: &impl Print, game: &mut Game<R>, number: u32) -> io
     match game.choose(number) {
         Ok(()) => tell(rt, game),
         Err(Refusal::NotAChoice) => println!(rt; "There is no such choice."),
-        Err(refusal) => println!(rt; "{}", refusal.name()),
+        Err(refusal) => println!(rt; "{refusal}"),
     }
 }
 
@@ -111,8 +127,8 @@ fn tell<R: Print + Drop>(rt: &impl Print, game: &mut Game<R>) -> io::Result<()> 
                     return Ok(());
                 }
             }
-            Err(Halt::Refused(refusal)) => return println!(rt; "{}", refusal.name()),
-            Err(Halt::Fault { fault, events: _ }) => return println!(rt; "{}", fault.name()),
+            Err(Halt::Refused(refusal)) => return println!(rt; "{refusal}"),
+            Err(Halt::Fault { fault, events: _ }) => return println!(rt; "{fault}"),
         }
     }
     Ok(())

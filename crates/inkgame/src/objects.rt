@@ -2,8 +2,7 @@
 
 ghost use Rattle.std.specs.Prelude.{Some};
 
-use ink_host::{Observer, PureFn, Recorder, TurnFn, Watcher};
-use ink_model::{Given, HostFault, Value};
+use ink_player::{Given, HostFault, Observer, PureFn, Recorder, TurnFn, Value, Watcher};
 use std::alloc::{AllocError, Global};
 
 /// The inn, whose name is asked for. To ask changes nothing: it is a pure function.

@@ -1,6 +1,6 @@
 //! What the program says where it does not read, and its exit statuses, which are those of `inkplay`.
 
-use ink_model::{Cause, Fault, Part, ReadRefusal};
+use ink_model::{Cause, Fault, Part, Place, ReadRefusal};
 use ink_page::{Look, cause_words, fault_words, line_page, piece_at};
 use ink_protocol::RunFault;
 use std::alloc::{AllocError, Global};
@@ -44,20 +44,16 @@ pub(crate) fn refuse_story(
     refusal: &ReadRefusal,
 ) -> u8 {
     let _ = eprintln!(rt; "inkread: {}", cause_words(refusal.cause));
-    if has_place(refusal.cause) {
-        let parts = refusal.place.parts();
-        tell(rt, alloc, look, place_words(alloc, parts).ok());
-        tell(rt, alloc, look, piece_words(alloc, bytes, parts));
+    if refusal.cause.is_of_a_place() {
+        tell(rt, alloc, look, place_words(alloc, &refusal.place).ok());
+        tell(
+            rt,
+            alloc,
+            look,
+            piece_words(alloc, bytes, refusal.place.parts()),
+        );
     }
     REFUSED
-}
-
-// Whether a refusal for this cause is of one place in the story.
-fn has_place(cause: Cause) -> bool {
-    match cause {
-        Cause::Shape | Cause::Unsupported | Cause::BadPath | Cause::Limit => true,
-        Cause::NotJson | Cause::Version | Cause::OutOfMemory => false,
-    }
 }
 
 // Tells what a story has as it is shown in a reading, without control characters, where there is memory for it.
@@ -69,29 +65,11 @@ fn tell(rt: &impl Eprint, alloc: Global, look: Look, words: Option<String>) {
 }
 
 // Where it is: the parts joined by dots, or the root.
-fn place_words(alloc: Global, parts: &[Part]) -> Result<String, AllocError> {
-    if parts.is_empty() {
+fn place_words(alloc: Global, place: &Place) -> Result<String, AllocError> {
+    if place.parts().is_empty() {
         return String::from_str(alloc, "It is at the root.");
     }
-    let mut words = String::from_str(alloc, "It is at ")?;
-    for (i, part) in parts.iter().enumerate() {
-        if i > 0 {
-            words.push('.')?;
-        }
-        put_part(alloc, &mut words, part)?;
-    }
-    words.push('.')?;
-    Ok(words)
-}
-
-fn put_part(alloc: Global, words: &mut String, part: &Part) -> Result<(), AllocError> {
-    match part {
-        Part::Index(index) => {
-            let index = format!(in alloc; "{index}")?;
-            words.push_str(index.as_str())
-        }
-        Part::Name(name) => words.push_str(name.as_str()),
-    }
+    format!(in alloc; "It is at {place}.")
 }
 
 // The content that stands there, or how long it is where that is too much to show.

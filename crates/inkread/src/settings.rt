@@ -1,4 +1,4 @@
-//! The program's words (docs/READER.md, "Words").
+//! The program's words (docs/READER.md, "The reader").
 
 use clap::{Arg, ArgAction, ArgMatches, Command};
 use ink_words::command;

@@ -5,12 +5,13 @@
 //! - `continue`, `through`: the passage's text, ` #TAG` for each tag, ` more` and ` loose`
 //! - `choices`: each text and its tags as a passage has them, apart by ` | `; `none` where there is none
 //! - `restart`, `can_continue`, `get NAME`, `set NAME VALUE`, `visits PATH`, `choose N`, `jump PATH`
-//! - `save`: the text of the save; `load JSON`
+//! - `save`: the text of the save; `load JSON`; `load_text TEXT`, where TEXT is what stands behind the word as it is
+//! - `fault`: the one by which the player is broken, or `none`
 //! - `flow NAME`, `drop NAME`, where NAME is what stands behind the word as it is; `flow_name`, and `flows`, apart by spaces
 //! - `turn NAME DEED..`, `pure NAME DEED`, `watch NAME`, `unbind NAME`, `unwatch NAME`: what is handed back, or `nothing`. A deed
 //!   is a value, `refuses` or `short`, which finds no memory; a watcher does not with `watch NAME short`
-//! - `short CALL`: `continue`, `through`, `restart`, `set` or `load`, of which want of memory is an answer, with the events until
-//!   then
+//! - `short CALL`: `continue`, `through`, `restart`, `set`, `load` or `load_text`, of which want of memory is an answer, with the
+//!   events until then
 //!
 //! A fault or a refusal is told by its name. Events stand behind an answer: `roll(6)=4@0` is a call and what it gave, `roll(6)!@0`
 //! one that was refused, and `gold:7@1` a new value that was told. What is handed back is told with what it noted. Where memory is
@@ -171,6 +172,7 @@ fn make_call(
     match word {
         "set" => set(said, player, rest, shortly),
         "load" => load(said, player, rest, shortly),
+        "load_text" => show_done(said, &player.load_text(rest), shortly),
         "choose" => land(said, player.choose(number(rest)?)),
         "jump" => land(said, player.jump(rest)),
         "flow" => land(said, player.flow(rest)),
@@ -231,6 +233,7 @@ fn restart<P: PureFn, T: TurnFn, W: Watcher>(
 fn ask(said: &mut Report, player: &TestPlayer, word: &str, rest: &str) -> Result<(), NoAnswer> {
     match word {
         "can_continue" => tell(said, player.can_continue()),
+        "fault" => show_fault(said, player),
         "flow_name" => tell(said, player.flow_name()),
         "visits" => tell(said, player.visits(rest)?),
         "get" => get(said, player, rest),
@@ -244,6 +247,13 @@ fn ask(said: &mut Report, player: &TestPlayer, word: &str, rest: &str) -> Result
 fn tell<D: Display + Drop>(said: &mut Report, answer: D) -> Result<(), NoAnswer> {
     said.show(answer);
     Ok(())
+}
+
+fn show_fault(said: &mut Report, player: &TestPlayer) -> Result<(), NoAnswer> {
+    match player.fault() {
+        Some(fault) => tell(said, fault),
+        None => tell(said, "none"),
+    }
 }
 
 fn get(said: &mut Report, player: &TestPlayer, name: &str) -> Result<(), NoAnswer> {
