@@ -4,6 +4,7 @@ pub mod Playings
 pub mod Paths
 pub mod Tellings
 pub mod Dealing
+pub mod Endings
 pub mod Restarts
 mod Standing
 mod Saves

@@ -5,7 +5,7 @@ ghost use Rattle.ink_check.specs.Words.{story_tree};
 ghost use Rattle.ink_host.specs.Desk.{Resting};
 ghost use Rattle.ink_host.specs.Telling.{rests};
 ghost use Rattle.ink_model.specs.Acceptance as rules;
-ghost use Rattle.ink_player.specs.Ends.{play_reads_fail, play_writes_fail};
+ghost use Rattle.ink_player.specs.Ends.{PlayEndsOnce, play_reads_fail, play_writes_fail};
 ghost use Rattle.ink_player.specs.Playing.{IsRefused, Opens, OpensDesk, Plays, desk_left, play_fault};
 ghost use Rattle.ink_player.specs.Words.{bindings};
 ghost use Rattle.ink_protocol.specs.Ends.{Reports};
@@ -53,6 +53,7 @@ pub fn serve_story<S: Source, T: Sink, P: PureFn, F: TurnFn, O: Watcher>(
     ensures plays { Plays F.log F.refusals O.state (bindings P.meaning desk) desk (S.remaining source.old) (S.remaining source.new) (T.contents sink.old) (T.contents sink.new) result }
     ensures rest { Resting (rests O.state) desk.watchers → Resting (rests O.state) (desk_left result).watchers }
     ensures source { Reports (play_reads_fail result) (S.failures source.old) (S.failures source.new) (S.name source.old) (S.name source.new) }
+    ensures ends { PlayEndsOnce result (S.ends source.old) (S.ends source.new) }
     ensures sink { Reports (play_writes_fail result) (T.failures sink.old) (T.failures sink.new) (T.name sink.old) (T.name sink.new) }
 {
     let mut ahead = Ahead::new(MAX_INPUT);

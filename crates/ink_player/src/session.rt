@@ -12,6 +12,7 @@ ghost use Rattle.ink_protocol.specs.Commands.{command_by};
 ghost use Rattle.ink_protocol.specs.Replies.{HasTextOf, reply_by};
 ghost use Rattle.ink_player.specs.Words.{DealtBy, DealtOf, bindings, desk_of, scene_of, state_of, story_of};
 ghost use Rattle.ink_protocol.specs.Ends.{Reports, reads_fail, writes_fail};
+ghost use Rattle.ink_player.specs.Ends.{EndsNext, EndsOnce};
 ghost use Rattle.ink_player.specs.Serving.{Answers, Runs, ServesLineBy, ServesNext};
 ghost use Rattle.ink_model.specs.Unread.{PathFails};
 ghost use Rattle.ink_model.specs.declared.limits.TheConstants.{MAX_INPUT};
@@ -78,8 +79,8 @@ pub fn run<R: Read, W: Write, P: PureFn, F: TurnFn, O: Watcher>(
 }
 
 /// Serves command lines as `run` does, over a source and a sink, which count their failures: the source has failed in this
-/// call exactly where the error is `Read`, and the sink, or it took no byte, exactly where it is `Write`. `Watched` makes a
-/// source of any reader, and a sink of any writer.
+/// call exactly where the error is `Read`, and the sink, or it took no byte, exactly where it is `Write`. The end is read once, and
+/// nothing after it. `Watched` makes a source of any reader, and a sink of any writer.
 pub fn serve<S: Source, T: Sink, P: PureFn, F: TurnFn, O: Watcher>(
     alloc: Global,
     source: &mut S,
@@ -91,6 +92,7 @@ pub fn serve<S: Source, T: Sink, P: PureFn, F: TurnFn, O: Watcher>(
     ensures rest { Resting (rests O.state) (desk_of player.old).watchers → Resting (rests O.state) (desk_of player.new).watchers }
     ensures story { story_of player.new ≡ story_of player.old }
     ensures source { Reports (reads_fail result) (S.failures source.old) (S.failures source.new) (S.name source.old) (S.name source.new) }
+    ensures ends { EndsOnce result (S.ends source.old) (S.ends source.new) }
     ensures sink { Reports (writes_fail result) (T.failures sink.old) (T.failures sink.new) (T.name sink.old) (T.name sink.new) }
 {
     let mut ahead = Ahead::new(MAX_INPUT);
@@ -110,6 +112,7 @@ pub(crate) fn serve_lines<S: Source, T: Sink, P: PureFn, F: TurnFn, O: Watcher>(
     ensures rest { Resting (rests O.state) (desk_of player.old).watchers → Resting (rests O.state) (desk_of player.new).watchers }
     ensures story { story_of player.new ≡ story_of player.old }
     ensures source { Reports (reads_fail result) (S.failures source.old) (S.failures source.new) (S.name source.old) (S.name source.new) }
+    ensures ends { EndsOnce result (S.ends source.old) (S.ends source.new) }
     ensures sink { Reports (writes_fail result) (T.failures sink.old) (T.failures sink.new) (T.name sink.old) (T.name sink.new) }
 {
     let mut buffers = Buffers::new(alloc);
@@ -136,6 +139,7 @@ fn serve_line<S: Source, T: Sink, P: PureFn, F: TurnFn, O: Watcher>(
     ensures rest { Resting (rests O.state) (desk_of player.old).watchers → Resting (rests O.state) (desk_of player.new).watchers }
     ensures story { story_of player.new ≡ story_of player.old }
     ensures source { Reports (reads_fail result) (S.failures source.old) (S.failures source.new) (S.name source.old) (S.name source.new) }
+    ensures ends { EndsNext result (S.ends source.old) (S.ends source.new) }
     ensures sink { Reports (writes_fail result) (T.failures sink.old) (T.failures sink.new) (T.name sink.old) (T.name sink.new) }
 {
     ahead.bounds();

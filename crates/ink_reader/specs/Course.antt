@@ -138,7 +138,7 @@ IsLoading saves old (Fetches (Ok None) ∷ ds) new = (ds ≡ Says NoSave ∷ [])
 IsLoading saves old (Fetches (Err cause) ∷ ds) new = (ds ≡ Says (NotRead cause) ∷ []) × (new ≡ old)
 IsLoading saves old ds new = ⊥
 
--- whether the story stands where the save stands then
+-- whether `load` gave events alone: the story stands where the save stands, and is not broken
 abbrev pub has_loaded : List Deed → Bool
 has_loaded (Fetches answer ∷ Gives k reply ∷ ds) = acts reply
 has_loaded ds = false
@@ -160,7 +160,7 @@ IsCourse saves old asks.Help ds new = (ds ≡ Says Help ∷ []) × (new ≡ old)
 IsCourse saves old asks.Quit ds new = (ds ≡ []) × (new ≡ old)
 IsCourse saves old asks.Unclear ds new = (ds ≡ Says Unclear ∷ []) × (new ≡ old)
 
--- the reading begins: the story is told from its start
+-- the reading begins: the story is told from where it stands
 abbrev pub IsBeginning : Bool → Places → List Deed → Places → Type 0
 IsBeginning saves old ds new = (new.before ≡ old.before) × IsTelling saves ds new.here
 

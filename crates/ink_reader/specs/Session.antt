@@ -48,11 +48,12 @@ IsReading saves old lines ds new = ⊥
 
 -- ---- how it begins
 
--- the story is told from its start, and then lines are read
+-- the story is told from where it stands, and then lines are read
 abbrev pub Begins : Bool → Places → List (Option (List ℕ)) → List Deed → Places → Type 0
 Begins saves old lines ds new = (first : List Deed) × (rest : List Deed) × (mid : Places) × (ds ≡ first ++ rest) × IsBeginning saves old first mid × IsReading saves mid lines rest new
 
--- The save is loaded, and then lines are read. Where it is not loaded, the story begins, and the reading saves no more by itself.
+-- The save is loaded, and then lines are read. Where it is not, or a watcher that is told of it finds no memory, the story is told from
+-- where it stands, and the reading saves no more by itself.
 abbrev pub Resumes : Bool → Places → List (Option (List ℕ)) → List Deed → Places → Type 0
 Resumes saves old lines ds new = (first : List Deed) × (rest : List Deed) × (mid : Places) × (ds ≡ first ++ rest) × IsLoading saves old first mid
     × MatchBool (has_loaded first) (IsReading saves mid lines rest new) (Begins false mid lines rest new)

@@ -1,5 +1,6 @@
 use Rattle.std.proofs.Common.{◌<◌, ◌≡◌, length, Ok, Err, sym, vec_len, arith}
 use Rattle.std.proofs.lemmas.Bool.{eqb-false, eqb-true}
+use Rattle.ink_player.proofs.Endings.{ends_not, ends_once}
 use Rattle.ink_player.proofs.Sessions.{no_last, no_line, none_left, whole_unserved, last_unserved, last_served, answers_as}
 use Rattle.ink_player.proofs.session.serve_line.Goals as goal
 
@@ -27,3 +28,21 @@ pub returns-then-is_empty-clause-next : goal.returns-then-is_empty-clause-next
 returns-then-is_empty-clause-next g c =
     let none : length c.in-Last.line.items ≡ 0 = omega (arith, eqb-true (vec_len c.in-Last.line) 0 (sym c.if-is_empty.ensures), c.in-Last.line.ok.0) in
     no_last g.F.TurnFn.log g.F.TurnFn.refusals g.O.Watcher.state _ _ _ _ _ _ _ c.in-Ok.ensures.bound _ c.in-Last.line.items (rw c.in-Last.is at c.in-Ok.ensures.gives) (none_left c.in-Last.line.items none)
+
+-- ---- how often the source was at its end
+
+pub returns-in-Err-clause-ends : goal.returns-in-Err-clause-ends
+returns-in-Err-clause-ends g c = ends_not c.in-Err.fault _ _ c.in-Err.ensures.ends
+
+pub returns-in-Err-answer_line-clause-ends : goal.returns-in-Err-answer_line-clause-ends
+returns-in-Err-answer_line-clause-ends g c = ends_not c.in-Err-answer_line.fault _ _ (rw c.in-Whole.is at c.in-Ok.ensures.ends)
+
+pub returns-in-Err-answer_line-2-clause-ends : goal.returns-in-Err-answer_line-2-clause-ends
+returns-in-Err-answer_line-2-clause-ends g c =
+    ends_once g.F.TurnFn.log g.F.TurnFn.refusals g.O.Watcher.state _ _ _ _ _ _ _ c.in-Err-answer_line-2.fault _ _ c.in-Err-answer_line-2.ensures.answers (rw c.in-Last.is at c.in-Ok.ensures.ends)
+
+pub returns-in_default-answer_line-clause-ends : goal.returns-in_default-answer_line-clause-ends
+returns-in_default-answer_line-clause-ends g c = rw c.in-Last.is at c.in-Ok.ensures.ends
+
+pub returns-then-is_empty-clause-ends : goal.returns-then-is_empty-clause-ends
+returns-then-is_empty-clause-ends g c = rw c.in-Last.is at c.in-Ok.ensures.ends

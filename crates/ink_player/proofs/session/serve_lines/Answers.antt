@@ -1,6 +1,8 @@
-use Rattle.std.proofs.Common.{◌∙◌, refl, Ok, Err}
+use Rattle.std.proofs.Common.{◌∙◌, ap, refl, true, Ok, Err}
 use Rattle.ink_model.specs.Command.{command_of}
+use Rattle.ink_protocol.specs.Ends.{after_call}
 use Rattle.ink_player.proofs.Dealing.{command_binds}
+use Rattle.ink_player.proofs.Endings.{ends_from}
 use Rattle.ink_player.proofs.Sessions.{runs_more}
 use Rattle.ink_player.specs.Words.{scene_of}
 use Rattle.ink_player.proofs.session.serve_lines.Goals as goal
@@ -11,6 +13,7 @@ lines-init g c = record {
   rest = λ rest. rest;
   story = refl;
   read_cause = refl;
+  read_ends = refl;
   write_cause = refl;
   source_name = refl;
   sink_name = refl;
@@ -27,6 +30,7 @@ lines-preserved g c =
       rest = λ rest. after.rest (before.rest rest);
       story = after.story ∙ before.story;
       read_cause = after.source.0 ∙ before.read_cause;
+      read_ends = rw c.in-Ok-More.field-0-is at after.ends ∙ before.read_ends;
       write_cause = after.sink.0 ∙ before.write_cause;
       source_name = after.source.1 ∙ before.source_name;
       sink_name = after.sink.1 ∙ before.sink_name;
@@ -37,3 +41,9 @@ returns-in-Ok-Done-clause-runs g c = c.lines.invariant.ends _ _ _ (Ok tt) (rw c.
 
 pub returns-in-Err-clause-runs : goal.returns-in-Err-clause-runs
 returns-in-Err-clause-runs g c = c.lines.invariant.ends _ _ _ (Err c.in-Err.fault) c.in-Err.ensures.next
+
+pub returns-in-Ok-Done-clause-ends : goal.returns-in-Ok-Done-clause-ends
+returns-in-Ok-Done-clause-ends g c = rw c.in-Ok-Done.field-0-is at c.in-Ok-Done.ensures.ends ∙ ap (after_call true) c.lines.invariant.read_ends
+
+pub returns-in-Err-clause-ends : goal.returns-in-Err-clause-ends
+returns-in-Err-clause-ends g c = ends_from c.in-Err.fault _ _ _ c.lines.invariant.read_ends c.in-Err.ensures.ends

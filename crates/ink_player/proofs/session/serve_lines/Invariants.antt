@@ -21,6 +21,7 @@ invariant-lines g l =
       rest : Resting (rests g.O.Watcher.state) (desk_of l.fn.player).watchers → Resting (rests g.O.Watcher.state) (desk_of l.player).watchers;
       story : story_of l.player ≡ story_of l.fn.player;
       read_cause : g.S.Source.failures l.source ≡ g.S.Source.failures l.fn.source;
+      read_ends : g.S.Source.ends l.source ≡ g.S.Source.ends l.fn.source;
       write_cause : g.T.Sink.failures l.sink ≡ g.T.Sink.failures l.fn.sink;
       source_name : g.S.Source.name l.source ≡ g.S.Source.name l.fn.source;
       sink_name : g.T.Sink.name l.sink ≡ g.T.Sink.name l.fn.sink;

@@ -1,0 +1,48 @@
+-- How often the source of a session was at its end.
+use Rattle.std.proofs.Common.{◌≡◌, inl, inr, subst, ℕ, List, true, Option, Err}
+use Rattle.ink_host.specs.Telling.{Watching}
+use Rattle.ink_host.specs.declared.objects.Called.{Called}
+use Rattle.ink_model.specs.Host.{Bindings}
+use Rattle.ink_model.specs.Tree.{StoryTree}
+use Rattle.ink_player.specs.Ends.{EndsOnce, FailsOnce}
+use Rattle.ink_player.specs.Playing.{OpenFails}
+use Rattle.ink_player.specs.Serving.{Answers}
+use Rattle.ink_player.specs.Words.{Scene}
+use Rattle.ink_player.specs.declared.end.PlayFault.{PlayFault}
+use Rattle.ink_player.specs.declared.end.PlayFault.TheVariants as play
+use Rattle.ink_protocol.specs.Ends.{after_call}
+use Rattle.ink_protocol.specs.declared.fault.RunFault.{RunFault}
+use Rattle.ink_protocol.specs.declared.fault.RunFault.TheVariants as fault
+
+-- from where it stood at first
+pub ends_from : (f : RunFault) (first was is : ℕ) → was ≡ first → EndsOnce (Err f) was is → EndsOnce (Err f) first is
+ends_from f first was is same h = subst (λ n. EndsOnce (Err f) n is) same h
+
+-- ---- not at all
+
+pub ends_not : (f : RunFault) (was is : ℕ) → is ≡ was → EndsOnce (Err f) was is
+ends_not fault.Read was is h = h
+ends_not fault.Write was is h = inl h
+ends_not fault.TooLong was is h = h
+ends_not fault.OutOfMemory was is h = inl h
+
+pub fails_not : (f : PlayFault) (was is : ℕ) → is ≡ was → FailsOnce f was is
+fails_not (play.Story r) was is h = inl h
+fails_not (play.Start f) was is h = inl h
+fails_not (play.Run f) was is h = ends_not f was is h
+
+-- ---- once
+
+-- the last line was not answered whole
+pub ends_once : {P F O : Type 0} (turn_log : F → List Called) (refusals : F → ℕ) (state : O → Watching) (s : StoryTree) (h : Bindings) (line : List ℕ) (held held' : Option (List ℕ)) (old new : Scene P F O) (f : RunFault) (was is : ℕ)
+    → Answers turn_log refusals state s h line held held' old new (Err f) → is ≡ after_call true was → EndsOnce (Err f) was is
+ends_once turn_log refusals state s h line held held' old new fault.Read was is answers once = absurd answers
+ends_once turn_log refusals state s h line held held' old new fault.Write was is answers once = inr once
+ends_once turn_log refusals state s h line held held' old new fault.TooLong was is answers once = absurd answers
+ends_once turn_log refusals state s h line held held' old new fault.OutOfMemory was is answers once = inr once
+
+-- the story is the last line, and is not played
+pub fails_once : (line : List ℕ) (f : PlayFault) (was is : ℕ) → OpenFails line f → is ≡ after_call true was → FailsOnce f was is
+fails_once line (play.Story r) was is opens once = inr once
+fails_once line (play.Start f) was is opens once = inr once
+fails_once line (play.Run f) was is opens once = absurd opens
