@@ -322,15 +322,15 @@ def answers(words, story, commands):
 
 def broken_from(words, story, before, command, after, used, stamp):
     """What a player may answer that a command after others has broken, once it has made so many calls and told so many events.
-    Its globals are those of some moment of the run: in these stories as they were before it or as they are after it, or, of a
-    line that looked past its newline, as they are after the next one."""
+    Its globals are those of some moment of the run: in these stories as they were before it or as they are after it. Of what a
+    line looked at past its newline nothing is left."""
     rest = []
     for k, line in enumerate(after):
         word = line.split()[0]
         if word == "restart" or word == "load" and answers(words, story, (line,))[0] != BAD_SAVE:
             return rest + restarted(words, story, before + (command,), after[:k], after[k:], used, stamp)
         if word == "get":
-            rest.append([answers(words, story, before + way + (line,))[-1] for way in ((), (command,), (command, "continue"))[:3 if command == "continue" else 2]])
+            rest.append([answers(words, story, before + way + (line,))[-1] for way in ((), (command,))])
         elif word == "load":
             rest.append((BAD_SAVE,))
         else:

@@ -1,9 +1,9 @@
--- A session of `continue` commands, to the byte: two lines, and then flow has stopped.
-use Rattle.std.specs.Prelude.{◌≡◌, ℕ, List, [], ◌∷◌, ◌++◌, refl, codes, true, false, Some, None}
+-- A session of `continue` commands, to the byte: two lines, and then flow has stopped; and one that finds no memory past a newline.
+use Rattle.std.specs.Prelude.{◌≡◌, ℕ, pos, List, [], ◌∷◌, ◌++◌, refl, codes, true, false, Some, None}
 use Rattle.std.proofs.Common.{inl, inr, lit≤, subst, arith}
 use Rattle.serde_json.proofs.OnLiterals.{serde_json_on_literals}
 use Rattle.ink_model.specs.Answer.{Tells, Refuses, Breaks, answer}
-use Rattle.ink_model.specs.CallStories.{says, story}
+use Rattle.ink_model.specs.CallStories.{does, says, story}
 use Rattle.ink_model.specs.Clean.{clean}
 use Rattle.ink_model.specs.Configuration.{Configuration, begun, fresh_at, moved, put_at, settled, start, with_safe}
 use Rattle.ink_model.specs.Effect.{with_page}
@@ -21,7 +21,9 @@ use Rattle.ink_model.specs.Run.{At, Stopped, Kept, moment}
 use Rattle.ink_model.specs.Session.{Continue, Serves, Session}
 use Rattle.ink_model.specs.State.{State, Ready, Broken}
 use Rattle.ink_model.specs.Step.{step}
+use Rattle.ink_model.specs.Store.{Values}
 use Rattle.ink_model.specs.Tree.{StoryTree, leaf}
+use Rattle.ink_model.specs.declared.content.Control.TheVariants as control
 use Rattle.ink_model.specs.declared.content.Leaf.TheVariants as leaves
 use Rattle.ink_model.specs.declared.fault.Fault.TheVariants as fault
 use Rattle.ink_model.specs.declared.fault.Refusal.TheVariants as refusal
@@ -29,6 +31,7 @@ use Rattle.ink_model.specs.declared.limits.TheConstants.{MAX_STEPS}
 use Rattle.ink_model.specs.declared.mark.Mark.{Mark}
 use Rattle.ink_model.specs.declared.mark.Mark.TheVariants.{Text, Newline}
 use Rattle.ink_model.specs.declared.place.Part.TheVariants.{Index}
+use Rattle.ink_model.specs.declared.value.Value.TheVariants as value
 use Rattle.ink_line.specs.Look.{Knows, Seeking, Looking, Over, search}
 use Rattle.ink_line.specs.Rows.{Lines}
 use Rattle.ink_line.proofs.Found.{knows, over_is}
@@ -66,35 +69,52 @@ second_line = (Stopped after_b [] [], over_is two nothing_bound MAX_STEPS (begun
 a_row : Lines two nothing_bound (start two []) ([] ∷ [] ∷ []) (settled after_b)
 a_row = (after_a, first_line, (after_b, second_line, refl))
 
--- the step behind the first newline calls nothing
-says_more : is_call (step two nothing_bound after_a) ≡ false
+-- ---- a story that sets a global past its first newline
+
+abbrev sets : StoryTree
+sets = story (says (codes "a") ∷ leaf leaves.Newline ∷ does control.BeginEval ∷ leaf (leaves.Int (pos 2)) ∷ leaf (leaves.Assign (codes "x")) ∷ does control.EndEval ∷ says (codes "b") ∷ []) [] []
+
+abbrev x_is : ℕ → Values
+x_is n = (codes "x", value.Int (pos n)) ∷ []
+
+abbrev behind_a : Configuration
+behind_a = showing (Text (codes "a") ∷ Newline ∷ []) (moved (Index 0 ∷ Index 1 ∷ []) (Some (Index 0 ∷ Index 2 ∷ [])) (start sets (x_is 1)))
+
+abbrev past_a : Configuration
+past_a = showing (Text (codes "a") ∷ Newline ∷ []) (moved (Index 0 ∷ Index 5 ∷ []) (Some (Index 0 ∷ Index 6 ∷ [])) (start sets (x_is 2)))
+
+-- the look has come past it, and the step there calls nothing
+six_steps : search sets nothing_bound 6 (Seeking (At (begun (start sets (x_is 1))) [] [])) ≡ Looking (At behind_a [] []) 1 (At past_a [] [])
+unfolding search step start fresh_at entered next_place passed_places entered_places cut
+six_steps = refl
+
+says_more : is_call (step sets nothing_bound past_a) ≡ false
 unfolding step start fresh_at entered next_place passed_places entered_places cut
 says_more = refl
 
--- so memory may be refused there, and the command faults
-looked_at : Knows two nothing_bound MAX_STEPS (moment two nothing_bound (begun (start two [])) []) 2 (Looking (At after_a [] []) 1 (At after_a [] []))
-    → LooksFrom two nothing_bound (begun (start two [])) [] after_a
+-- so memory may be refused there; then the command faults, and x is as it was behind the newline
+looked_at : Knows sets nothing_bound MAX_STEPS (moment sets nothing_bound (begun (start sets (x_is 1))) []) 6 (Looking (At behind_a [] []) 1 (At past_a [] []))
+    → LooksFrom sets nothing_bound (begun (start sets (x_is 1))) [] behind_a
 looked_at (p, opens, same, first, kept, at) = record {
-  steps = 2;
+  steps = 6;
   within = omega arith;
+  reached = past_a;
   got_there = at;
   calls_nothing = says_more;
   step = p;
   opens = opens;
   first = first;
+  goes_back = kept;
 }
 
-two_steps : search two nothing_bound 2 (Seeking (At (begun (start two [])) [] [])) ≡ Looking (At after_a [] []) 1 (At after_a [] [])
-unfolding search step start fresh_at entered next_place passed_places entered_places cut
-two_steps = refl
+looks : LooksFrom sets nothing_bound (begun (start sets (x_is 1))) [] behind_a
+looks = looked_at (subst (Knows sets nothing_bound MAX_STEPS (moment sets nothing_bound (begun (start sets (x_is 1))) []) 6) six_steps
+    (knows sets nothing_bound MAX_STEPS (begun (start sets (x_is 1))) [] 6 (lit≤ tt)))
 
-looks : LooksFrom two nothing_bound (begun (start two [])) [] after_a
-looks = looked_at (subst (Knows two nothing_bound MAX_STEPS (moment two nothing_bound (begun (start two [])) []) 2) two_steps
-    (knows two nothing_bound MAX_STEPS (begun (start two [])) [] 2 (lit≤ tt)))
-
-short_of_memory : Continue two no_objects [] (opened (start two [])) (Breaks fault.OutOfMemory []) (record { condition = Broken fault.OutOfMemory []; aside = one_flow; stamp = 0 })
+short_of_memory : Continue sets no_objects [] (opened (start sets (x_is 1))) (Breaks fault.OutOfMemory [])
+    (record { condition = Broken fault.OutOfMemory (x_is 1); aside = one_flow; stamp = 0 })
 unfolding start fresh_at
-short_of_memory = ([], inr ([], record { reached = after_a; got_there = inr (inr looks); leaves = refl }, (refl, refl, refl)))
+short_of_memory = ([], inr (x_is 1, record { kept = behind_a; got_there = inr (inr looks); leaves = refl }, (refl, refl, refl)))
 
 -- ---- the session
 

@@ -26,8 +26,8 @@ module _ (s : StoryTree) (b : Bound) (made : List Made) (c start : Configuration
 
   pub falls : (f : Fault) (new : Configuration) → LineFalls s b start made new.shared.globals f → Ran new (line_ends.Fault f)
   falls f new h = elim h.why [
-    | inl faults ↦ inl (Broke f h.before.shared.globals, (Faulted f h.before [] made, line_to (Faulted f h.before [] made) faults, refl), tt, (refl, h.kept))
-    | inr short ↦ inr (ap line_ends.Fault short.0, record { reached = h.before; got_there = subst (λ d. LineShort s b d made h.before) is short.1; leaves = h.kept })
+    | inl faults ↦ inl (Broke f h.kept.shared.globals, (Faulted f h.kept [] made, line_to (Faulted f h.kept [] made) faults, refl), tt, (refl, h.leaves))
+    | inr short ↦ inr (ap line_ends.Fault short.0, record { kept = h.kept; got_there = subst (λ d. LineShort s b d made h.kept) is short.1; leaves = h.leaves })
   ]
 
 -- whatever a line ends with

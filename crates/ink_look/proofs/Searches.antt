@@ -120,12 +120,13 @@ module _ (s : StoryTree) (b : Bound) (start : Configuration) where
     ]
 
   pub look_falls : (n : ℕ) (made : List Made) (w : ℕ) (kept old : Configuration) → n < MAX_STEPS → is_call (step s b old) ≡ false → ComesTo n (search_at (Some w) kept old) made
-      → LineShort s b start made old
+      → LineShort s b start made kept
   look_falls n made w kept old below quiet h = by (subst (λ answers. Knows s b MAX_STEPS (moment s b start answers) n (search_at (Some w) kept old [] made)) (append-nil (answers_of made))
       (known n made (search_at (Some w) kept old) below h []))
     where
-      by : Knows s b MAX_STEPS (moment s b start (answers_of made)) n (search_at (Some w) kept old [] made) → LineShort s b start made old
-      by (p, opens, same, first, is, there) = inr (inr (record { steps = n; within = below; got_there = there; calls_nothing = quiet; step = p; opens = opens; first = first }))
+      by : Knows s b MAX_STEPS (moment s b start (answers_of made)) n (search_at (Some w) kept old [] made) → LineShort s b start made kept
+      by (p, opens, same, first, is, there) =
+          inr (inr (record { steps = n; within = below; reached = old; got_there = there; calls_nothing = quiet; step = p; opens = opens; first = first; goes_back = is }))
 
 -- ---- a step where no newline waits
 
@@ -206,8 +207,8 @@ module _ {P T W : Type 0} (turn_log : T → List Called) (watch_log : W → List
         ran.made ++ d.more,
         grown_by None ran h.0 d.more d.events h.1,
         record {
-          before = old;
-          kept = d.ends.0;
+          kept = old;
+          leaves = d.ends.0;
           why = elim d.ends.1 [
             | inl faults ↦ inl (over s bound_first start (n + 1) (ran.made ++ d.more) (Faulted f old) (omega (arith, below))
                 (stepped_on s bound_first start n (search_at None kept old) (λ left all. Over (Faulted f old left all)) ran.made d.more ran.comes
@@ -232,9 +233,9 @@ module _ {P T W : Type 0} (turn_log : T → List Called) (watch_log : W → List
         ran.made ++ [],
         grown_by (Some w) ran h.0 [] so.0 h.1,
         record {
-          before = old;
-          kept = so.1.2;
-          why = inr (so.1.0, subst (λ all. LineShort s bound_first start all old) (sym (append-nil ran.made)) (look_falls s bound_first start n ran.made w kept old below so.1.1 ran.comes));
+          kept = kept;
+          leaves = ap (λ c. c.shared.globals) so.1.2;
+          why = inr (so.1.0, subst (λ all. LineShort s bound_first start all kept) (sym (append-nil ran.made)) (look_falls s bound_first start n ran.made w kept old below so.1.1 ran.comes));
         },
       )
 
@@ -274,7 +275,7 @@ module _ {P T W : Type 0} (turn_log : T → List Called) (watch_log : W → List
     ran_out w is e h = let ran = subst (λ w. Ran n desk (search_at w kept now)) is h in (
       ran.made,
       ran.grew,
-      record { before = now; kept = refl; why = inl (at_last s bound_first start ran.made (search_at None kept now) (last_of (search_at None kept now) e ran)) },
+      record { kept = now; leaves = refl; why = inl (at_last s bound_first start ran.made (search_at None kept now) (last_of (search_at None kept now) e ran)) },
     )
 
     -- it goes back to the newline that waits

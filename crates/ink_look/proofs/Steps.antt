@@ -49,16 +49,12 @@ module _ (asking : Bool) (old new : Configuration) where
   stopped (Stop c) h left made = ap (λ d. Stopped d left made) (sym h)
   stopped o h left made = absurd h
 
-  kept_globals : (f : Fault) (o : Outcome) → StepEnds asking o old.shared.globals new (Err f) → new.shared.globals ≡ old.shared.globals
-  kept_globals f (Faults g) h = h.1
-  kept_globals f o h = h.1
-
 -- how a quiet step ends
 abbrev pub QuietEnds : StoryTree → Stepped → List Event → Configuration → Configuration → Result StepEnd Fault → Type 0
 QuietEnds s o es old new (Ok ends.Went) = (es ≡ []) × (is_call o ≡ false) × ((left : List (Option Given)) (made : List Made) → came s old o left made ≡ At new left made)
 QuietEnds s o es old new (Ok ends.Stopped) = (es ≡ []) × (is_call o ≡ false) × ((left : List (Option Given)) (made : List Made) → came s old o left made ≡ Stopped new left made)
 QuietEnds s o es old new (Ok ends.WantsCall) = es ≡ []
-QuietEnds s o es old new (Err f) = (es ≡ []) × (is_call o ≡ false) × (new.shared.globals ≡ old.shared.globals)
+QuietEnds s o es old new (Err f) = (es ≡ []) × (is_call o ≡ false)
 
 module _ (s : StoryTree) (b : Bound) (n : ℕ) (pressed asking : Bool) (es : List Event) (old new : Configuration) where
   pub quiet_ends : (o : Stepped) (r : Result StepEnd Fault) → Steps true s b n pressed asking o es old.shared.globals old new r → QuietEnds s o es old new r
@@ -69,7 +65,7 @@ module _ (s : StoryTree) (b : Bound) (n : ℕ) (pressed asking : Bool) (es : Lis
   quiet_ends (Comes o) (Ok ends.Went) h = (h.0, refl, went (pressed || asking) old new o h.1)
   quiet_ends (Comes o) (Ok ends.Stopped) h = (h.0, refl, stopped (pressed || asking) old new o h.1)
   quiet_ends (Comes o) (Ok ends.WantsCall) h = absurd (never_wants (pressed || asking) o old.shared.globals new h.1)
-  quiet_ends (Comes o) (Err f) h = (h.0, refl, kept_globals (pressed || asking) old new f o h.1)
+  quiet_ends (Comes o) (Err f) h = (h.0, refl)
 
   -- the same by what it returned
   pub quiet_so : (o : Stepped) (r k : Result StepEnd Fault) → r ≡ k → Steps true s b n pressed asking o es old.shared.globals old new r → QuietEnds s o es old new k

@@ -44,20 +44,20 @@ module _ (hands : Configuration → Said) (asks : Configuration → Bool) where
 
 -- ---- from where a command has begun
 
--- Memory was refused to a line, with these calls made, at a configuration.
+-- Memory was refused to a line, with these calls made, which leaves the globals of a configuration.
 abbrev pub LineShort : StoryTree → Bound → Configuration → List Made → Configuration → Type 0
-LineShort s b start made reached = ((got : GetsTo s b start made reached) × NoneSoFar s b start made got.steps)
-    ⊎ (((got : CallsAt s b start made reached) × NoneSoFar s b start made got.steps) ⊎ LooksFrom s b start made reached)
+LineShort s b start made kept = ((got : GetsTo s b start made kept) × NoneSoFar s b start made got.steps)
+    ⊎ (((got : CallsAt s b start made kept) × NoneSoFar s b start made got.steps) ⊎ LooksFrom s b start made kept)
 
 -- the line, under the answers of these calls, comes to a moment
 abbrev pub ComesToLine : StoryTree → Bound → Configuration → List Made → Moment → Type 0
 ComesToLine s b start made x = IsLineOf s b MAX_STEPS (moment s b start (answers_of made)) x
 
--- A line ended with a fault, or memory was refused to it, at a configuration with these globals.
+-- A line ended with a fault, or memory was refused to it, and it leaves these globals.
 pub record LineFalls (s : StoryTree) (b : Bound) (start : Configuration) (made : List Made) (globals : Values) (f : Fault) : Type 0 where
-  pub before : Configuration
-  pub kept : globals ≡ before.shared.globals
-  pub why : ComesToLine s b start made (Faulted f before [] made) ⊎ ((f ≡ OutOfMemory) × LineShort s b start made before)
+  pub kept : Configuration
+  pub leaves : globals ≡ kept.shared.globals
+  pub why : ComesToLine s b start made (Faulted f kept [] made) ⊎ ((f ≡ OutOfMemory) × LineShort s b start made kept)
 
 -- A line to where it was cut, or to its stop; or to a fault, with the globals that it leaves.
 abbrev pub RunsToLine : StoryTree → Bound → Configuration → List Made → Configuration → Result Bool Fault → Type 0

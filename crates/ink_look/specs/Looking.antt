@@ -48,6 +48,11 @@ abbrev pub waiting_after : Looked → Option ℕ
 waiting_after (looked.Newline newline) = Some newline
 waiting_after l = None
 
+-- none where the step was refused memory or faulted
+abbrev pub waiting_then : Result Looked Fault → Option ℕ
+waiting_then (Ok l) = waiting_after l
+waiting_then (Err f) = None
+
 -- a mark stands, and there each part was as it is in some machine
 abbrev pub IsMarked : Machine → Type 0
 IsMarked m = (there : Machine) × (stood_of m ≡ marked_at there)
@@ -90,10 +95,10 @@ FindsAs newline kept now (Ok looked.Stopped) = ⊤
 FindsAs newline kept now (Ok l) = (l ≡ found_of newline) × MarksHere l kept now
 FindsAs newline kept now (Err f) = ⊤
 
--- A step past a newline, which may be refused memory, unless it would call a turn function.
+-- A step past a newline, which may be refused memory, unless it would call a turn function: then it has gone back to the newline.
 abbrev pub LooksAs : StoryTree → Bound → ℕ → Configuration → Configuration → Configuration → Configuration → Result Looked Fault → Type 0
 LooksAs s b newline kept old kept_then new (Ok l) = (left : List (Option Given)) (made : List Made) → look_on s b (Looking (At kept left made) newline (At old left made)) ≡ search_after l kept_then new left made
-LooksAs s b newline kept old kept_then new (Err f) = (f ≡ OutOfMemory) × (is_call (step s b old) ≡ false) × (new.shared.globals ≡ old.shared.globals)
+LooksAs s b newline kept old kept_then new (Err f) = (f ≡ OutOfMemory) × (is_call (step s b old) ≡ false) × (new ≡ kept)
 
 -- A step, with its events, which count on from a stamp: where no newline waits, one of a run, by what it writes; else one that calls
 -- nothing.

@@ -31,8 +31,8 @@ pub enum LineEnd {
 /// newline that is shown; no watcher is told. The fault is that of the step that faulted with no newline open, `OutOfSteps` after
 /// 1,000,000 steps without one, or `OutOfMemory` where memory was refused to a step that asks for it, to what came of a call that it
 /// made, to a look past a newline at a step that calls no turn function, or at the end to a text of more than blanks or to tags.
-/// After a fault the globals are as they were before the step that faulted or was refused memory, which may be one past a newline,
-/// and the machine is of use for them alone (docs/RUNNING.md, "Lines", "Out of memory").
+/// After a fault the globals are as they were before the step that faulted or was refused memory, or behind the newline where a look
+/// past it was; and the machine is of use for them alone (docs/RUNNING.md, "Lines", "Out of memory").
 pub fn line<P: PureFn, F: TurnFn, O: Watcher>(
     machine: &mut Machine,
     story: &Story,
@@ -49,10 +49,7 @@ pub fn line<P: PureFn, F: TurnFn, O: Watcher>(
     machine.begin();
     match find_line(machine, story, desk) {
         Ok(is_cut) => say(machine, is_cut),
-        Err(fault) => {
-            machine.forget();
-            LineEnd::Fault(fault)
-        }
+        Err(fault) => LineEnd::Fault(fault),
     }
 }
 

@@ -1,13 +1,13 @@
 //! Looking past newlines: a mark is set at a newline, flow runs on, and goes back there, unless the newline was hidden or flow
 //! stopped (docs/RUNNING.md, "Lines", "Marks").
 
-ghost use Rattle.std.specs.Prelude.{◌≡◌, suc, length, List, Option, IfOk, None, Some};
+ghost use Rattle.std.specs.Prelude.{◌≡◌, suc, length, List, Option, None, Some};
 ghost use Rattle.ink_check.specs.Words.{story_tree};
 ghost use Rattle.ink_host.specs.Desk.{Grew, bound_by};
 ghost use Rattle.ink_host.specs.Telling.{log_of};
 ghost use Rattle.ink_line.specs.Look.{looked_by};
 ghost use Rattle.ink_look.specs.LineEnds.{RunsToLine};
-ghost use Rattle.ink_look.specs.Looking.{IsMarked, MarksHere, StandsAs, StepsOn, Waits, found_of, newline_from, search_after, waiting_after};
+ghost use Rattle.ink_look.specs.Looking.{IsMarked, MarksHere, StandsAs, StepsOn, Waits, found_of, newline_from, search_after, waiting_after, waiting_then};
 ghost use Rattle.ink_model.specs.Configuration.{Configuration};
 ghost use Rattle.ink_model.specs.Events.{Made, calls};
 ghost use Rattle.ink_model.specs.Run as runs;
@@ -44,8 +44,9 @@ enum Standing {
 }
 
 /// Runs to the end of a line, from where a running command has begun. True where it was cut, and the machine has gone back to its
-/// newline; false where flow stopped; no mark is left then. The fault is that of the line, or `OutOfMemory` for a refused request
-/// for memory; the globals are then as they were before that step, and the machine is of use for them alone.
+/// newline; false where flow stopped. The fault is that of the line, or `OutOfMemory` for a refused request for memory; the globals
+/// are then as they were before that step, or behind the newline where one waited, and the machine is of use for them alone.
+/// Afterwards no mark is left.
 pub(crate) fn find_line<P: PureFn, F: TurnFn, O: Watcher>(
     machine: &mut Machine,
     story: &Story,
@@ -58,7 +59,7 @@ pub(crate) fn find_line<P: PureFn, F: TurnFn, O: Watcher>(
     ensures watchers { desk.new.watchers ≡ desk.old.watchers }
     ensures start { start_of machine.new ≡ start_of machine.old }
     ensures aside { aside_in machine.new ≡ aside_in machine.old }
-    ensures mark { IfOk result (λ is_cut. stood_of machine.new ≡ unmarked) }
+    ensures mark { stood_of machine.new ≡ unmarked }
 {
     let mut waiting: Option<usize> = None;
     for _step in 0..MAX_STEPS {
@@ -91,7 +92,7 @@ fn step_on<P: PureFn, F: TurnFn, O: Watcher>(
     ensures watchers { desk.new.watchers ≡ desk.old.watchers }
     ensures start { start_of machine.new ≡ start_of machine.old }
     ensures aside { aside_in machine.new ≡ aside_in machine.old }
-    ensures waits { IfOk result (λ l. Waits (waiting_after l) machine.new) }
+    ensures waits { Waits (waiting_then result) machine.new }
 {
     match waiting {
         Some(newline) => look(machine, story, desk, newline),
@@ -113,7 +114,7 @@ fn seek<P: PureFn, F: TurnFn, O: Watcher>(
     ensures watchers { desk.new.watchers ≡ desk.old.watchers }
     ensures start { start_of machine.new ≡ start_of machine.old }
     ensures aside { aside_in machine.new ≡ aside_in machine.old }
-    ensures waits { IfOk result (λ l. Waits (waiting_after l) machine.new) }
+    ensures waits { Waits (waiting_then result) machine.new }
 {
     let marks = machine.parts().output.len();
     match machine.step(story, desk, false)? {
@@ -122,8 +123,8 @@ fn seek<P: PureFn, F: TurnFn, O: Watcher>(
     }
 }
 
-// A step past a newline, which calls no turn function. The one error is `OutOfMemory`, never where the step would call one; any
-// other fault is left to the next line.
+// A step past a newline, which calls no turn function. The one error is `OutOfMemory`, never where the step would call one, and
+// the machine has gone back to the newline then; any other fault is left to the next line.
 fn look<P: PureFn, F: TurnFn, O: Watcher>(
     machine: &mut Machine,
     story: &Story,
@@ -138,13 +139,16 @@ fn look<P: PureFn, F: TurnFn, O: Watcher>(
     ensures watchers { desk.new.watchers ≡ desk.old.watchers }
     ensures start { start_of machine.new ≡ start_of machine.old }
     ensures aside { aside_in machine.new ≡ aside_in machine.old }
-    ensures waits { IfOk result (λ l. Waits (waiting_after l) machine.new) }
+    ensures waits { Waits (waiting_then result) machine.new }
 {
     let marks = machine.parts().output.len();
     match machine.step(story, desk, true) {
         Ok(StepEnd::Went) => Ok(went_on(machine, marks, newline)),
         Ok(StepEnd::Stopped) => Ok(stopped(machine, newline)),
-        Err(Fault::OutOfMemory) => Err(Fault::OutOfMemory),
+        Err(Fault::OutOfMemory) => {
+            let _undone = machine.back();
+            Err(Fault::OutOfMemory)
+        }
         Ok(StepEnd::WantsCall) => Ok(cut(machine)),
         Err(_) => Ok(cut(machine)),
     }

@@ -1,5 +1,5 @@
 -- Where memory may be refused, and what is answered then (docs/RUNNING.md, "Out of memory").
-use Rattle.std.specs.Prelude.{◌≡◌, ◌<◌, ◌⊎◌, ℕ, List, [], ◌∷◌, ◌++◌, length, nat_lt, Bool, true, false, not, ◌&&◌, ◌||◌, Option, Some, None, Result, Ok, Err, OnErr}
+use Rattle.std.specs.Prelude.{◌≡◌, ◌<◌, ◌⊎◌, ℕ, suc, List, [], ◌∷◌, ◌++◌, length, nat_lt, Bool, true, false, not, ◌&&◌, ◌||◌, Option, Some, None, Result, Ok, Err, OnErr}
 unfoldable pub use Rattle.ink_model.specs.Asks.{acting_asks, asks, asks_at, asks_for, content_asks, control_asks, going_in_asks, has_top, is_found_late, leaf_asks, offer_asks, operator_asks, output_asks, visit_asks}
 use Rattle.ink_model.specs.Tree.{StoryTree}
 use Rattle.ink_model.specs.Choices.{has_any}
@@ -102,27 +102,29 @@ pub record FallsShort (s : StoryTree) (b : Bound) (c : Configuration) (made : Li
 -- ---- lines
 
 -- A run got to a configuration up to which the newline of a step stays open, and whose step calls no turn function: there memory
--- is asked for to come back to that newline.
-pub record LooksFrom (s : StoryTree) (b : Bound) (c : Configuration) (made : List Made) (reached : Configuration) : Type 0 where
+-- is asked for to come back to that newline. What is kept is the configuration behind it.
+pub record LooksFrom (s : StoryTree) (b : Bound) (c : Configuration) (made : List Made) (kept : Configuration) : Type 0 where
   pub steps : ℕ
   pub within : steps < MAX_STEPS
+  pub reached : Configuration
   pub got_there : moment s b c (answers_of made) steps ≡ At reached [] made
   pub calls_nothing : is_call (step s b reached) ≡ false
   pub step : ℕ
   pub opens : StaysOpen s b (moment s b c (answers_of made)) step steps
   pub first : NoneBelow s b MAX_STEPS (moment s b c (answers_of made)) step
+  pub goes_back : moment s b c (answers_of made) (suc step) ≡ At kept [] made
 
 -- no step of a run up to there has a firm newline
 abbrev pub NoneSoFar : StoryTree → Bound → Configuration → List Made → ℕ → Type 0
 NoneSoFar s b c made steps = NoneBelow s b MAX_STEPS (moment s b c (answers_of made)) steps
 
--- The line of a command, with these calls made, got as far as a step for which memory was refused, before which the globals had
--- these values: with no newline open, as a run does; or while it looked on from one.
+-- The line of a command, with these calls made, got as far as a step for which memory was refused, and leaves these globals: with
+-- no newline open those before that step, as a run does; while it looked on from one, those behind that newline.
 pub record LineFallsShort (s : StoryTree) (b : Bound) (c : Configuration) (made : List Made) (globals : Values) : Type 0 where
-  pub reached : Configuration
-  pub got_there : ((got : GetsTo s b (begun c) made reached) × NoneSoFar s b (begun c) made got.steps)
-      ⊎ (((got : CallsAt s b (begun c) made reached) × NoneSoFar s b (begun c) made got.steps) ⊎ LooksFrom s b (begun c) made reached)
-  pub leaves : globals ≡ reached.shared.globals
+  pub kept : Configuration
+  pub got_there : ((got : GetsTo s b (begun c) made kept) × NoneSoFar s b (begun c) made got.steps)
+      ⊎ (((got : CallsAt s b (begun c) made kept) × NoneSoFar s b (begun c) made got.steps) ⊎ LooksFrom s b (begun c) made kept)
+  pub leaves : globals ≡ kept.shared.globals
 
 -- ---- opening
 

@@ -5,7 +5,7 @@ use Rattle.ink_model.specs.Flows.{Aside, Game}
 use Rattle.ink_model.specs.declared.fault.Fault.{Fault}
 use Rattle.ink_model.specs.declared.value.Value.{Value}
 
--- ready, or broken by a fault, with the globals as they stood before the step that faulted
+-- ready, or broken by a fault, with the globals that are left
 pub data Condition : Type 0 where
   Ready : (now : Configuration) → Condition
   Broken : (fault : Fault) → (globals : List (List ℕ × Value)) → Condition

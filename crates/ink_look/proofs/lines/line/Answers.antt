@@ -1,9 +1,6 @@
-use Rattle.std.proofs.Common.{◌∙◌, subst, sym}
+use Rattle.std.proofs.Common.{◌∙◌}
 use Rattle.ink_check.specs.Words.{story_tree}
 use Rattle.ink_host.specs.Desk.{bound_by}
-use Rattle.ink_look.specs.LineEnds.{RunsLine}
-use Rattle.ink_look.specs.Words.{said, said_asks}
-use Rattle.ink_look.specs.declared.lines.LineEnd.TheVariants.{Fault}
 use Rattle.ink_look.proofs.LineEnding.{falls, says, line_kept}
 use Rattle.ink_look.proofs.lines.line.Goals as goal
 use Rattle.ink_step.specs.Words.{config_of}
@@ -24,20 +21,14 @@ returns-in-Err-clause-line g c =
     let s = story_tree c.args.story.now in
     let b = bound_by g.P.PureFn.meaning c.args.desk.now.functions in
     let ran = c.in-Err.ensures.line in
-    let before = config_of s c.args.machine.now in
-    let begun = config_of s c.begin.new.self in (
-      ran.0,
-      ran.1,
-      subst (λ new. RunsLine said said_asks s b before ran.0 new (Fault c.in-Err.fault)) (sym (c.forget.ensures.config s))
-          (falls s b ran.0 before begun (c.begin.ensures.begun s) c.in-Err.fault (config_of s c.find_line.new.machine) ran.2),
-    )
+    (ran.0, ran.1, falls s b ran.0 (config_of s c.args.machine.now) (config_of s c.begin.new.self) (c.begin.ensures.begun s) c.in-Err.fault (config_of s c.find_line.new.machine) ran.2)
 
 -- changes are told from where the command began
 pub returns-in-Ok-clause-start : goal.returns-in-Ok-clause-start
 returns-in-Ok-clause-start g c = c.say.ensures.start ∙ c.in-Ok.ensures.start ∙ c.begin.ensures.start
 
 pub returns-in-Err-clause-start : goal.returns-in-Err-clause-start
-returns-in-Err-clause-start g c = c.forget.ensures.start ∙ c.in-Err.ensures.start ∙ c.begin.ensures.start
+returns-in-Err-clause-start g c = c.in-Err.ensures.start ∙ c.begin.ensures.start
 
 -- what is said calls nothing
 pub returns-in-Ok-clause-refusals : goal.returns-in-Ok-clause-refusals

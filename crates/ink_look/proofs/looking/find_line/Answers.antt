@@ -1,7 +1,7 @@
 use Rattle.std.proofs.Common.{◌≡◌, ◌∙◌, ◌+◌, ap, arith, refl, rules, subst, sym, Err, inl}
 use Rattle.ink_check.specs.Words.{story_tree}
 use Rattle.ink_host.specs.Telling.{log_of}
-use Rattle.ink_look.specs.Looking.{waiting_after}
+use Rattle.ink_look.specs.Looking.{Waits, waiting_after}
 use Rattle.ink_look.specs.declared.looking.Looked.TheVariants as after
 use Rattle.ink_look.proofs.Marks.{waits_as, waits_for}
 use Rattle.ink_look.proofs.Searches.{EndsLine, ran_back, ran_none, ran_on, ran_out, ran_past, ran_to, ran_to_cut, ran_to_fault, ran_to_stop}
@@ -120,6 +120,9 @@ returns-in_default-clause-line g c =
 
 pub returns-in_default-clause-watchers : goal.returns-in_default-clause-watchers
 returns-in_default-clause-watchers g c = c.loop-step.invariant.watchers
+
+pub returns-in_default-clause-mark : goal.returns-in_default-clause-mark
+returns-in_default-clause-mark g c = subst (λ w. Waits w c.loop-step.machine) c.in_default.is c.loop-step.invariant.waits
 
 pub returns-in_default-clause-start : goal.returns-in_default-clause-start
 returns-in_default-clause-start g c = c.loop-step.invariant.start

@@ -58,10 +58,13 @@ returns-in-Err-OutOfMemory-clause-steps g c =
     let s = story_tree c.args.story.now in
     let b = bound_by g.P.PureFn.meaning c.args.desk.now.functions in
     let old = config_of s c.args.machine.now in
-    let new = config_of s c.step.new.self in
     let h = c.in-Err-OutOfMemory.ensures.step in
-    let q = quiet_so s b c.args.desk.now.next (presses s c.args.machine.now c.step.new.self) (asks s b old) h.0 old new (step s b old) (Err c.in-Err-OutOfMemory.field-0) (Err OutOfMemory) (ap Err c.in-Err-OutOfMemory.field-0-is) h.2 in
-    (h.0, h.1, (q.0, (refl, q.1, q.2)))
+    let q = quiet_so s b c.args.desk.now.next (presses s c.args.machine.now c.step.new.self) (asks s b old) h.0 old (config_of s c.step.new.self) (step s b old) (Err c.in-Err-OutOfMemory.field-0) (Err OutOfMemory)
+    (ap Err c.in-Err-OutOfMemory.field-0-is) h.2 in (
+      h.0,
+      h.1,
+      (q.0, (refl, q.1, c.back-undone.ensures.config s ∙ back_stays s c.args.machine.now c.step.new.self c.requires.waits c.in-Err-OutOfMemory.ensures.mark)),
+    )
 
 pub returns-in-Ok-WantsCall-clause-steps : goal.returns-in-Ok-WantsCall-clause-steps
 returns-in-Ok-WantsCall-clause-steps g c =

@@ -3,7 +3,7 @@ use Rattle.ink_check.specs.Words.{story_tree}
 use Rattle.ink_host.specs.Desk.{bound_by}
 use Rattle.ink_look.proofs.Steps.{seeks_on, unmarked_makes}
 use Rattle.ink_look.proofs.looking.seek.Goals as goal
-use Rattle.ink_look.specs.Looking.{StepsOn}
+use Rattle.ink_look.specs.Looking.{StepsOn, Waits, waiting_then}
 use Rattle.ink_step.specs.Marks.{config_back}
 use Rattle.ink_step.specs.Refusals.{StepStopsAtRefusal}
 use Rattle.ink_step.specs.Words.{config_of}
@@ -34,6 +34,12 @@ returns-in_err-step-clause-steps g c =
       subst (StepsOn s b c.args.desk.now.next None (config_back s c.args.machine.now) (config_of s c.args.machine.now) h.0 (config_back s left) (config_of s left)) (sym is)
           (unmarked_makes s b c.args.desk.now.next c.args.machine.now left h.0 _ (Err f) c.requires.unmarked c.in_err-step.ensures.mark refl h.2, tt),
     )
+
+-- no mark stands, as none stood
+pub returns-in_err-step-clause-waits : goal.returns-in_err-step-clause-waits
+returns-in_err-step-clause-waits g c =
+    let is : c.from_residual.result ≡ Err c.in_err-step.field-0.0 = search rules in
+    subst (λ r. Waits (waiting_then r) c.step.new.self) (sym is) (c.in_err-step.ensures.mark ∙ c.requires.unmarked)
 
 pub returns-in_err-step-clause-refusals : goal.returns-in_err-step-clause-refusals
 returns-in_err-step-clause-refusals g c =
