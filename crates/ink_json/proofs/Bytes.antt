@@ -1,5 +1,5 @@
 -- From bytes to the value of their JSON, and from it to the root.
-use Rattle.std.proofs.Common.{◌≡◌, ℕ, ◌+◌, ◌<◌, ◌≤◌, List, [], ◌∷◌, length, Bool, true, false, ◌==◌, Option, Some, None, Result, Ok, Err, IsSome, if◌then◌else◌, IsUtf8, Ordering, Less, Equal, Greater, nat_cmp, refl, sym, ap, ◌∙◌, arith}
+use Rattle.std.proofs.Common.{◌≡◌, ℕ, ◌+◌, ◌<◌, ◌≤◌, List, [], ◌∷◌, length, Bool, true, false, ◌==◌, Option, Some, None, Result, Ok, Err, IsSome, IsUtf8, Ordering, Less, Equal, Greater, nat_cmp, refl, sym, ap, ◌∙◌, arith}
 use Rattle.std.proofs.lemmas.Bool.{eqb-true, eqb-false}
 use Rattle.std.proofs.lemmas.Str.{IsUtf8-from_is_utf8, is_utf8-from_IsUtf8}
 use Rattle.std.specs.Cmp.Lexicographic.{slice_cmp}
@@ -7,11 +7,15 @@ use Rattle.std.specs.Ordering.{match_ordering}
 use Rattle.std.specs.Str.{is_utf8}
 use Rattle.json.specs.Token.{Token}
 use Rattle.json.specs.Lex.{tokens}
-use Rattle.json.specs.Json.{Json, document}
+use Rattle.json.specs.Json.{document}
 use Rattle.serde_json.specs.Data.{Data, null, boolean, number, string, array, object, Members, no_members, member}
 use Rattle.serde_json.specs.Find.{get, get_member}
 use Rattle.serde_json.specs.Read.{read}
 use Rattle.serde_json.proofs.OnLiterals.{serde_json_on_literals}
+use Rattle.json_tape.specs.Size.{size, members_size}
+use Rattle.json_tape.specs.Spelled.{are_sound, data_of, held}
+use Rattle.json_tape.proofs.Size.{read_size}
+use Rattle.json_tape.proofs.Spelled.{there, text_read, held_is, spelled_data}
 use Rattle.ink_model.specs.declared.limits.TheConstants.{MAX_STORY}
 use Rattle.ink_model.specs.Grammar.{here, json, unmarked, of_json, story}
 use Rattle.ink_model.specs.declared.fault.Cause.TheVariants.{NotJson}
@@ -19,10 +23,6 @@ use Rattle.ink_model.specs.declared.fault.Failure.{Failure}
 use Rattle.ink_model.specs.declared.fault.Failure.TheVariants.{OutOfMemory, Refused}
 use Rattle.ink_model.specs.declared.fault.ReadRefusal.{ReadRefusal}
 use Rattle.ink_json.specs.Reading.{is_parsable, is_parsed, Reads, ReadsOr}
-use Rattle.ink_json.specs.Size.{size, members_size}
-use Rattle.ink_json.specs.Spelled.{are_sound, data_of}
-use Rattle.ink_json.proofs.Size.{read_size}
-use Rattle.ink_json.proofs.Spelled.{there, text_read, text_unsound, spelled_data}
 use Rattle.ink_json.proofs.Conditions.{not_above}
 
 -- ---- text and JSON
@@ -62,21 +62,8 @@ parsable (c ∷ cs) text b same utf8 e is = let h = is_utf8-from_IsUtf8 (c ∷ c
 
 -- ---- the tape of a text
 
--- what a tape of text holds, where it is sound
-abbrev pub held : List Token → Option Data
-held ts = if are_sound 0 ts then Some (data_of ts) else None
-
-held_when : (ts : List Token) (b : Bool) → are_sound 0 ts ≡ b → held ts ≡ (if b then Some (data_of ts) else None)
-held_when ts b e = ap (λ sound. if sound then Some (data_of ts) else None) e
-
-held_is : (text : List ℕ) (j : Json) (b : Bool) → document text ≡ Some j → are_sound 0 (tokens text) ≡ b → held (tokens text) ≡ read text
-held_is text j true is e =
-    let found = text_read text j is e in
-    held_when (tokens text) true e ∙ ap Some (spelled_data (tokens text) found.0 found.2) ∙ sym found.1
-held_is text j false is e = held_when (tokens text) false e ∙ sym (text_unsound text e)
-
 pub tape_json : (bytes text : List ℕ) (tape : List Token) → text ≡ bytes → IsUtf8 bytes → tape ≡ tokens text → IsSome (document text) → held tape ≡ json bytes
-tape_json bytes text tape same utf8 all is = let j = there (document text) is in ap held all ∙ held_is text j.0 _ j.1 refl ∙ sym (text_json bytes text same utf8)
+tape_json bytes text tape same utf8 all is = ap held all ∙ held_is text is ∙ sym (text_json bytes text same utf8)
 
 pub tape_size : (text : List ℕ) (tape : List Token) → tape ≡ tokens text → IsSome (document text) → are_sound 0 tape ≡ true → size (data_of tape) ≤ length text + 1
 tape_size text tape all is e =

@@ -1,8 +1,10 @@
 -- Reading content element by element and key by key, beside its faults and its tree.
 use Rattle.std.proofs.Common.{◌≡◌, ℕ, ◌+◌, ◌≤◌, List, [], ◌∷◌, ◌++◌, map, Bool, true, false, cond, Option, Some, None, Ok, Err, refl, sym, ap, ◌∙◌, append_assoc, arith}
 use Rattle.serde_json.specs.Data.{Data, null, boolean, number, string, array, object, Items, no_items, item, Members, no_members, member}
+use Rattle.json_tape.specs.Value.{json_data, members_of, Entry, members_data}
+use Rattle.json_tape.specs.Size.{size, items_size}
+use Rattle.json_tape.proofs.Conditions.{both}
 use Rattle.ink_model.specs.declared.version.InkVersion.{InkVersion}
-use Rattle.ink_json.specs.Value.{json_data, members_of, Entry, members_data}
 use Rattle.ink_model.specs.Tree.{StoryTree, container, Keyed}
 use Rattle.ink_model.specs.declared.limits.TheConstants.{MAX_NESTING}
 use Rattle.ink_model.specs.Grammar.{under, first, own, own_after, is_empty, is_last, are_flags, member_of, flags_key, flags_of, name_in, name_of, is_misnamed, is_taken, with_name, is_own, content, faults, faults_inside, faults_keyed, faults_by, tree_of, content_of, keyed_in, keyed_last, keyed_by}
@@ -12,18 +14,9 @@ use Rattle.ink_model.specs.declared.fault.ReadRefusal.{ReadRefusal}
 use Rattle.ink_model.specs.declared.place.Part.{Part}
 use Rattle.ink_model.specs.declared.place.Part.TheVariants.{Index, Name}
 use Rattle.ink_json.specs.Reading.{takes_memory, Fails, IsFirst, is_whole, faults_named}
-use Rattle.ink_json.specs.Size.{size, items_size}
-use Rattle.ink_json.proofs.Conditions.{both, not_above}
+use Rattle.ink_json.proofs.Conditions.{not_above}
 
 -- ---- sizes
-
-pub size_positive : (d : Data) → 1 ≤ size d
-size_positive null = omega arith
-size_positive (boolean b) = omega arith
-size_positive (number n) = omega arith
-size_positive (string s) = omega arith
-size_positive (array ds) = omega arith
-size_positive (object ms) = omega arith
 
 pub last_within : (d last : Data) (ds : Items) → own_after d ds ≡ last → size last ≤ items_size (item d ds)
 last_within d last no_items e = omega (arith, ap size e)

@@ -3,6 +3,9 @@ use Rattle.std.proofs.Common.{◌≡◌, ℕ, suc, ◌+◌, ◌≤◌, List, [],
 use Rattle.std.proofs.lemmas.List.{length-append}
 use Rattle.std.specs.Result.{result_unwrap_or}
 use Rattle.serde_json.specs.Data.{Data, Items, no_items, item, Members, no_members, member}
+use Rattle.json_tape.specs.Size.{size, items_size, members_size}
+use Rattle.json_tape.specs.Value.{json_data, Entry, members_data}
+use Rattle.json_tape.proofs.Counts.{size_positive}
 use Rattle.ink_model.specs.Grammar.{first, leaf_faults, is_own, own_after, tree_of, content_of, keyed_by}
 use Rattle.ink_model.specs.Places.{places, places_from}
 use Rattle.ink_model.specs.Tree.{StoryTree, leaf, container, Trees, Keyed, key, count}
@@ -16,10 +19,7 @@ use Rattle.ink_model.specs.declared.place.Part.TheVariants.{Index}
 use Rattle.ink_model.specs.declared.version.InkVersion.{InkVersion}
 use Rattle.ink_json.specs.Listing.{IsListed, container_node, nodes_of, nodes_from, nodes_by_key, nodes_inside, rebuilt}
 use Rattle.ink_json.specs.Reading.{placed}
-use Rattle.ink_json.specs.Size.{size, items_size, members_size}
-use Rattle.ink_json.specs.Value.{json_data, Entry, members_data}
 use Rattle.ink_json.specs.Node.{Node}
-use Rattle.ink_json.proofs.Containers.{size_positive}
 use Rattle.ink_json.proofs.Listing.{listed, many, many_from}
 use Rattle.ink_json.proofs.Many.{places_within, under_more}
 

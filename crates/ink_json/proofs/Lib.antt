@@ -1,6 +1,5 @@
 pub mod Adding
 pub mod Narrow
-pub mod Size
 pub mod Sets
 pub mod Words
 pub mod Lasts
@@ -8,18 +7,11 @@ pub mod Containers
 pub mod Bytes
 pub mod Width
 pub mod Conditions
-pub mod Spelled
-pub mod Shapes
-pub mod Counts
 pub mod Root
 pub mod Rising
 pub mod Many
 pub mod Listing
-pub mod Digits
 pub mod Downward
 pub mod Growing
 pub mod Keeping
-pub mod Taped
-pub mod Moves
-pub mod Tokens
-pub mod Elements
+pub mod Blank

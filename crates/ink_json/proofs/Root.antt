@@ -5,16 +5,16 @@ use Rattle.std.specs.Str.{is_utf8}
 use Rattle.serde_json.specs.Data.{Data}
 use Rattle.serde_json.specs.Find.{get}
 use Rattle.serde_json.specs.Read.{read}
+use Rattle.json_tape.specs.Size.{size}
+use Rattle.json_tape.proofs.Size.{read_size}
 use Rattle.ink_model.specs.Tree.{StoryTree}
 use Rattle.ink_model.specs.declared.limits.TheConstants.{MAX_STORY}
 use Rattle.ink_model.specs.Grammar.{here, is_object, is_blank_object, tree_of, faults, unmarked, json, of_json, of_value, of_version, version_of, root_of, story}
 use Rattle.ink_model.specs.declared.fault.Cause.TheVariants.{Shape, Unsupported}
 use Rattle.ink_model.specs.declared.fault.ReadRefusal.{ReadRefusal}
 use Rattle.ink_model.specs.declared.version.InkVersion.{InkVersion}
-use Rattle.ink_json.specs.Size.{size}
 use Rattle.ink_json.proofs.Bytes.{get_size}
 use Rattle.ink_json.proofs.Containers.{first_ok}
-use Rattle.ink_json.proofs.Size.{read_size}
 
 -- A tree is that of the value at `root` in the data that a text is, and the text is within the limit.
 pub record Root (t : StoryTree) : Type 0 where

@@ -2,14 +2,9 @@ pub mod Story
 pub mod Size
 pub mod Reading
 pub mod Heads
-pub mod Marks
 pub mod Descent
 pub mod Last
 pub mod Node
 pub mod Kept
 pub mod Listing
 pub mod Order
-pub mod Spelled
-pub mod Number
-pub mod Value
-pub mod Tape

@@ -3,6 +3,8 @@
 ghost use Rattle.std.specs.Prelude.{◌≡◌, ◌+◌, ◌++◌, ◌≤◌, ◌<◌, ◌^◌, ℕ, List, [], length, IfOk, IfErr, OnOk, Some, Result, map, true, false};
 ghost use Rattle.std.specs.Result.{result_unwrap_or};
 ghost use Rattle.serde_json.specs.Data.{array as json_array, item};
+ghost use Rattle.json_tape.specs.Size.{size, items_size, members_size};
+ghost use Rattle.json_tape.specs.Value.{json_data, items_left, members_data};
 ghost use Rattle.ink_model.specs.Grammar.{content, content_of, tree_of, keyed_in, keyed_last, faults, faults_inside, faults_keyed, faults_by, keyed_by, first, leaf_faults, under, own_after};
 ghost use Rattle.ink_model.specs.Tree.{count, leaf};
 ghost use Rattle.ink_model.specs.View.{count_keys};
@@ -11,8 +13,7 @@ ghost use Rattle.ink_model.specs.declared.content.Leaf.{Leaf as AnyLeaf};
 ghost use Rattle.ink_model.specs.declared.place.Part.TheVariants.{Index, Name};
 ghost use Rattle.ink_json.specs.Listing.{Lists, ListsByKey, nodes_from, nodes_inside};
 ghost use Rattle.ink_json.specs.Reading.{Reads, IsFirst, Holds, faults_named, placed};
-ghost use Rattle.ink_json.specs.Size.{Fits, size, items_size, members_size};
-ghost use Rattle.ink_json.specs.Value.{json_data, items_left, members_data};
+ghost use Rattle.ink_json.specs.Size.{Fits};
 
 use crate::error::{ReadFailure, at_index, at_name, refused};
 use crate::last::Last;
@@ -22,8 +23,8 @@ use crate::nodes::Nodes;
 use crate::object::read_object_leaf;
 use crate::own::{copy_name, is_own, label_of, read_own};
 use crate::texts::Texts;
-use crate::value::{Items, Kind, Value};
 use ink_model::{Cause, Content, InkVersion, Leaf, MAX_NESTING};
+use json_tape::value::{Items, Kind, Value};
 use std::alloc::Global;
 use std::collections::{BTreeMap, BTreeSet};
 

@@ -1,13 +1,13 @@
 //! The heads of an object, which say what it is.
 
 ghost use Rattle.std.specs.Prelude.{◌++◌};
-ghost use Rattle.ink_json.specs.Value.{json_data};
+ghost use Rattle.json_tape.specs.Value.{json_data};
 ghost use Rattle.ink_model.specs.Leaves.{by_head, jump_readings, value_readings, store_readings};
 ghost use Rattle.ink_json.specs.Heads.{Counts, Adds, reading};
 
 use crate::object::Object;
 use crate::readings::{Jump, Scope};
-use crate::value::Value;
+use json_tape::value::Value;
 
 /// The key that says what an object is.
 #[derive(Clone, Copy)]

@@ -2,17 +2,17 @@
 
 ghost use Rattle.std.specs.Prelude.{length, nat_lt, Ok, Err, if◌then◌else◌, ok_or};
 ghost use Rattle.serde_json.specs.Find.{as_integer};
-ghost use Rattle.ink_json.specs.Number.{num};
+ghost use Rattle.json_tape.specs.Number.{num};
 ghost use Rattle.ink_model.specs.Word.{word};
 ghost use Rattle.ink_model.specs.Leaves.{string_leaf, integer_leaf};
 ghost use Rattle.ink_json.specs.Reading.{Reads, placed};
 
 use crate::error::{ReadFailure, refused};
 use crate::limits::{LEAST, MOST};
-use crate::number::Number;
 use crate::texts::Texts;
 use crate::word::word_leaf;
 use ink_model::{Cause, Leaf, MAX_TEXT};
+use json_tape::Number;
 use std::alloc::Global;
 
 /// The leaf that a string is.

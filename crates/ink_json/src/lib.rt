@@ -3,7 +3,6 @@
 
 mod container;
 mod descent;
-mod element;
 mod error;
 mod heads;
 mod kept;
@@ -11,20 +10,16 @@ mod key;
 mod last;
 mod leaf;
 mod limits;
-mod marks;
 mod names;
 mod node;
 mod nodes;
-mod number;
 mod object;
 mod options;
 mod own;
 mod reading;
 mod readings;
 mod story;
-mod tape;
 mod texts;
-mod value;
 mod word;
 
 pub use key::{Key, compare_parts, key_of, part_of};

@@ -2,21 +2,21 @@
 
 ghost use Rattle.std.specs.Prelude.{◌≡◌, option_map};
 ghost use Rattle.serde_json.specs.Find.{get};
-ghost use Rattle.ink_json.specs.Value.{json_data};
+ghost use Rattle.json_tape.specs.Value.{json_data};
 ghost use Rattle.ink_model.specs.Leaves.{object_leaf, is_beyond};
 ghost use Rattle.ink_json.specs.Reading.{Reads, placed};
 ghost use Rattle.ink_json.specs.Heads.{reading};
 
 use crate::error::{ReadFailure, refused};
 use crate::heads::{Found, Head, heads};
-use crate::marks::Marks;
 use crate::readings::{
     read_choice, read_count, read_external, read_jump, read_pointer, read_store, read_tag,
     read_target, read_variable,
 };
 use crate::texts::Texts;
-use crate::value::Value;
 use ink_model::{Cause, InkVersion, Leaf};
+use json_tape::Marks;
+use json_tape::value::Value;
 use std::alloc::Global;
 use std::marker::Model;
 
@@ -29,9 +29,9 @@ pub(crate) struct Object<'v, 't, 'a> {
 
 impl<'v, 't, 'a> Model for Object<'v, 't, 'a> {
     ghost use Rattle.serde_json.specs.Find.{get};
-    ghost use Rattle.ink_json.specs.Marks.{AreMarked};
-    ghost use Rattle.ink_json.specs.Value.{json_data};
-    ghost use Rattle.ink_json.specs.declared.value.Value.{Value as Read};
+    ghost use Rattle.json_tape.specs.Marks.{AreMarked};
+    ghost use Rattle.json_tape.specs.Value.{json_data};
+    ghost use Rattle.json_tape.specs.declared.value.Value.{Value as Read};
 
     ghost Value = { Read };
 

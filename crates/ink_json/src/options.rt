@@ -1,10 +1,10 @@
 //! Options of objects.
 
 ghost use Rattle.std.specs.Prelude.{◌≡◌, option_map};
-ghost use Rattle.ink_json.specs.Value.{json_data};
+ghost use Rattle.json_tape.specs.Value.{json_data};
 ghost use Rattle.ink_model.specs.Leaves.{switch, whole_or, frame_option};
 
-use crate::value::Value;
+use json_tape::value::Value;
 
 /// The frame of a pointer that gives none.
 const NO_FRAME: i128 = -1;

@@ -1,13 +1,13 @@
 //! What a container's last element says of the container itself.
 
 ghost use Rattle.std.specs.Prelude.{◌≡◌, false, true, not, MatchOption, Some, None, option_map, if◌then◌else◌, IfOk};
+ghost use Rattle.json_tape.specs.Value.{json_data};
 ghost use Rattle.ink_model.specs.Grammar.{own_of, is_last, are_flags, flags_of, is_name, name_in, member_of, flags_key, name_key, is_own};
 ghost use Rattle.ink_json.specs.Reading.{IsLabel, is_whole};
-ghost use Rattle.ink_json.specs.Value.{json_data};
 
 use crate::texts::Texts;
-use crate::value::{Kind, Value};
 use ink_model::{Shared, Text};
+use json_tape::value::{Kind, Value};
 use std::alloc::AllocError;
 
 /// What a container gives itself: its flags, and in list position its name.
@@ -24,10 +24,22 @@ pub(crate) fn read_own<'a>(array: &Value<'_, 'a>, listed: bool) -> Option<Own<'a
         × (o.flags ≡ flags_of (own_of (json_data array.now)))
         × (option_map (λ n. n.now) o.name ≡ (if listed then name_in (own_of (json_data array.now)) else None))) }
 {
-    match array.last() {
+    match last_item(array) {
         Some(last) => own_in(&last, listed),
         None => None,
     }
+}
+
+/// The last item, where it is an array.
+fn last_item<'t, 'a>(array: &Value<'t, 'a>) -> Option<Value<'t, 'a>>
+    ensures { option_map json_data result ≡ own_of (json_data array.now) }
+{
+    let mut items = array.items()?;
+    let mut last = None;
+    while let Some(item) = items.next() {
+        last = Some(item);
+    }
+    last
 }
 
 fn own_in<'a>(last: &Value<'_, 'a>, listed: bool) -> Option<Own<'a>>
@@ -86,7 +98,7 @@ pub(crate) struct Label<'a> {
 pub(crate) fn label_of<'a>(value: &Value<'_, 'a>) -> Label<'a>
     ensures { IsLabel result (json_data value.now) }
 {
-    match value.last() {
+    match last_item(value) {
         Some(last) => label_in(&last),
         None => Label {
             sound: true,

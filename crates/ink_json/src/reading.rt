@@ -2,24 +2,24 @@
 
 ghost use Rattle.std.specs.Prelude.{◌≡◌, ◌⊎◌, ◌≤◌, ◌<◌, ◌^◌, true, length, IfOk, IfErr, Ok, Err, Some, None, codes, if◌then◌else◌};
 ghost use Rattle.serde_json.specs.Find.{get};
+ghost use Rattle.json_tape.specs.Size.{size};
+ghost use Rattle.json_tape.specs.Spelled.{are_sound, data_of};
+ghost use Rattle.json_tape.specs.Value.{json_data};
 ghost use Rattle.ink_model.specs.Grammar.{here, story, unmarked, json, of_json, of_value, root_of, is_blank_object, version_of};
 ghost use Rattle.ink_json.specs.Listing.{IsListed, rebuilt};
 ghost use Rattle.ink_json.specs.Reading.{Reads, ReadsOr, is_parsable, is_parsed};
-ghost use Rattle.ink_json.specs.Size.{size};
-ghost use Rattle.ink_json.specs.Spelled.{are_sound, data_of};
 ghost use Rattle.ink_json.specs.Story.{tree};
-ghost use Rattle.ink_json.specs.Value.{json_data};
 
 use crate::container::{Context, Position, read_container};
 use crate::error::{ReadFailure, refused};
 use crate::last::Last;
 use crate::nodes::Nodes;
 use crate::story::RawStory;
-use crate::tape::Tape;
 use crate::texts::Texts;
-use crate::value::{Kind, Value, root};
 use ink_model::{Cause, Failure, InkVersion, MAX_STORY, ReadRefusal};
 use json::Scratch;
+use json_tape::Tape;
+use json_tape::value::{Kind, Value, root};
 use std::alloc::Global;
 
 /// Reads a story. It is refused for the first fault in it, in reading order, or for a refused request for memory.

@@ -2,7 +2,7 @@
 
 ghost use Rattle.std.specs.Prelude.{◌≡◌, List, ℕ, if◌then◌else◌, IfOk};
 ghost use Rattle.serde_json.specs.Find.{as_str};
-ghost use Rattle.ink_json.specs.Value.{json_data};
+ghost use Rattle.json_tape.specs.Value.{json_data};
 ghost use Rattle.ink_model.specs.Leaves.{read_jump, read_external, read_choice, plain_leaf, read_pointer, read_store, pointer_to, pointer_frame, tag_leaf};
 ghost use Rattle.ink_model.specs.declared.content.Leaf.{Leaf};
 ghost use Rattle.ink_json.specs.Heads.{jumps, declares, assigns};
@@ -13,8 +13,8 @@ use crate::limits::MOST;
 use crate::object::Object;
 use crate::options::{frame, is_on, whole_or};
 use crate::texts::Texts;
-use crate::value::Value;
 use ink_model::{Cause, Destination, Leaf, MAX_TEXT, Shared, Text};
+use json_tape::value::Value;
 use std::alloc::Global;
 
 /// The flags of a choice that gives none.

@@ -39,7 +39,7 @@ impl Texts {
             return Ok(kept);
         }
         let kept = self.copied(text)?;
-        self.remember(slot, &kept)?;
+        self.remember(slot, &kept);
         Ok(kept)
     }
 
@@ -64,13 +64,14 @@ impl Texts {
         }
     }
 
-    // Remembers a text, unless it has too many owners.
-    fn remember(&mut self, slot: usize, text: &Shared<Text>) -> Result<(), AllocError> {
-        self.make_slots()?;
+    // Remembers a text, unless it has too many owners, or there is no memory for the slots.
+    fn remember(&mut self, slot: usize, text: &Shared<Text>) {
+        if self.make_slots().is_err() {
+            return;
+        }
         if let Some(place) = self.slots.get_mut(slot) {
             *place = text.share().ok();
         }
-        Ok(())
     }
 
     // Makes the slots, where there are none.

@@ -101,14 +101,10 @@ abbrev pub set_asks : Option (List ℕ × List ℕ) → Bool
 set_asks None = false
 set_asks (Some r) = is_filled r.0 && (is_filled r.1 && value_asks r.1)
 
-abbrev pub load_line_asks : Option (List ℕ) → Bool
-load_line_asks None = false
-load_line_asks (Some text) = is_filled text
-
--- Memory is asked for reading a command only where it may have JSON to be parsed, or a text: names, paths and numbers stand in the
+-- Memory is asked for reading a command only where it is to set a value: names, paths, numbers and the JSON of a save stand in the
 -- line.
 abbrev pub command_asks : List ℕ → Bool
-command_asks line = set_asks (option_and_then at_space (after (codes "set ") line)) || load_line_asks (after (codes "load ") line)
+command_asks line = set_asks (option_and_then at_space (after (codes "set ") line))
 
 -- a line that is no text asks for none
 abbrev pub line_asks : List ℕ → Bool

@@ -46,14 +46,14 @@ nothing_to_load = refl
 save_with_more : command_word (codes "save it") ≡ None
 save_with_more = refl
 
--- memory is asked for the JSON
-its_json_asks : command_asks (codes "load 1") ≡ true
-its_json_asks = refl
+-- the JSON stands in the line until it is loaded
+a_load_asks_for_none : command_asks (codes "load 1") ≡ false
+a_load_asks_for_none = refl
 
 saving_asks_for_none : command_asks (codes "save") ≡ false
 saving_asks_for_none = refl
 
--- and for a value that is a text, or is spelled another way than it is printed
+-- nor is any for a value but a text, and one that is spelled another way than it is printed
 setting_a_number_asks_for_none : command_asks (codes "set gold 7") ≡ false
 unfolding given_of serde_json_on_literals digits
 setting_a_number_asks_for_none = refl

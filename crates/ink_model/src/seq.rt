@@ -42,4 +42,12 @@ impl<T> Seq<T> {
     {
         self.items.as_slice()
     }
+
+    /// The items, as a vector.
+    pub fn into_vec(self) -> Vec<T>
+        ensures { result.items ≡ self }
+    {
+        let Seq { items } = self;
+        items
+    }
 }

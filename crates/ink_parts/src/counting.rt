@@ -11,8 +11,7 @@ ghost use Rattle.ink_parts.specs.Counted.{AreBelow, AreOwn, counts_at, flag_of, 
 ghost use Rattle.ink_tree.specs.Nodes.{Finds, NumbersInOrder, story_tree};
 ghost use Rattle.ink_vars.specs.Slots.{AreCounts, rows_from};
 
-use ink_model::{MAX_COUNT, Part, flags};
-use ink_spelling::Listed;
+use ink_model::{MAX_COUNT, Part, Seq, flags};
 use ink_tree::{NodeId, Tree};
 use ink_vars::Counts;
 use std::alloc::{AllocError, Global};
@@ -29,8 +28,8 @@ pub enum Counted {
 pub fn build_counts(
     alloc: Global,
     tree: &Tree,
-    visits: &[(Listed<Part>, u64)],
-    turns: &[(Listed<Part>, u64)],
+    visits: &[(Seq<Part>, u64)],
+    turns: &[(Seq<Part>, u64)],
 ) -> Result<Option<Counts>, AllocError>
     ensures builds { let s = story_tree tree.now in
         IfOk result (λ made. Builds (λ v. counts_at s v.rows) (CountsFit s) (record { visits = visits.now; turns = turns.now }) made) }
@@ -50,7 +49,7 @@ fn build_rows(
     alloc: Global,
     tree: &Tree,
     what: Counted,
-    rows: &[(Listed<Part>, u64)],
+    rows: &[(Seq<Part>, u64)],
 ) -> Result<Option<Vec<Option<u32>>>, AllocError>
     ensures rows { let s = story_tree tree.now in
         IfOk result (λ made. Builds (λ v. rows_at s (rows_from 0 v.items)) (RowsCount s (flag_of what) (least_of what)) rows.now made) }
@@ -71,7 +70,7 @@ fn build_rows(
 }
 
 // The number and the count of a row.
-fn build_row(tree: &Tree, what: Counted, row: &(Listed<Part>, u64)) -> Option<(usize, u32)>
+fn build_row(tree: &Tree, what: Counted, row: &(Seq<Part>, u64)) -> Option<(usize, u32)>
     ensures row { let s = story_tree tree.now in Builds (row_at s) (RowCounts s (flag_of what) (least_of what)) row.now result }
     ensures number { let s = story_tree tree.now in IfSome result (λ r. r.0 < length (places s)) }
     ensures order { IfSome result (λ r. NumbersInOrder (story_tree tree.now)) }

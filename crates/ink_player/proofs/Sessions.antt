@@ -1,5 +1,5 @@
 -- How a session goes on by a line, and how it ends.
-use Rattle.std.proofs.Common.{◌≡◌, ◌⊎◌, ℕ, ◌+◌, ◌<◌, ◌≤◌, List, [], ◌∷◌, ◌++◌, length, true, false, cond, ◌==◌, Option, Result, Ok, Err, ap, ◌∙◌, sym, refl, subst, inl, inr, arith, append_assoc, append-nil, length-append}
+use Rattle.std.proofs.Common.{◌≡◌, ◌⊎◌, ℕ, ◌+◌, ◌<◌, ◌≤◌, List, [], ◌∷◌, ◌++◌, length, true, false, cond, ◌==◌, Option, Result, Ok, Err, ap, ◌∙◌, sym, refl, subst, inl, inr, arith, append_assoc, append-nil, length-append, Some}
 use Rattle.std.specs.List.{AllByRecursion}
 use Rattle.std.specs.Option.{option_map}
 use Rattle.std.specs.Io.KnownBytes.{Appends, IsAtEnd}
@@ -8,7 +8,8 @@ use Rattle.ink_host.specs.Telling.{Watching}
 use Rattle.ink_host.specs.declared.objects.Called.{Called}
 use Rattle.ink_model.specs.Answer.{Reply, Refuses, answer}
 use Rattle.ink_model.specs.Bytes.{has_newline, onto}
-use Rattle.ink_model.specs.Command.{Command, command_of, line_asks, lines_of}
+use Rattle.ink_model.specs.Command as command
+use Rattle.ink_model.specs.Command.{Command, command_of, json_of, line_asks, lines_of}
 use Rattle.ink_model.specs.Session.{Does, Serves}
 use Rattle.ink_model.specs.State.{State}
 use Rattle.ink_model.specs.Host.{Bindings}
@@ -16,6 +17,7 @@ use Rattle.ink_model.specs.Tree.{StoryTree}
 use Rattle.ink_model.specs.declared.host.Event.{Event}
 use Rattle.ink_model.specs.declared.fault.Refusal.TheVariants as refusal
 use Rattle.ink_protocol.specs.Buffered.{Buffered}
+use Rattle.ink_player.specs.Loading.{LoadsText}
 use Rattle.ink_protocol.specs.Commands.{command_by}
 use Rattle.ink_protocol.specs.declared.command.LineCommand.{LineCommand}
 use Rattle.ink_protocol.specs.Ends.{Falls, WritesText}
@@ -24,7 +26,7 @@ use Rattle.ink_protocol.specs.Lines.{TakesLine, GivesLine}
 use Rattle.ink_player.specs.Serving.{Answered, Answers, RunEnds, Runs, ServesFront, ServesLine, ServesLineBy, ServesLines}
 use Rattle.ink_player.specs.Words.{DealtOf, Scene}
 use Rattle.ink_protocol.specs.Spelled.{IsLine, spelled, Splits, IsFirst, IsLongInput, HasRoom}
-use Rattle.ink_model.specs.Unread.{PathFails}
+use Rattle.ink_model.specs.Unread.{TextFails}
 use Rattle.ink_model.specs.declared.limits.TheConstants.{MAX_LINE}
 use Rattle.ink_protocol.specs.declared.fault.RunFault.{RunFault}
 use Rattle.ink_protocol.specs.declared.fault.RunFault.TheVariants as fault
@@ -284,7 +286,7 @@ module _ {P F O : Type 0} (turn_log : F → List Called) (refusals : F → ℕ) 
 
   -- what a command came to, and what it did to the objects, by the line's command
   abbrev Came : StoryTree → Bindings → List Event → Option Command → Scene P F O → Reply → Scene P F O → Type 0
-  Came s host es k old reply new = (Does s host es k old.state reply new.state ⊎ ((es ≡ []) × PathFails k old.state reply new.state)) × DealtOf turn_log refusals state k old es reply new
+  Came s host es k old reply new = (Does s host es k old.state reply new.state ⊎ ((es ≡ []) × TextFails k old.state reply new.state)) × DealtOf turn_log refusals state k old es reply new
 
   pub came : (s : StoryTree) (host : Bindings) (es : List Event) (old : Scene P F O) (reply : Reply) (new : Scene P F O) (k j : Option LineCommand) → k ≡ j → Came s host es (option_map command_by j) old reply new
       → Came s host es (option_map command_by k) old reply new
@@ -292,17 +294,23 @@ module _ {P F O : Type 0} (turn_log : F → List Called) (refusals : F → ℕ) 
 
 -- ---- one command
 
+-- the JSON of a line is loaded, or memory was refused for it
+pub text-came : (text : List ℕ) (s : StoryTree) (host : Bindings) (es : List Event) (old : State) (reply : Reply) (new : State) → LoadsText s host es text old reply new
+    → Does s host es (Some (command.Load (json_of text))) old reply new ⊎ ((es ≡ []) × TextFails (Some (command.Load (json_of text))) old reply new)
+text-came text s host es old reply new (inl loads) = inl loads
+text-came text s host es old reply new (inr x) = inr (x.1, x.2)
+
 serves_by : (s : StoryTree) (host : Bindings) (made : List Event) (line : List ℕ) (k : Option Command) (old : State) (reply : Reply) (new : State) → k ≡ command_of line → Does s host made k old reply new → Serves s host made line old reply new
 unfolding Serves
 serves_by s host made line k old reply new e p = inl (subst (λ x. Does s host made x old reply new) e p)
 
 -- memory was refused for reading the path
-path_unread : (s : StoryTree) (host : Bindings) (line : List ℕ) (k : Option Command) (old : State) (reply : Reply) (new : State) → k ≡ command_of line → PathFails k old reply new → Serves s host [] line old reply new
+path_unread : (s : StoryTree) (host : Bindings) (line : List ℕ) (k : Option Command) (old : State) (reply : Reply) (new : State) → k ≡ command_of line → TextFails k old reply new → Serves s host [] line old reply new
 unfolding Serves
-path_unread s host line k old reply new e p = inr (refl, inr (subst (λ x. PathFails x old reply new) e p))
+path_unread s host line k old reply new e p = inr (refl, inr (subst (λ x. TextFails x old reply new) e p))
 
 pub serves_command : (s : StoryTree) (host : Bindings) (line : List ℕ) (k : Option Command) (old : State) (reply : Reply) (new : State) → k ≡ command_of line
-    → (es : List Event) → Does s host es k old reply new ⊎ ((es ≡ []) × PathFails k old reply new) → Serves s host es line old reply new
+    → (es : List Event) → Does s host es k old reply new ⊎ ((es ≡ []) × TextFails k old reply new) → Serves s host es line old reply new
 serves_command s host line k old reply new e es (inl p) = serves_by s host es line k old reply new e p
 serves_command s host line k old reply new e es (inr p) =
     subst (λ x. Serves s host x line old reply new) (sym p.0) (path_unread s host line k old reply new e p.1)

@@ -1,9 +1,7 @@
 -- Loading a text.
-use Rattle.std.proofs.Common.{◌≡◌, ◌<◌, ◌∙◌, refl, subst, sym, inl, inr, ℕ, List, [], ◌∷◌, length, true, arith, Option, None, Some, Result, Ok, Err, IfOk}
+use Rattle.std.proofs.Common.{◌≡◌, ◌∙◌, ap, refl, subst, sym, inl, inr, ℕ, List, [], None, Some, Result, Ok, Err, IfOk}
 use Rattle.serde_json.specs.Data.{Data}
-use Rattle.serde_json.specs.Read.{read}
-use Rattle.ink_model.specs.Answer.{Reply, Refuses}
-use Rattle.ink_model.specs.Bytes.{is_filled}
+use Rattle.ink_model.specs.Answer.{Reply, Refuses, reply_of_events}
 use Rattle.ink_model.specs.Command.{json_of}
 use Rattle.ink_model.specs.Flows.{Game}
 use Rattle.ink_model.specs.Host.{Bindings}
@@ -12,43 +10,60 @@ use Rattle.ink_model.specs.Session.{Load}
 use Rattle.ink_model.specs.State.{State}
 use Rattle.ink_model.specs.Tree.{StoryTree}
 use Rattle.ink_model.specs.declared.fault.Halt.{Halt}
+use Rattle.ink_model.specs.declared.fault.Refusal.{Refusal}
 use Rattle.ink_model.specs.declared.fault.Refusal.TheVariants as refusal
 use Rattle.ink_model.specs.declared.host.Event.{Event}
 use Rattle.ink_player.specs.Loading.{LoadsText, TextReads, TextReadsAsState}
-use Rattle.ink_player.specs.Saving.{LoadsAs, ReadsAsState}
-
--- the JSON of a text, by what reading it gives
-spelled : (text : List ℕ) (o : Option Data) → read text ≡ o → json_of text ≡ o
-unfolding json_of
-spelled text o h = h
-
-filled : (text : List ℕ) → 0 < length text → is_filled text ≡ true
-filled [] some = absurd (omega (arith, some))
-filled (c ∷ cs) some = refl
+use Rattle.ink_player.proofs.Saves.{load-reads, load-refused, load-stands}
+use Rattle.ink_player.specs.Saving.{FindsText, LoadsAs, ReadsAsState}
+use Rattle.ink_sound.specs.Kept.{StoryFits}
+use Rattle.ink_step.specs.Words.{game_of}
+use Rattle.ink_step.specs.declared.machine.Machine.{Machine}
 
 module _ (s : StoryTree) (text : List ℕ) where
+  -- what a machine was made of
+  pub text-found : (m : Machine) → FindsText s text (Ok m) → (j : Data) × (json_of text ≡ Some j) × Reads s j (game_of s m)
+  text-found m (inl x) = x
+  text-found m (inr (inl x)) = absurd (let never = x.1 in cc)
+  text-found m (inr (inr x)) = absurd (let never = x.1 in cc)
+
   module _ (h : Bindings) (old : State) where
     -- JSON that is read is loaded
-    pub text-loads : (j : Data) (es : List Event) (reply : Reply) (new : State) → read text ≡ Some j → Load s h es (Some j) old reply new → LoadsText s h es text old reply new
-    text-loads j es reply new is loads = inl (subst (λ o. Load s h es o old reply new) (sym (spelled text (Some j) is)) loads)
+    pub text-loads : (j : Data) (es : List Event) (reply : Reply) (new : State) → json_of text ≡ Some j → Load s h es (Some j) old reply new → LoadsText s h es text old reply new
+    text-loads j es reply new is loads = inl (subst (λ o. Load s h es o old reply new) (sym is) loads)
 
-    pub text-of-none : read text ≡ None → LoadsText s h [] text old (Refuses refusal.BadSave) old
-    text-of-none is = inl (subst (λ o. Load s h [] o old (Refuses refusal.BadSave) old) (sym (spelled text None is)) (refl, (refl, refl)))
+    -- what makes no machine is refused
+    pub text-refused : (r : Refusal) → FindsText s text (Err r) → LoadsText s h [] text old (Refuses r) old
+    text-refused r (inl x) = text-loads x.0 [] (Refuses r) old x.1 (load-refused s h x.0 old r x.2)
+    text-refused r (inr (inl x)) =
+        let same : r ≡ refusal.BadSave = cc in
+        inl (subst (λ o. Load s h [] o old (Refuses r) old) (sym x.0) (subst (λ q. Load s h [] None old (Refuses q) old) (sym same) (refl, (refl, refl))))
+    text-refused r (inr (inr x)) =
+        let same : r ≡ refusal.OutOfMemory = cc in
+        inr (x.0, refl, (ap (λ q. Refuses q) same, refl))
 
-    pub text-unread : 0 < length text → LoadsText s h [] text old (Refuses refusal.OutOfMemory) old
-    text-unread some = inr (filled text some, refl, (refl, refl))
+  same_json : (j k : Data) → json_of text ≡ Some j → json_of text ≡ Some k → k ≡ j
+  same_json j k is spells = let same : Some k ≡ Some j = sym spells ∙ is in cc
 
-  -- what is there then is what the text says
-  pub text-stands : (j : Data) (r : Result (List Event) Halt) (new : State) → read text ≡ Some j → IfOk r (λ events. ReadsAsState s j new) → IfOk r (λ events. TextReadsAsState s text new)
-  text-stands j (Ok events) new is stands = (j, spelled text (Some j) is, stands)
-  text-stands j (Err e) new is stands = tt
+  module _ (h : Bindings) (old : State) (j : Data) (is : json_of text ≡ Some j) where
+    reads_there : (r : Result (List Event) Halt) (new : State) → IfOk r (λ events. ReadsAsState s j new) → IfOk r (λ events. TextReadsAsState s text new)
+    reads_there (Ok events) new stands = (j, is, stands)
+    reads_there (Err e) new stands = tt
 
-  same_json : (j k : Data) → read text ≡ Some j → json_of text ≡ Some k → k ≡ j
-  same_json j k is spells = let same : Some k ≡ Some j = sym spells ∙ spelled text (Some j) is in cc
+    -- what is there then is what the text says
+    pub text-stands : (es : List Event) (r : Result (List Event) Halt) (new : State) → LoadsText s h es text old (reply_of_events r) new → IfOk r (λ events. TextReadsAsState s text new)
+    text-stands es r new (inl loads) = reads_there r new (load-stands s h j old es r new (subst (λ o. Load s h es o old (reply_of_events r) new) is loads))
+    text-stands es (Ok events) new (inr fails) = absurd (let never = fails.2.0 in cc)
+    text-stands es (Err e) new (inr fails) = tt
 
-  -- a text that reads as a game is loaded as that, unless memory is refused
-  pub text-reads : (j : Data) (reply : Reply) (new : State) → read text ≡ Some j → ((g : Game) → Reads s j g → LoadsAs g reply new) → (g : Game) → TextReads s text g → LoadsAs g reply new
-  text-reads j reply new is reads g x = reads g (subst (λ d. Reads s d g) (same_json j x.0 is x.1) x.2)
+    -- a text that reads as a game is loaded as that, unless memory is refused
+    pub text-reads : (es : List Event) (reply : Reply) (new : State) → StoryFits s → LoadsText s h es text old reply new → (g : Game) → TextReads s text g → LoadsAs g reply new
+    text-reads es reply new story (inl loads) g x =
+        load-reads s h j old es reply new story (subst (λ o. Load s h es o old reply new) is loads) g (subst (λ d. Reads s d g) (same_json j x.0 is x.1) x.2)
+    text-reads es reply new story (inr fails) g x = subst (λ y. LoadsAs g y new) (sym fails.2.0) refl
 
-  pub none-reads : (g : Game) (reply : Reply) (new : State) → read text ≡ None → TextReads s text g → LoadsAs g reply new
-  none-reads g reply new is x = absurd (let never : Some x.0 ≡ None = sym x.1 ∙ spelled text None is in cc)
+  pub refused-reads : (g : Game) (r : Refusal) (new : State) → FindsText s text (Err r) → TextReads s text g → LoadsAs g (Refuses r) new
+  refused-reads g r new (inl (j, is, inl x)) t = absurd (x.1 g (subst (λ d. Reads s d g) (same_json j t.0 is t.1) t.2))
+  refused-reads g r new (inl (j, is, inr x)) t = x.0
+  refused-reads g r new (inr (inl x)) t = absurd (let never : Some t.0 ≡ None = sym t.1 ∙ x.0 in cc)
+  refused-reads g r new (inr (inr x)) t = let same : r ≡ refusal.OutOfMemory = cc in same

@@ -1,10 +1,12 @@
 -- What a machine is saved as, and what a save is loaded as (docs/SAVES.md).
-use Rattle.std.specs.Prelude.{◌≡◌, ◌⊎◌, ℕ, List, true, Result, Ok, Err}
+use Rattle.std.specs.Prelude.{◌≡◌, ◌⊎◌, ℕ, List, true, None, Some, Result, Ok, Err}
 use Rattle.serde_json.specs.Data.{Data}
 use Rattle.serde_json.specs.View.{view}
 use Rattle.serde_json.specs.Written.{compact_text}
 use Rattle.serde_json.specs.declared.value.Value.{Value}
 use Rattle.ink_model.specs.Answer.{Reply, Acts, Breaks, Refuses}
+use Rattle.ink_model.specs.Bytes.{is_filled}
+use Rattle.ink_model.specs.Command.{json_of}
 use Rattle.ink_model.specs.Configuration.{Configuration}
 use Rattle.ink_model.specs.Flows.{Game, one_flow}
 use Rattle.ink_model.specs.Save.Asks.{load_asks}
@@ -36,6 +38,11 @@ NotLoaded s j r = ((r ≡ refusal.BadSave) × ((g : Game) → Reads s j g → �
 abbrev pub FindsSave : StoryTree → Data → Result Machine Refusal → Type 0
 FindsSave s j (Ok m) = Reads s j (game_of s m)
 FindsSave s j (Err r) = NotLoaded s j r
+
+-- The same of the JSON that a text spells; or it spells none; or memory was refused to read it, and it is not empty.
+abbrev pub FindsText : StoryTree → List ℕ → Result Machine Refusal → Type 0
+FindsText s text result = ((j : Data) × (json_of text ≡ Some j) × FindsSave s j result)
+    ⊎ (((json_of text ≡ None) × (result ≡ Err refusal.BadSave)) ⊎ ((is_filled text ≡ true) × (result ≡ Err refusal.OutOfMemory)))
 
 -- a player is ready in this game
 abbrev pub StandsIn : Game → State → Type 0

@@ -32,7 +32,7 @@ ghost use Rattle.serde_json.specs.Written.{compact_text};
 
 use crate::passages::{Extent, run_to};
 use crate::path::landing_by;
-use crate::saving::{loaded, saved, saved_text, story_fits};
+use crate::saving::{loaded, loaded_text, saved, saved_text, story_fits};
 use crate::telling::{tell_between, tell_changed, tell_one};
 use crate::visits::visits_by;
 use ink_check::Story;
@@ -246,10 +246,10 @@ impl<P: PureFn, F: TurnFn, O: Watcher> Player<P, F, O> {
         end_telling(&mut self.desk, &mut self.broken, all)
     }
 
-    /// A global's value. Of a broken player it is the one from before the step that faulted; after `OutOfMemory` at a command's end,
-    /// or of a watcher, the one that the command left. Takes no memory: a text, a target or a tag has one owner more. Refused with
-    /// `NoSuchVariable` where there is no such global, and with `OutOfMemory` where a text, a target or a tag has as many owners
-    /// already as can be counted.
+    /// A global's value. Of a broken player it is the one from before the step that faulted, or from behind the newline where a look
+    /// past it was refused memory; after `OutOfMemory` at a command's end, or of a watcher, the one that the command left. Takes no
+    /// memory: a text, a target or a tag has one owner more. Refused with `NoSuchVariable` where there is no such global, and with
+    /// `OutOfMemory` where a text, a target or a tag has as many owners already as can be counted.
     pub fn get(&self, name: &str) -> Result<Value, Refusal>
         ensures { Get name.now (state_of self.now) (reply_of_value result) (state_of self.now) }
     {
@@ -386,14 +386,9 @@ impl<P: PureFn, F: TurnFn, O: Watcher> Player<P, F, O> {
         ensures stands { IfOk result (λ events. TextReadsAsState (story_of self.new) text.now (state_of self.new)) }
         ensures reads { (g : Game) → TextReads (story_of self.old) text.now g → LoadsAs g (reply_of_events result) (state_of self.new) }
     {
-        match Json::from_str(self.alloc, text) {
-            Ok(json) => self.load(&json),
-            Err(error) => {
-                if error.is_memory() {
-                    return Err(Halt::Refused(Refusal::OutOfMemory));
-                }
-                Err(Halt::Refused(Refusal::BadSave))
-            }
+        match loaded_text(self.alloc, &self.story, text) {
+            Ok(spelled) => self.begin_anew(spelled),
+            Err(cause) => Err(Halt::Refused(cause)),
         }
     }
 
@@ -659,6 +654,7 @@ fn is_settable(value: &Given) -> bool
 {
     match value {
         Given::Int(number) => {
+            // No effect at run time: a proof reads from it that the number has 32 bits.
             let _number = *number;
             true
         }

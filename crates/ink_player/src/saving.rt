@@ -3,14 +3,14 @@
 ghost use Rattle.std.specs.Prelude.{◌≡◌, IfOk};
 ghost use Rattle.serde_json.specs.View.{view};
 ghost use Rattle.ink_check.specs.Words.{story_tree};
-ghost use Rattle.ink_player.specs.Saving.{FindsSave, IsSave, IsSaveText};
+ghost use Rattle.ink_player.specs.Saving.{FindsSave, FindsText, IsSave, IsSaveText};
 ghost use Rattle.ink_sound.specs.Kept.{StoryFits};
 ghost use Rattle.ink_step.specs.Marks.{stood_of, unmarked};
 ghost use Rattle.ink_step.specs.Words.{game_of};
 
 use ink_check::Story;
 use ink_model::{Refusal, Text};
-use ink_save::{SaveRefusal, read, write, write_text};
+use ink_save::{SaveRefusal, read, read_text, write, write_text};
 use ink_sound::spelled_stories_fit;
 use ink_step::Machine;
 use serde_json::Value as Json;
@@ -46,6 +46,21 @@ pub(crate) fn loaded(alloc: Global, story: &Story, json: &Json) -> Result<Machin
         Ok(machine) => Ok(machine),
         Err(SaveRefusal::BadSave) => Err(Refusal::BadSave),
         Err(SaveRefusal::OutOfMemory) => Err(Refusal::OutOfMemory),
+    }
+}
+
+/// The same of the JSON that a text spells. Refused with `BadSave` also where it spells none, and with `OutOfMemory` also where memory
+/// was refused to read a text that is not empty.
+pub(crate) fn loaded_text(alloc: Global, story: &Story, text: &str) -> Result<Machine, Refusal>
+    ensures finds { FindsText (story_tree story.now) text.now result }
+    ensures mark { IfOk result (λ m. stood_of m ≡ unmarked) }
+{
+    match read_text(alloc, story, text) {
+        Ok(machine) => Ok(machine),
+        Err(cause) => Err(match cause {
+            SaveRefusal::BadSave => Refusal::BadSave,
+            SaveRefusal::OutOfMemory => Refusal::OutOfMemory,
+        }),
     }
 }
 

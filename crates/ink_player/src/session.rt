@@ -5,7 +5,7 @@ ghost use Rattle.ink_host.specs.Desk.{Resting};
 ghost use Rattle.ink_host.specs.Telling.{rests};
 ghost use Rattle.ink_model.specs.Answer.{Refuses, reply_of_events};
 ghost use Rattle.ink_model.specs.Command as ink;
-ghost use Rattle.ink_model.specs.Session.{Does, Load, Set};
+ghost use Rattle.ink_model.specs.Session.{Does, Set};
 ghost use Rattle.ink_model.specs.Host.{Bindings};
 ghost use Rattle.ink_model.specs.declared.host.Event.{Event as Happening};
 ghost use Rattle.ink_protocol.specs.Commands.{command_by};
@@ -14,10 +14,9 @@ ghost use Rattle.ink_player.specs.Words.{DealtBy, DealtOf, bindings, desk_of, sc
 ghost use Rattle.ink_protocol.specs.Ends.{Reports, reads_fail, writes_fail};
 ghost use Rattle.ink_player.specs.Ends.{EndsNext, EndsOnce};
 ghost use Rattle.ink_player.specs.Serving.{Answers, Runs, ServesLineBy, ServesNext};
-ghost use Rattle.ink_model.specs.Unread.{PathFails};
+ghost use Rattle.ink_model.specs.Unread.{TextFails};
 ghost use Rattle.ink_model.specs.declared.limits.TheConstants.{MAX_INPUT};
 ghost use Rattle.serde_json.specs.Data.{Data};
-ghost use Rattle.serde_json.specs.View.{view};
 
 use crate::player::Player;
 use ink_host::{PureFn, TurnFn, Watcher};
@@ -26,7 +25,6 @@ use ink_protocol::{
     Ahead, Lent, Line, LineCommand, Outcome, RunFault, Sink, Source, answer_text, fixed_answer,
     next_line, read_command, write_answer,
 };
-use serde_json::Value as Json;
 use std::alloc::{AllocError, Global};
 use std::io::{Read, Write};
 use std::mem;
@@ -62,6 +60,8 @@ pub(crate) enum Served {
 /// failed or took no byte, and the command whose answer could not be written has taken effect; `TooLong`, where a line is
 /// longer than 1 MiB or the input longer than 64 MiB; `OutOfMemory`, where memory was refused for a line, or for the text of
 /// an answer, whose command has taken effect.
+///
+/// It never flushes: a writer that keeps bytes back has to be flushed by its host.
 pub fn run<R: Read, W: Write, P: PureFn, F: TurnFn, O: Watcher>(
     alloc: Global,
     reader: &mut R,
@@ -80,7 +80,7 @@ pub fn run<R: Read, W: Write, P: PureFn, F: TurnFn, O: Watcher>(
 
 /// Serves command lines as `run` does, over a source and a sink, which count their failures: the source has failed in this
 /// call exactly where the error is `Read`, and the sink, or it took no byte, exactly where it is `Write`. The end is read once, and
-/// nothing after it. `Watched` makes a source of any reader, and a sink of any writer.
+/// nothing after it. It never flushes. `Watched` makes a source of any reader, and a sink of any writer.
 pub fn serve<S: Source, T: Sink, P: PureFn, F: TurnFn, O: Watcher>(
     alloc: Global,
     source: &mut S,
@@ -218,7 +218,7 @@ fn perform<P: PureFn, F: TurnFn, O: Watcher>(
 ) -> Outcome
     ensures does { (es : List Happening) × (saved : Data) × HasTextOf saved result
         × (Does (story_of player.old) (bindings P.meaning (desk_of player.old)) es (option_map command_by command.entry) (state_of player.old) (reply_by saved result) (state_of player.new)
-        ⊎ ((es ≡ []) × PathFails (option_map command_by command.entry) (state_of player.old) (reply_by saved result) (state_of player.new)))
+        ⊎ ((es ≡ []) × TextFails (option_map command_by command.entry) (state_of player.old) (reply_by saved result) (state_of player.new)))
         × DealtOf F.log F.refusals O.state (option_map command_by command.entry) (scene_of player.old) es (reply_by saved result) (scene_of player.new) }
     ensures rest { Resting (rests O.state) (desk_of player.old).watchers → Resting (rests O.state) (desk_of player.new).watchers }
     ensures story { story_of player.new ≡ story_of player.old }
@@ -232,7 +232,7 @@ fn perform<P: PureFn, F: TurnFn, O: Watcher>(
         Some(LineCommand::Choose { number }) => Outcome::Landing(player.choose(number)),
         Some(LineCommand::Jump { path }) => Outcome::Landing(player.jump(path)),
         Some(LineCommand::Save) => Outcome::Saved(player.save_text()),
-        Some(LineCommand::Load { saved }) => Outcome::Events(load(player, saved)),
+        Some(LineCommand::Load { json }) => Outcome::Events(player.load_text(json)),
         Some(LineCommand::Restart) => Outcome::Events(player.restart()),
         Some(LineCommand::Flow { name }) => Outcome::Landing(player.flow(name)),
         Some(LineCommand::Drop { name }) => Outcome::Landing(player.drop_flow(name)),
@@ -266,21 +266,4 @@ fn no_value<P: PureFn, F: TurnFn, O: Watcher>(player: &Player<P, F, O>) -> Refus
         Some(fault) => Refusal::Broken(fault),
         None => Refusal::BadValue,
     }
-}
-
-// Loads a save, or refuses where the line has no JSON.
-fn load<P: PureFn, F: TurnFn, O: Watcher>(
-    player: &mut Player<P, F, O>,
-    saved: Option<Json>,
-) -> Result<Seq<Event>, Halt>
-    ensures does { (es : List Happening) × Load (story_of player.old) (bindings P.meaning (desk_of player.old)) es (option_map view saved) (state_of player.old) (reply_of_events result) (state_of player.new)
-        × DealtBy F.log O.state (Some (ink.Load (option_map view saved))) (scene_of player.old) es (reply_of_events result) (scene_of player.new) }
-    ensures functions { (desk_of player.new).functions ≡ (desk_of player.old).functions }
-    ensures rest { Resting (rests O.state) (desk_of player.old).watchers → Resting (rests O.state) (desk_of player.new).watchers }
-    ensures story { story_of player.new ≡ story_of player.old }
-{
-    let Some(json) = saved else {
-        return Err(Halt::Refused(Refusal::BadSave));
-    };
-    player.load(&json)
 }

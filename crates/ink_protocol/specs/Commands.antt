@@ -1,12 +1,10 @@
 -- Commands as lines spell them.
-use Rattle.std.specs.Option.{option_map}
-use Rattle.serde_json.specs.View.{view}
 use Rattle.ink_model.specs.Command as command
-use Rattle.ink_model.specs.Command.{Command}
+use Rattle.ink_model.specs.Command.{Command, json_of}
 use Rattle.ink_protocol.specs.declared.command.LineCommand.{LineCommand}
 use Rattle.ink_protocol.specs.declared.command.LineCommand.TheVariants as line
 
--- the command, with its name, its path, its number or its JSON
+-- the command, with its name, its path, its number or the JSON that its text spells
 abbrev pub command_by : LineCommand → Command
 command_by line.Continue = command.Continue
 command_by line.Through = command.Through
@@ -16,7 +14,7 @@ command_by (line.Visits path) = command.Visits path.now
 command_by (line.Choose number) = command.Choose number
 command_by (line.Jump path) = command.Jump path.now
 command_by line.Save = command.Save
-command_by (line.Load saved) = command.Load (option_map view saved)
+command_by (line.Load json) = command.Load (json_of json.now)
 command_by line.Restart = command.Restart
 command_by (line.Flow name) = command.Flow name.now
 command_by (line.Drop name) = command.Drop name.now

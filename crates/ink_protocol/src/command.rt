@@ -2,21 +2,19 @@
 
 ghost use Rattle.std.specs.Prelude.{◌≡◌, ◌≤◌, ◌<◌, ◌&&◌, is_none, length, true, IfOk, OnErr, Some, option_map, option_and_then};
 ghost use Rattle.std.specs.List.{list_all};
-ghost use Rattle.ink_model.specs.Command.{choose_command as choose_of, command_asks, command_of, command_word, drop_command as drop_of, flow_command as flow_of, get_command as get_of, jump_command as jump_of, line_asks, load_command as load_of, load_line_asks, set_asks, set_command as set_of, visits_command as visits_of};
+ghost use Rattle.ink_model.specs.Command.{choose_command as choose_of, command_asks, command_of, command_word, drop_command as drop_of, flow_command as flow_of, get_command as get_of, jump_command as jump_of, line_asks, load_command as load_of, set_asks, set_command as set_of, visits_command as visits_of};
 ghost use Rattle.ink_model.specs.Bytes.{after as after_word, at_space as parts_at_space, is_digit as digit, is_filled, number_from};
 ghost use Rattle.ink_protocol.specs.Commands.{command_by};
 
 use crate::given::given_of;
-use crate::parse::parsed;
 use ink_model::Given;
-use serde_json::Value;
 use std::alloc::{AllocError, Global};
 
 // The most digits of a choice's number.
 const MAX_DIGITS: usize = 9;
 
 /// A command of a line, with the name or the path where it stands in the line. The value of `Set` is none where the line has
-/// JSON of another kind than a value has, or no JSON; that of `Load` is none where it has no JSON.
+/// JSON of another kind than a value has, or no JSON.
 #[derive(Drop)]
 pub enum LineCommand<'a> {
     Continue,
@@ -27,15 +25,15 @@ pub enum LineCommand<'a> {
     Choose { number: u32 },
     Jump { path: &'a str },
     Save,
-    Load { saved: Option<Value> },
+    Load { json: &'a str },
     Restart,
     Flow { name: &'a str },
     Drop { name: &'a str },
 }
 
 /// The command of a line, without its newline (docs/PROTOCOL.md, "Command lines"). A line that is no text, or no
-/// command, has none. The one error is a refused request for memory, which only `load` makes, for its JSON, and `set` where its
-/// value is a text, or is spelled another way than it is printed.
+/// command, has none. The one error is a refused request for memory, which only `set` makes, where its value is a text, or is
+/// spelled another way than it is printed.
 pub fn read_command(alloc: Global, line: &[u8]) -> Result<Option<LineCommand<'_>>, AllocError>
     ensures command { IfOk result (λ command. option_map command_by command ≡ command_of line.now) }
     ensures memory { OnErr result (line_asks line.now ≡ true) }
@@ -78,7 +76,7 @@ fn command_in(alloc: Global, text: &str) -> Result<Option<LineCommand<'_>>, Allo
         return Ok(jump_command(path));
     }
     if let Some(json) = after("load ", text) {
-        return load_command(alloc, json);
+        return Ok(load_command(json));
     }
     if let Some(name) = after("flow ", text) {
         return Ok(flow_command(name));
@@ -213,13 +211,11 @@ fn set_command<'a>(
     Ok(Some(LineCommand::Set { name, value }))
 }
 
-fn load_command(alloc: Global, text: &str) -> Result<Option<LineCommand<'static>>, AllocError>
-    ensures command { IfOk result (λ command. option_map command_by command ≡ load_of text.now) }
-    ensures memory { OnErr result (load_line_asks (Some text.now) ≡ true) }
+fn load_command(json: &str) -> Option<LineCommand<'_>>
+    ensures { option_map command_by result ≡ load_of json.now }
 {
-    if text.is_empty() {
-        return Ok(None);
+    if json.is_empty() {
+        return None;
     }
-    let saved = parsed(alloc, text)?;
-    Ok(Some(LineCommand::Load { saved }))
+    Some(LineCommand::Load { json })
 }

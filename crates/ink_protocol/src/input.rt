@@ -24,15 +24,16 @@ pub trait Source {
     /// How many reads have failed, by a counter of 64 bits.
     ghost failures: { Self → ℕ };
 
-    /// How many reads have given no byte, by a counter of 64 bits.
+    /// How many reads have given no byte, which is how often it was read at its end, by a counter of 64 bits.
     ghost ends: { Self → ℕ };
 
     /// Which source it is. A source around a reference says by it which reference it holds.
     ghost name: { Self → ℕ };
 
-    /// Reads some bytes into the front of the buffer, and tells how many: none only at the end, or where there is no
-    /// room. `ReadFailed` says that none were read.
+    /// Reads some bytes into the front of the buffer, and tells how many: none only at the end. `ReadFailed` says that none
+    /// were read. There is room for a byte: a source is never asked to read nothing.
     fn read(&mut self, buffer: &mut [u8]) -> Result<usize, ReadFailed>
+        requires room { 0 < length buffer.old }
         ensures bound { ReadsAtMost result buffer.new }
         ensures bytes { ReadConsumes (remaining self.old) (remaining self.new) result buffer.new }
         ensures cause { failures self.new ≡ after_call (is_err result) (failures self.old) }

@@ -12,7 +12,7 @@ use crate::fault::RunFault;
 #[error("write failed")]
 pub struct WriteFailed;
 
-/// A writer that counts its failures.
+/// A writer that counts its failures. It has no call to flush it: a writer that keeps bytes back has to be flushed by its host.
 pub trait Sink {
     /// The bytes that it holds, where they are known.
     ghost contents: { Self → Option (List ℕ) };

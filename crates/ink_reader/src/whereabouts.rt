@@ -14,7 +14,7 @@ use ink_host::{PureFn, TurnFn, Watcher};
 use ink_model::{Part, Path, Seq, Text};
 use ink_path::print_path;
 use ink_player::Player;
-use ink_spelling::{Listed, Spelled};
+use ink_spelling::Spelled;
 use serde_json::Value as Json;
 use std::alloc::{AllocError, Global};
 
@@ -39,12 +39,12 @@ fn flow_path(alloc: Global, save: &Json) -> Result<Option<Text>, AllocError>
     let Some(place) = flow_place(save) else {
         return Ok(None);
     };
-    let Some(parts) = Listed::<Part>::read(alloc, place)? else {
+    let Some(parts) = Seq::<Part>::read::<&Json>(alloc, place)? else {
         return Ok(None);
     };
     let path = Path {
         relative: false,
-        parts: Seq::from_vec(parts.into_vec()),
+        parts,
     };
     Ok(Some(print_path(alloc, &path)?))
 }

@@ -1,3 +1,4 @@
 pub mod Below
 pub mod Reading
 pub mod Keeping
+pub mod TextReads

@@ -1,6 +1,8 @@
 -- What a JSON value is read as.
-use Rattle.std.specs.Prelude.{◌≡◌, ⊤, true, Result, Ok, Err, Option, Some, None}
+use Rattle.std.specs.Prelude.{◌≡◌, ◌⊎◌, ⊤, ℕ, List, true, Result, Ok, Err, Option, Some, None}
 use Rattle.serde_json.specs.Data.{Data}
+use Rattle.ink_model.specs.Bytes.{is_filled}
+use Rattle.ink_model.specs.Command.{json_of}
 use Rattle.ink_model.specs.Flows.{Game}
 use Rattle.ink_model.specs.Save.Asks.{load_asks}
 use Rattle.ink_model.specs.Save.Reads.{Reads, Stands}
@@ -16,6 +18,11 @@ abbrev pub ReadsAs : StoryTree → Data → Result Machine SaveRefusal → Type 
 ReadsAs s j (Ok m) = Reads s j (game_of s m)
 ReadsAs s j (Err refusal.BadSave) = (g : Game) → Reads s j g → ⊥
 ReadsAs s j (Err refusal.OutOfMemory) = load_asks j ≡ true
+
+-- the JSON that a text spells is read as that; or it spells none; or memory was refused for it, and it is not empty
+abbrev pub ReadsText : StoryTree → List ℕ → Result Machine SaveRefusal → Type 0
+ReadsText s text result = ((j : Data) × (json_of text ≡ Some j) × ReadsAs s j result)
+    ⊎ (((json_of text ≡ None) × (result ≡ Err refusal.BadSave)) ⊎ ((is_filled text ≡ true) × (result ≡ Err refusal.OutOfMemory)))
 
 -- the machine of what was spelled, if that stands
 abbrev pub Finds : StoryTree → Option Game → Option Machine → Type 0

@@ -3,6 +3,8 @@
 
 mod loading;
 mod saving;
+mod texts;
 
 pub use loading::{SaveRefusal, read};
 pub use saving::{write, write_text};
+pub use texts::read_text;

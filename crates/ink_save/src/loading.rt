@@ -1,7 +1,6 @@
 //! The machine that a JSON value spells.
 
 ghost use Rattle.std.specs.Prelude.{◌≡◌, IfOk, IfSome, OnErr, true};
-ghost use Rattle.serde_json.specs.View.{view};
 ghost use Rattle.ink_check.specs.Words.{story_tree};
 ghost use Rattle.ink_model.specs.Save.Asks.{load_asks};
 ghost use Rattle.ink_model.specs.Save.Unspelled as save;
@@ -20,7 +19,7 @@ use ink_parts::{Restored, SharedParts, restore};
 use ink_spelling::{SavedLayout, read_saved};
 use ink_step::{Fields, Machine, Shared};
 use ink_tree::Tree;
-use serde_json::Value as Json;
+use json_tape::Json;
 use std::alloc::{AllocError, Global};
 
 /// Why a JSON value was not read as a machine.
@@ -32,11 +31,11 @@ pub enum SaveRefusal {
 
 /// The machine that a JSON value spells. Refused with `BadSave` where it spells none that fits the story, and with `OutOfMemory`
 /// where memory was refused, which is asked for only where something of the value is kept. No mark stands in the machine.
-pub fn read(alloc: Global, story: &Story, json: &Json) -> Result<Machine, SaveRefusal>
-    ensures reads { ReadsAs (story_tree story.now) (view json.now) result }
+pub fn read<J: Json>(alloc: Global, story: &Story, json: J) -> Result<Machine, SaveRefusal>
+    ensures reads { ReadsAs (story_tree story.now) (J.spells json) result }
     ensures mark { IfOk result (λ m. stood_of m ≡ unmarked) }
 {
-    match read_machine(alloc, story.tree(), json) {
+    match read_machine::<J>(alloc, story.tree(), json) {
         Ok(found) => match found {
             Some(machine) => Ok(machine),
             None => Err(SaveRefusal::BadSave),
@@ -47,12 +46,12 @@ pub fn read(alloc: Global, story: &Story, json: &Json) -> Result<Machine, SaveRe
 
 // The machine that a JSON value spells, if it spells one that fits the story. The one error is a refused request for memory,
 // which only a value makes of which something is kept.
-fn read_machine(alloc: Global, tree: &Tree, json: &Json) -> Result<Option<Machine>, AllocError>
-    ensures made { IfOk result (λ made. Finds (nodes.story_tree tree.now) (save.unspelled (view json.now)) made) }
+fn read_machine<J: Json>(alloc: Global, tree: &Tree, json: J) -> Result<Option<Machine>, AllocError>
+    ensures made { IfOk result (λ made. Finds (nodes.story_tree tree.now) (save.unspelled (J.spells json)) made) }
     ensures mark { IfOk result (λ made. IfSome made (λ m. stood_of m ≡ unmarked)) }
-    ensures memory { OnErr result (load_asks (view json.now) ≡ true) }
+    ensures memory { OnErr result (load_asks (J.spells json) ≡ true) }
 {
-    match read_saved(alloc, json)? {
+    match read_saved::<J>(alloc, json)? {
         Some(saved) => build_machine(alloc, tree, &saved),
         None => Ok(None),
     }

@@ -22,7 +22,7 @@ use Rattle.ink_model.specs.Session.{BeginsAnew, BreaksBy, Continue, Does, EndsAs
 use Rattle.ink_model.specs.State.{State, Condition, Ready, Broken, in_game}
 use Rattle.ink_model.specs.Store.{Values, store, stored}
 use Rattle.ink_model.specs.Tree.{StoryTree}
-use Rattle.ink_model.specs.Unread.{LineFails, PathFails}
+use Rattle.ink_model.specs.Unread.{LineFails, TextFails}
 use Rattle.ink_model.specs.Turns.{ChoosesBy, ChoosesFrom, JumpsBy, JumpsFrom, LandsFor}
 use Rattle.ink_model.specs.Visits.{entering_around, visits_by}
 use Rattle.ink_model.specs.declared.host.Change.{Change}
@@ -285,14 +285,15 @@ module _ (s : StoryTree) where
     does_fit es (Some (command.Flow name)) old reply new does o = goes_fit name old.condition old reply new does.1 o.condition o
     does_fit es (Some (command.Drop name)) old reply new does o = drops_fit name old.condition old reply new does.1 o.condition o
 
-    path_fails : (c : Option Command) (old : State) (reply : Reply) (new : State) → PathFails c old reply new → new ≡ old
-    path_fails (Some (command.Visits path)) old reply new x = x.1.1
-    path_fails (Some (command.Jump path)) old reply new x = x.1.1
-    path_fails c old reply new x = absurd x
+    text_fails : (c : Option Command) (old : State) (reply : Reply) (new : State) → TextFails c old reply new → new ≡ old
+    text_fails (Some (command.Visits path)) old reply new x = x.1.1
+    text_fails (Some (command.Jump path)) old reply new x = x.1.1
+    text_fails (Some (command.Load saved)) old reply new x = x.1
+    text_fails c old reply new x = absurd x
 
     line_fails : (line : List ℕ) (old : State) (reply : Reply) (new : State) → LineFails line old reply new → new ≡ old
     line_fails line old reply new (inl x) = x.1.1
-    line_fails line old reply new (inr x) = path_fails (command_of line) old reply new x
+    line_fails line old reply new (inr x) = text_fails (command_of line) old reply new x
 
     pub serves_fit : (es : List Event) (line : List ℕ) (old : State) (reply : Reply) (new : State) → Serves s h es line old reply new → StateFits s old → StateFits s new
     unfolding Serves

@@ -1,19 +1,40 @@
 -- A list that is read element by element.
-use Rattle.std.proofs.Common.{◌≡◌, ◌∙◌, sym, ap, refl, ℕ, ◌+◌, ◌<◌, length, List, [], ◌∷◌, ◌++◌, drop, get_or, Option, Some, None, option_map, option_and_then, arith}
-use Rattle.std.proofs.lemmas.List.{at_drop_more}
-use Rattle.serde_json.specs.Data.{Data, array, Items, no_items, item}
-use Rattle.serde_json.specs.View.{view, items_view}
-use Rattle.serde_json.specs.declared.value.Value.{Value}
-use Rattle.std.specs.Prelude.{String, string_bytes}
-use Rattle.std.specs.declared.alloc.Global.{Global}
-use Rattle.serde_json.specs.View.{members_view}
-use Rattle.ink_model.specs.declared.value.Value.{Value as Spelled}
+use Rattle.std.proofs.Common.{◌≡◌, ◌∙◌, sym, ap, refl, subst, ℕ, suc, ◌<◌, List, [], ◌∷◌, ◌++◌, Option, Some, None, option_map, option_and_then, unwrap_or, arith}
+use Rattle.serde_json.specs.Data.{Data, array, Items, no_items, item, Members, no_members, member}
+use Rattle.ink_model.specs.declared.value.Value.{Value}
+use Rattle.json_tape.specs.Shape.{first_item, first_member}
 use Rattle.ink_spelling.specs.Words.{pair_by, two_in}
 use Rattle.ink_model.specs.Save.Unspelled.{all_of, pair_of, rows_of, value_of}
 
--- what is read in the end, of what is made and of the elements that are left
-abbrev pub left : {A : Type 0} → (Data → Option A) → List A → List Value → Option (List A)
-left f made vs = option_map (λ rest. made ++ rest) (all_of f (items_view vs))
+pub count : Items → ℕ
+count no_items = 0
+count (item d ds) = suc (count ds)
+
+pub members_count : Members → ℕ
+members_count no_members = 0
+members_count (member k d ms) = suc (members_count ms)
+
+some_is : {A : Type 0} → (x y : A) → Some x ≡ Some y → x ≡ y
+some_is x y h = ap (λ o. unwrap_or o x) h
+
+pub first_is : (ds : Items) (d : Data) (es : Items) → Some (d, es) ≡ first_item ds → ds ≡ item d es
+first_is no_items d es h = absurd cc
+first_is (item e fs) d es h = ap (λ p. item p.0 p.1) (sym (some_is (d, es) (e, fs) h))
+
+pub member_is : (ms : Members) (k : List ℕ) (d : Data) (ns : Members) → Some (k, (d, ns)) ≡ first_member ms → ms ≡ member k d ns
+member_is no_members k d ns h = absurd cc
+member_is (member l c os) k d ns h = ap (λ p. member p.0 p.1.0 p.1.1) (sym (some_is (k, (d, ns)) (l, (c, os)) h))
+
+one_less : (n : ℕ) → n < suc n
+one_less n = omega arith
+
+pub fewer : (ds : Items) (d : Data) (es : Items) → Some (d, es) ≡ first_item ds → count es < count ds
+unfolding count
+fewer ds d es h = subst (λ l. count es < count l) (sym (first_is ds d es h)) (one_less (count es))
+
+pub fewer_members : (ms : Members) (k : List ℕ) (d : Data) (ns : Members) → Some (k, (d, ns)) ≡ first_member ms → members_count ns < members_count ms
+unfolding members_count
+fewer_members ms k d ns h = subst (λ l. members_count ns < members_count l) (sym (member_is ms k d ns h)) (one_less (members_count ns))
 
 placed : {A : Type 0} → (made : List A) (x : A) (rest : List A) → made ++ (x ∷ rest) ≡ (made ++ (x ∷ [])) ++ rest
 placed [] x rest = refl
@@ -23,44 +44,51 @@ joined : {A : Type 0} → (made : List A) (x : A) (o : Option (List A)) → opti
 joined made x None = refl
 joined made x (Some rest) = ap Some (placed made x rest)
 
-pub left_more : {A : Type 0} → (f : Data → Option A) (made : List A) (xs : List Value) (i : ℕ) (d : Value) (x : A) (whole : Option (List A)) → i < length xs
-    → f (view (get_or xs i d)) ≡ Some x → left f made (drop i xs) ≡ whole → left f (made ++ (x ∷ [])) (drop (i + 1) xs) ≡ whole
-left_more f made xs i d x whole lt e h =
-    sym (joined made x (all_of f (items_view (drop (i + 1) xs))))
-    ∙ sym (ap (λ o. option_map (λ rest. made ++ rest) (option_and_then (λ y. option_map (λ ys. y ∷ ys) (all_of f (items_view (drop (i + 1) xs)))) o)) e)
-    ∙ sym (at_drop_more (left f made) xs i d lt) ∙ h
+ended : {A : Type 0} → (made : List A) → made ++ [] ≡ made
+ended [] = refl
+ended (y ∷ ys) = ap (λ zs. y ∷ zs) (ended ys)
 
-pub left_none : {A : Type 0} → (f : Data → Option A) (made : List A) (xs : List Value) (i : ℕ) (d : Value) (whole : Option (List A)) → i < length xs
-    → f (view (get_or xs i d)) ≡ None → left f made (drop i xs) ≡ whole → None ≡ whole
-left_none f made xs i d whole lt e h =
-    sym (ap (λ o. option_map (λ rest. made ++ rest) (option_and_then (λ y. option_map (λ ys. y ∷ ys) (all_of f (items_view (drop (i + 1) xs)))) o)) e)
-    ∙ sym (at_drop_more (left f made) xs i d lt) ∙ h
+-- ---- elements
+
+-- what is read in the end, of what is made and of the elements that are left
+abbrev pub left : {A : Type 0} → (Data → Option A) → List A → Items → Option (List A)
+left f made ds = option_map (λ rest. made ++ rest) (all_of f ds)
+
+module _ {A : Type 0} (f : Data → Option A) (made : List A) (whole : Option (List A)) (ds : Items) (d : Data) (es : Items) (h : Some (d, es) ≡ first_item ds) where
+  abbrev after : Option A → Option (List A)
+  after o = option_map (λ rest. made ++ rest) (option_and_then (λ y. option_map (λ ys. y ∷ ys) (all_of f es)) o)
+
+  pub left_more : (x : A) → Some x ≡ f d → left f made ds ≡ whole → left f (made ++ (x ∷ [])) es ≡ whole
+  left_more x e all = sym (joined made x (all_of f es)) ∙ ap after e ∙ sym (ap (left f made) (first_is ds d es h)) ∙ all
+
+  pub left_none : None ≡ f d → left f made ds ≡ whole → None ≡ whole
+  left_none e all = ap after e ∙ sym (ap (left f made) (first_is ds d es h)) ∙ all
+
+pub left_all : {A : Type 0} (f : Data → Option A) (made : List A) (whole : Option (List A)) (ds : Items) → None ≡ first_item ds → left f made ds ≡ whole → Some made ≡ whole
+left_all f made whole no_items h all = sym (ap Some (ended made)) ∙ all
+left_all f made whole (item d es) h all = absurd cc
 
 -- ---- rows of members
 
 -- what is read in the end, of the rows that are made and of the members that are left
-abbrev pub rows_left : List (List ℕ × Spelled) → List (String Global × Value) → Option (List (List ℕ × Spelled))
-rows_left made es = option_map (λ rest. made ++ rest) (rows_of (members_view es))
+abbrev pub rows_left : List (List ℕ × Value) → Members → Option (List (List ℕ × Value))
+rows_left made ms = option_map (λ rest. made ++ rest) (rows_of ms)
 
-pub rows_more : (made : List (List ℕ × Spelled)) (e : String Global × Value) (es : List (String Global × Value)) (v : Spelled) (whole : Option (List (List ℕ × Spelled)))
-    → value_of (view e.1) ≡ Some v → rows_left made (e ∷ es) ≡ whole → rows_left (made ++ ((string_bytes e.0, v) ∷ [])) es ≡ whole
-rows_more made e es v whole read h =
-    sym (joined made (string_bytes e.0, v) (rows_of (members_view es)))
-    ∙ sym (ap (λ o. option_map (λ rest. made ++ rest) (option_and_then (λ y. option_map (λ ys. (string_bytes e.0, y) ∷ ys) (rows_of (members_view es))) o)) read) ∙ h
+module _ (made : List (List ℕ × Value)) (whole : Option (List (List ℕ × Value))) (ms : Members) (k : List ℕ) (d : Data) (ns : Members) (h : Some (k, (d, ns)) ≡ first_member ms) where
+  abbrev behind : Option Value → Option (List (List ℕ × Value))
+  behind o = option_map (λ rest. made ++ rest) (option_and_then (λ y. option_map (λ ys. (k, y) ∷ ys) (rows_of ns)) o)
+
+  pub rows_more : (v : Value) → Some v ≡ value_of d → rows_left made ms ≡ whole → rows_left (made ++ ((k, v) ∷ [])) ns ≡ whole
+  rows_more v e all = sym (joined made (k, v) (rows_of ns)) ∙ ap behind e ∙ sym (ap (rows_left made) (member_is ms k d ns h)) ∙ all
+
+  pub rows_none : None ≡ value_of d → rows_left made ms ≡ whole → None ≡ whole
+  rows_none e all = ap behind e ∙ sym (ap (rows_left made) (member_is ms k d ns h)) ∙ all
+
+pub rows_all : (made : List (List ℕ × Value)) (whole : Option (List (List ℕ × Value))) (ms : Members) → None ≡ first_member ms → rows_left made ms ≡ whole → Some made ≡ whole
+rows_all made whole no_members h all = sym (ap Some (ended made)) ∙ all
+rows_all made whole (member k d ns) h all = absurd cc
 
 -- ---- pairs
-
-pub two_none : (vs : List Value) → (length vs ≡ 2 → ⊥) → two_in (items_view vs) ≡ None
-two_none [] h = refl
-two_none (v ∷ []) h = refl
-two_none (v ∷ w ∷ []) h = absurd (h refl)
-two_none (v ∷ w ∷ x ∷ vs) h = refl
-
-pub two_some : (vs : List Value) (d e : Value) → length vs ≡ 2 → two_in (items_view vs) ≡ Some (view (get_or vs 0 d), view (get_or vs 1 e))
-two_some [] d e h = absurd (omega (arith, h))
-two_some (v ∷ []) d e h = absurd (omega (arith, h))
-two_some (v ∷ w ∷ []) d e h = refl
-two_some (v ∷ w ∷ x ∷ vs) d e h = absurd (omega (arith, h))
 
 pub pair_is : {A B : Type 0} → (f : Data → Option A) (g : Data → Option B) (ds : Items) → pair_of f g (array ds) ≡ pair_by f g (two_in ds)
 pair_is f g no_items = refl

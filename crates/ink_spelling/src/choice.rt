@@ -1,16 +1,14 @@
 //! Choices.
 
 ghost use Rattle.std.specs.Prelude.{◌≡◌, IfOk, OnErr, true};
-ghost use Rattle.serde_json.specs.View.{members_view};
 ghost use Rattle.ink_model.specs.Save.Asks.{choice_asks, choice_asks_by};
 ghost use Rattle.ink_model.specs.Save.Unspelled.{choice_by, choice_of};
 
-use crate::listed::Listed;
 use crate::members::{alone, next_spelled};
 use crate::spelled::Spelled;
 use crate::thread::SavedThread;
-use ink_model::{Part, Shared, Text};
-use serde_json::{Map, Value as Json};
+use ink_model::{Part, Seq, Shared, Text};
+use json_tape::{Json, Kind};
 use std::alloc::{AllocError, Global};
 use std::marker::Model;
 
@@ -18,8 +16,8 @@ use std::marker::Model;
 #[derive(Drop)]
 pub struct SavedChoice {
     pub text: Text,
-    pub tags: Listed<Shared<Text>>,
-    pub target: Listed<Part>,
+    pub tags: Seq<Shared<Text>>,
+    pub target: Seq<Part>,
     pub hidden: bool,
     pub thread: SavedThread,
 }
@@ -39,10 +37,10 @@ impl Spelled for SavedChoice {
 
     ghost asks = { λ j. choice_asks j };
 
-    fn read(alloc: Global, json: &Json) -> Result<Option<SavedChoice>, AllocError> {
-        match json {
-            Json::Object(members) => read_members(alloc, members),
-            Json::Null | Json::Bool(_) | Json::Number(_) | Json::String(_) | Json::Array(_) => {
+    fn read<J: Json>(alloc: Global, json: J) -> Result<Option<SavedChoice>, AllocError> {
+        match json.kind() {
+            Kind::Object(members) => read_members::<J>(alloc, members),
+            Kind::Null | Kind::Bool(_) | Kind::Number(_) | Kind::String(_) | Kind::Array(_) => {
                 Ok(None)
             }
         }
@@ -50,27 +48,27 @@ impl Spelled for SavedChoice {
 }
 
 // The choice that members spell. The one error is a refused request for memory.
-fn read_members(
+fn read_members<J: Json>(
     alloc: Global,
-    members: &Map<String, Json>,
+    members: J::Members,
 ) -> Result<Option<SavedChoice>, AllocError>
-    ensures found { IfOk result (λ choice. choice ≡ choice_by (members_view members.now.entries)) }
-    ensures memory { OnErr result (choice_asks_by (members_view members.now.entries) ≡ true) }
+    ensures found { IfOk result (λ choice. choice ≡ choice_by (J.members members)) }
+    ensures memory { OnErr result (choice_asks_by (J.members members) ≡ true) }
 {
-    let mut rest = members.iter();
-    let Some(hidden) = next_spelled::<bool>(alloc, &mut rest, "hidden")? else {
+    let mut rest = members;
+    let Some(hidden) = next_spelled::<J, bool>(alloc, &mut rest, "hidden")? else {
         return Ok(None);
     };
-    let Some(tags) = next_spelled::<Listed<Shared<Text>>>(alloc, &mut rest, "tags")? else {
+    let Some(tags) = next_spelled::<J, Seq<Shared<Text>>>(alloc, &mut rest, "tags")? else {
         return Ok(None);
     };
-    let Some(target) = next_spelled::<Listed<Part>>(alloc, &mut rest, "target")? else {
+    let Some(target) = next_spelled::<J, Seq<Part>>(alloc, &mut rest, "target")? else {
         return Ok(None);
     };
-    let Some(text) = next_spelled::<Text>(alloc, &mut rest, "text")? else {
+    let Some(text) = next_spelled::<J, Text>(alloc, &mut rest, "text")? else {
         return Ok(None);
     };
-    let Some(thread) = next_spelled::<SavedThread>(alloc, &mut rest, "thread")? else {
+    let Some(thread) = next_spelled::<J, SavedThread>(alloc, &mut rest, "thread")? else {
         return Ok(None);
     };
     let choice = SavedChoice {
@@ -80,5 +78,5 @@ fn read_members(
         hidden,
         thread,
     };
-    Ok(alone(&mut rest, choice))
+    Ok(alone::<J, _>(&mut rest, choice))
 }

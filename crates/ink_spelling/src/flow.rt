@@ -1,28 +1,25 @@
 //! Flows.
 
 ghost use Rattle.std.specs.Prelude.{◌≡◌, IfOk, OnErr, true};
-ghost use Rattle.serde_json.specs.View.{members_view};
 ghost use Rattle.ink_model.specs.Save.Unspelled.{named_flow_by, named_flow_of};
 ghost use Rattle.ink_spelling.specs.Words.{flow_from_safe, named_flow_asks, named_flow_asks_by, safe_asks};
 
 use crate::choice::SavedChoice;
-use crate::listed::Listed;
 use crate::members::{alone, next_spelled};
 use crate::spelled::Spelled;
 use crate::thread::{SavedThread, SavedThreads};
 use crate::value::SavedValue;
-use ink_model::Text;
-use serde_json::{Map, Value as Json};
+use ink_model::{Seq, Text};
+use json_tape::{Json, Kind};
 use std::alloc::{AllocError, Global};
-use std::collections::btree_map::Iter;
 use std::marker::Model;
 
 /// What a flow has of its own, as it is spelled. A contract sees the flow.
 #[derive(Drop)]
 pub struct SavedFlow {
     pub threads: SavedThreads,
-    pub stack: Listed<SavedValue>,
-    pub choices: Listed<SavedChoice>,
+    pub stack: Seq<SavedValue>,
+    pub choices: Seq<SavedChoice>,
     pub safe: bool,
 }
 
@@ -74,10 +71,10 @@ impl Spelled for NamedFlow {
 
     ghost asks = { λ j. named_flow_asks j };
 
-    fn read(alloc: Global, json: &Json) -> Result<Option<NamedFlow>, AllocError> {
-        match json {
-            Json::Object(members) => read_members(alloc, members),
-            Json::Null | Json::Bool(_) | Json::Number(_) | Json::String(_) | Json::Array(_) => {
+    fn read<J: Json>(alloc: Global, json: J) -> Result<Option<NamedFlow>, AllocError> {
+        match json.kind() {
+            Kind::Object(members) => read_members::<J>(alloc, members),
+            Kind::Null | Kind::Bool(_) | Kind::Number(_) | Kind::String(_) | Kind::Array(_) => {
                 Ok(None)
             }
         }
@@ -85,37 +82,40 @@ impl Spelled for NamedFlow {
 }
 
 // The flow that members spell. The one error is a refused request for memory.
-fn read_members(alloc: Global, members: &Map<String, Json>) -> Result<Option<NamedFlow>, AllocError>
-    ensures found { IfOk result (λ flow. flow ≡ named_flow_by (members_view members.now.entries)) }
-    ensures memory { OnErr result (named_flow_asks_by (members_view members.now.entries) ≡ true) }
+fn read_members<J: Json>(
+    alloc: Global,
+    members: J::Members,
+) -> Result<Option<NamedFlow>, AllocError>
+    ensures found { IfOk result (λ flow. flow ≡ named_flow_by (J.members members)) }
+    ensures memory { OnErr result (named_flow_asks_by (J.members members) ≡ true) }
 {
-    let mut rest = members.iter();
-    let Some(choices) = next_spelled::<Listed<SavedChoice>>(alloc, &mut rest, "choices")? else {
+    let mut rest = members;
+    let Some(choices) = next_spelled::<J, Seq<SavedChoice>>(alloc, &mut rest, "choices")? else {
         return Ok(None);
     };
-    let Some(name) = next_spelled::<Text>(alloc, &mut rest, "name")? else {
+    let Some(name) = next_spelled::<J, Text>(alloc, &mut rest, "name")? else {
         return Ok(None);
     };
-    read_safe(alloc, &mut rest, choices, name)
+    read_safe::<J>(alloc, &mut rest, choices, name)
 }
 
 // The same from whether its last stop was a safe one.
-fn read_safe(
+fn read_safe<J: Json>(
     alloc: Global,
-    rest: &mut Iter<'_, String, Json>,
-    choices: Listed<SavedChoice>,
+    rest: &mut J::Members,
+    choices: Seq<SavedChoice>,
     name: Text,
 ) -> Result<Option<NamedFlow>, AllocError>
-    ensures found { IfOk result (λ flow. flow ≡ flow_from_safe choices name (members_view rest.old)) }
-    ensures memory { OnErr result (safe_asks (members_view rest.old) ≡ true) }
+    ensures found { IfOk result (λ flow. flow ≡ flow_from_safe choices name (J.members rest.old)) }
+    ensures memory { OnErr result (safe_asks (J.members rest.old) ≡ true) }
 {
-    let Some(safe) = next_spelled::<bool>(alloc, rest, "safe")? else {
+    let Some(safe) = next_spelled::<J, bool>(alloc, rest, "safe")? else {
         return Ok(None);
     };
-    let Some(stack) = next_spelled::<Listed<SavedValue>>(alloc, rest, "stack")? else {
+    let Some(stack) = next_spelled::<J, Seq<SavedValue>>(alloc, rest, "stack")? else {
         return Ok(None);
     };
-    let Some(threads) = next_spelled::<Listed<SavedThread>>(alloc, rest, "threads")? else {
+    let Some(threads) = next_spelled::<J, Seq<SavedThread>>(alloc, rest, "threads")? else {
         return Ok(None);
     };
     let Some(threads) = SavedThreads::of(threads) else {
@@ -127,5 +127,5 @@ fn read_safe(
         choices,
         safe,
     };
-    Ok(alone(rest, NamedFlow { name, flow }))
+    Ok(alone::<J, _>(rest, NamedFlow { name, flow }))
 }

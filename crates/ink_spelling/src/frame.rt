@@ -1,16 +1,14 @@
 //! Frames.
 
 ghost use Rattle.std.specs.Prelude.{◌≡◌, IfOk, OnErr, true};
-ghost use Rattle.serde_json.specs.View.{members_view};
 ghost use Rattle.ink_model.specs.Save.Asks.{frame_asks, frame_asks_by, none_asks};
 ghost use Rattle.ink_model.specs.Save.Unspelled.{frame_by, frame_of, kind_by, kind_of};
 
-use crate::listed::Listed;
 use crate::members::{alone, next_spelled};
 use crate::spelled::Spelled;
 use crate::temps::SavedTemps;
-use ink_model::{FrameKind, Part};
-use serde_json::{Map, Value as Json};
+use ink_model::{FrameKind, Part, Seq};
+use json_tape::{Json, Kind};
 use std::alloc::{AllocError, Global};
 use std::marker::Model;
 
@@ -18,7 +16,7 @@ use std::marker::Model;
 #[derive(Drop)]
 pub struct SavedFrame {
     pub kind: FrameKind,
-    pub place: Option<Listed<Part>>,
+    pub place: Option<Seq<Part>>,
     pub temps: SavedTemps,
     pub evaluating: bool,
     pub fresh: bool,
@@ -40,10 +38,10 @@ impl Spelled for SavedFrame {
 
     ghost asks = { λ j. frame_asks j };
 
-    fn read(alloc: Global, json: &Json) -> Result<Option<SavedFrame>, AllocError> {
-        match json {
-            Json::Object(members) => read_members(alloc, members),
-            Json::Null | Json::Bool(_) | Json::Number(_) | Json::String(_) | Json::Array(_) => {
+    fn read<J: Json>(alloc: Global, json: J) -> Result<Option<SavedFrame>, AllocError> {
+        match json.kind() {
+            Kind::Object(members) => read_members::<J>(alloc, members),
+            Kind::Null | Kind::Bool(_) | Kind::Number(_) | Kind::String(_) | Kind::Array(_) => {
                 Ok(None)
             }
         }
@@ -51,30 +49,30 @@ impl Spelled for SavedFrame {
 }
 
 // The frame that members spell. The one error is a refused request for memory.
-fn read_members(
+fn read_members<J: Json>(
     alloc: Global,
-    members: &Map<String, Json>,
+    members: J::Members,
 ) -> Result<Option<SavedFrame>, AllocError>
-    ensures found { IfOk result (λ frame. frame ≡ frame_by (members_view members.now.entries)) }
-    ensures memory { OnErr result (frame_asks_by (members_view members.now.entries) ≡ true) }
+    ensures found { IfOk result (λ frame. frame ≡ frame_by (J.members members)) }
+    ensures memory { OnErr result (frame_asks_by (J.members members) ≡ true) }
 {
-    let mut rest = members.iter();
-    let Some(depth) = next_spelled::<u64>(alloc, &mut rest, "depth")? else {
+    let mut rest = members;
+    let Some(depth) = next_spelled::<J, u64>(alloc, &mut rest, "depth")? else {
         return Ok(None);
     };
-    let Some(evaluating) = next_spelled::<bool>(alloc, &mut rest, "eval")? else {
+    let Some(evaluating) = next_spelled::<J, bool>(alloc, &mut rest, "eval")? else {
         return Ok(None);
     };
-    let Some(fresh) = next_spelled::<bool>(alloc, &mut rest, "fresh")? else {
+    let Some(fresh) = next_spelled::<J, bool>(alloc, &mut rest, "fresh")? else {
         return Ok(None);
     };
-    let Some(kind) = next_spelled::<FrameKind>(alloc, &mut rest, "kind")? else {
+    let Some(kind) = next_spelled::<J, FrameKind>(alloc, &mut rest, "kind")? else {
         return Ok(None);
     };
-    let Some(place) = next_spelled::<Option<Listed<Part>>>(alloc, &mut rest, "place")? else {
+    let Some(place) = next_spelled::<J, Option<Seq<Part>>>(alloc, &mut rest, "place")? else {
         return Ok(None);
     };
-    let Some(temps) = next_spelled::<SavedTemps>(alloc, &mut rest, "temps")? else {
+    let Some(temps) = next_spelled::<J, SavedTemps>(alloc, &mut rest, "temps")? else {
         return Ok(None);
     };
     let frame = SavedFrame {
@@ -85,7 +83,7 @@ fn read_members(
         fresh,
         depth,
     };
-    Ok(alone(&mut rest, frame))
+    Ok(alone::<J, _>(&mut rest, frame))
 }
 
 impl Spelled for FrameKind {
@@ -93,10 +91,10 @@ impl Spelled for FrameKind {
 
     ghost asks = { λ j. none_asks j };
 
-    fn read(_alloc: Global, json: &Json) -> Result<Option<FrameKind>, AllocError> {
-        match json {
-            Json::String(text) => Ok(kind_by(text.as_str())),
-            Json::Null | Json::Bool(_) | Json::Number(_) | Json::Array(_) | Json::Object(_) => {
+    fn read<J: Json>(_alloc: Global, json: J) -> Result<Option<FrameKind>, AllocError> {
+        match json.kind() {
+            Kind::String(text) => Ok(kind_by(text)),
+            Kind::Null | Kind::Bool(_) | Kind::Number(_) | Kind::Array(_) | Kind::Object(_) => {
                 Ok(None)
             }
         }

@@ -1,28 +1,25 @@
 //! What a save of layout 2 spells.
 
 ghost use Rattle.std.specs.Prelude.{◌≡◌, IfOk, OnErr, true};
-ghost use Rattle.serde_json.specs.View.{members_view};
 ghost use Rattle.ink_model.specs.Save.Asks.{spelled_asks};
 ghost use Rattle.ink_model.specs.Save.Unspelled.{spelled_by};
 ghost use Rattle.ink_spelling.specs.Words.{spelled_from_flows, spelled_from_globals};
 
 use crate::flow::NamedFlow;
-use crate::listed::Listed;
 use crate::members::{alone, next_named, next_spelled};
 use crate::plain::is_layout;
 use crate::saved::SavedShared;
 use crate::value::SavedValue;
-use ink_model::{Part, Text};
-use serde_json::{Map, Value as Json};
+use ink_model::{Part, Seq, Text};
+use json_tape::Json;
 use std::alloc::{AllocError, Global};
-use std::collections::btree_map::Iter;
 use std::marker::Model;
 
 /// All flows, the current one's name, and what they share, as they are spelled. A contract sees them.
 #[derive(Drop)]
 pub struct SavedGame {
     pub current: Text,
-    pub flows: Listed<NamedFlow>,
+    pub flows: Seq<NamedFlow>,
     pub shared: SavedShared,
 }
 
@@ -36,59 +33,59 @@ impl Model for SavedGame {
 
 /// What members spell in layout 2. The one error is a refused request for memory, which is asked for from the current flow's
 /// name on.
-pub(crate) fn read_game(
+pub(crate) fn read_game<J: Json>(
     alloc: Global,
-    members: &Map<String, Json>,
+    members: J::Members,
 ) -> Result<Option<SavedGame>, AllocError>
-    ensures game { IfOk result (λ game. game ≡ spelled_by (members_view members.now.entries)) }
-    ensures memory { OnErr result (spelled_asks (members_view members.now.entries) ≡ true) }
+    ensures game { IfOk result (λ game. game ≡ spelled_by (J.members members)) }
+    ensures memory { OnErr result (spelled_asks (J.members members) ≡ true) }
 {
-    let mut rest = members.iter();
-    let Some(current) = next_spelled::<Text>(alloc, &mut rest, "current")? else {
+    let mut rest = members;
+    let Some(current) = next_spelled::<J, Text>(alloc, &mut rest, "current")? else {
         return Ok(None);
     };
-    read_flows(alloc, &mut rest, current)
+    read_flows::<J>(alloc, &mut rest, current)
 }
 
 // The same from the flows on.
-fn read_flows(
+fn read_flows<J: Json>(
     alloc: Global,
-    rest: &mut Iter<'_, String, Json>,
+    rest: &mut J::Members,
     current: Text,
 ) -> Result<Option<SavedGame>, AllocError>
-    ensures { IfOk result (λ game. game ≡ spelled_from_flows current (members_view rest.old)) }
+    ensures { IfOk result (λ game. game ≡ spelled_from_flows current (J.members rest.old)) }
 {
-    let Some(flows) = next_spelled::<Listed<NamedFlow>>(alloc, rest, "flows")? else {
+    let Some(flows) = next_spelled::<J, Seq<NamedFlow>>(alloc, rest, "flows")? else {
         return Ok(None);
     };
-    let Some(json) = next_named(rest, "format") else {
+    let Some(json) = next_named::<J>(rest, "format") else {
         return Ok(None);
     };
-    if !is_layout(json, 2) {
+    if !is_layout::<J>(json, 2) {
         return Ok(None);
     }
-    read_globals(alloc, rest, current, flows)
+    read_globals::<J>(alloc, rest, current, flows)
 }
 
 // The same from the globals on.
-fn read_globals(
+fn read_globals<J: Json>(
     alloc: Global,
-    rest: &mut Iter<'_, String, Json>,
+    rest: &mut J::Members,
     current: Text,
-    flows: Listed<NamedFlow>,
+    flows: Seq<NamedFlow>,
 ) -> Result<Option<SavedGame>, AllocError>
-    ensures { IfOk result (λ game. game ≡ spelled_from_globals current flows (members_view rest.old)) }
+    ensures { IfOk result (λ game. game ≡ spelled_from_globals current flows (J.members rest.old)) }
 {
-    let Some(globals) = next_spelled::<Listed<(Text, SavedValue)>>(alloc, rest, "globals")? else {
+    let Some(globals) = next_spelled::<J, Seq<(Text, SavedValue)>>(alloc, rest, "globals")? else {
         return Ok(None);
     };
-    let Some(turn) = next_spelled::<u64>(alloc, rest, "turn")? else {
+    let Some(turn) = next_spelled::<J, u64>(alloc, rest, "turn")? else {
         return Ok(None);
     };
-    let Some(turns) = next_spelled::<Listed<(Listed<Part>, u64)>>(alloc, rest, "turns")? else {
+    let Some(turns) = next_spelled::<J, Seq<(Seq<Part>, u64)>>(alloc, rest, "turns")? else {
         return Ok(None);
     };
-    let Some(visits) = next_spelled::<Listed<(Listed<Part>, u64)>>(alloc, rest, "visits")? else {
+    let Some(visits) = next_spelled::<J, Seq<(Seq<Part>, u64)>>(alloc, rest, "visits")? else {
         return Ok(None);
     };
     let shared = SavedShared {
@@ -102,5 +99,5 @@ fn read_globals(
         flows,
         shared,
     };
-    Ok(alone(rest, game))
+    Ok(alone::<J, _>(rest, game))
 }

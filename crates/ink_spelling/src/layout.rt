@@ -1,14 +1,13 @@
 //! What a save spells, in either layout.
 
 ghost use Rattle.std.specs.Prelude.{◌≡◌, ◌||◌, IfOk, IfSome, OnErr, option_map, true};
-ghost use Rattle.serde_json.specs.View.{members_view, view};
 ghost use Rattle.ink_model.specs.Save.Asks.{load_asks, members_ask, spelled_asks};
 ghost use Rattle.ink_model.specs.Save.Unspelled.{layout_by, layout_of};
 ghost use Rattle.ink_spelling.specs.Layouts.{Rest, layout_as};
 
 use crate::game::{SavedGame, read_game};
 use crate::saved::{Saved, read_alone};
-use serde_json::{Map, Value as Json};
+use json_tape::{Json, Kind};
 use std::alloc::{AllocError, Global};
 
 /// What a save spells: in layout 1, which knew no flows, a configuration; in layout 2 all flows.
@@ -20,28 +19,28 @@ pub enum SavedLayout {
 
 /// What a JSON value spells in either layout, if it spells something. No frame in it has the number of an Enter. The one error is
 /// a refused request for memory, which is asked for only where something of the value is kept.
-pub fn read_saved(alloc: Global, json: &Json) -> Result<Option<SavedLayout>, AllocError>
-    ensures saved { IfOk result (λ saved. option_map layout_as saved ≡ layout_of (view json.now)) }
+pub fn read_saved<J: Json>(alloc: Global, json: J) -> Result<Option<SavedLayout>, AllocError>
+    ensures saved { IfOk result (λ saved. option_map layout_as saved ≡ layout_of (J.spells json)) }
     ensures rests { IfOk result (λ saved. IfSome saved (λ layout. Rest (layout_as layout))) }
-    ensures memory { OnErr result (load_asks (view json.now) ≡ true) }
+    ensures memory { OnErr result (load_asks (J.spells json) ≡ true) }
 {
-    match json {
-        Json::Object(members) => read_members(alloc, members),
-        Json::Null | Json::Bool(_) | Json::Number(_) | Json::String(_) | Json::Array(_) => Ok(None),
+    match json.kind() {
+        Kind::Object(members) => read_members::<J>(alloc, members),
+        Kind::Null | Kind::Bool(_) | Kind::Number(_) | Kind::String(_) | Kind::Array(_) => Ok(None),
     }
 }
 
 // What members spell. Layout 2 begins with another key than layout 1. The one error is a refused request for memory.
-fn read_members(
+fn read_members<J: Json>(
     alloc: Global,
-    members: &Map<String, Json>,
+    members: J::Members,
 ) -> Result<Option<SavedLayout>, AllocError>
-    ensures saved { IfOk result (λ saved. option_map layout_as saved ≡ layout_by (members_view members.now.entries)) }
-    ensures memory { let ms = members_view members.now.entries in OnErr result ((spelled_asks ms || members_ask ms) ≡ true) }
+    ensures saved { IfOk result (λ saved. option_map layout_as saved ≡ layout_by (J.members members)) }
+    ensures memory { let ms = J.members members in OnErr result ((spelled_asks ms || members_ask ms) ≡ true) }
 {
-    match read_game(alloc, members)? {
+    match read_game::<J>(alloc, J::again(&members))? {
         Some(game) => Ok(Some(SavedLayout::Second(game))),
-        None => match read_alone(alloc, members)? {
+        None => match read_alone::<J>(alloc, members)? {
             Some(saved) => Ok(Some(SavedLayout::First(saved))),
             None => Ok(None),
         },

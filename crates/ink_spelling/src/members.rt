@@ -1,22 +1,19 @@
 //! Members of objects, one after another.
 
 ghost use Rattle.std.specs.Prelude.{◌≡◌, IfOk, IfSome, OnErr, Some, option_and_then, option_map, true};
-ghost use Rattle.serde_json.specs.View.{view, members_view};
 ghost use Rattle.ink_model.specs.Save.Unspelled.{closed};
 ghost use Rattle.ink_model.specs.Save.Unspelled as rules;
 
 use crate::spelled::Spelled;
-use serde_json::Value as Json;
+use json_tape::Json;
 use std::alloc::{AllocError, Global};
-use std::collections::btree_map::Iter;
 
 /// The value of the next member, if it has this name. It goes one member on.
-pub(crate) fn next_named<'a>(members: &mut Iter<'a, String, Json>, name: &str) -> Option<&'a Json>
-    ensures { option_map (λ j. (view j.now, members_view members.new)) result
-        ≡ rules.next_named name.now (members_view members.old) }
+pub(crate) fn next_named<J: Json>(members: &mut J::Members, name: &str) -> Option<J>
+    ensures { option_map (λ j. (J.spells j, J.members members.new)) result ≡ rules.next_named name.now (J.members members.old) }
 {
-    let (key, value) = members.next()?;
-    if name == key.as_str() {
+    let (key, value) = J::next_member(members)?;
+    if name == J::name_text(&key) {
         Some(value)
     } else {
         None
@@ -25,27 +22,27 @@ pub(crate) fn next_named<'a>(members: &mut Iter<'a, String, Json>, name: &str) -
 
 /// What the value of the next member spells, if it has this name. It goes one member on. The one error is a refused request for
 /// memory.
-pub(crate) fn next_spelled<T: Spelled>(
+pub(crate) fn next_spelled<J: Json, T: Spelled>(
     alloc: Global,
-    members: &mut Iter<'_, String, Json>,
+    members: &mut J::Members,
     name: &str,
 ) -> Result<Option<T>, AllocError>
-    ensures found { IfOk result (λ found. found ≡ option_and_then (λ r. T.spelled r.0) (rules.next_named name.now (members_view members.old))) }
-    ensures rest { IfOk result (λ found. IfSome found (λ _. option_map (λ r. r.1) (rules.next_named name.now (members_view members.old)) ≡ Some (members_view members.new))) }
-    ensures memory { OnErr result (option_map (λ r. T.asks r.0) (rules.next_named name.now (members_view members.old)) ≡ Some true) }
+    ensures found { IfOk result (λ found. found ≡ option_and_then (λ r. T.spelled r.0) (rules.next_named name.now (J.members members.old))) }
+    ensures rest { IfOk result (λ found. IfSome found (λ _. option_map (λ r. r.1) (rules.next_named name.now (J.members members.old)) ≡ Some (J.members members.new))) }
+    ensures memory { OnErr result (option_map (λ r. T.asks r.0) (rules.next_named name.now (J.members members.old)) ≡ Some true) }
 {
-    match next_named(members, name) {
-        Some(json) => T::read(alloc, json),
+    match next_named::<J>(members, name) {
+        Some(json) => T::read::<J>(alloc, json),
         None => Ok(None),
     }
 }
 
 /// What was read, if there is no further member.
-pub(crate) fn alone<T: Drop>(members: &mut Iter<'_, String, Json>, found: T) -> Option<T>
-    ensures found { result ≡ closed found (members_view members.old) }
+pub(crate) fn alone<J: Json, T: Drop>(members: &mut J::Members, found: T) -> Option<T>
+    ensures found { result ≡ closed found (J.members members.old) }
     ensures same { IfSome result (λ r. r ≡ found) }
 {
-    match members.next() {
+    match J::next_member(members) {
         Some(_) => None,
         None => Some(found),
     }

@@ -1,14 +1,14 @@
 //! Numbers, truth values and texts.
 
+ghost use Rattle.json_tape.specs.Number.{num};
 ghost use Rattle.std.specs.Prelude.{◌≡◌, IfOk, is_some};
 ghost use Rattle.serde_json.specs.Find.{as_u64};
-ghost use Rattle.serde_json.specs.View.{number_view, view};
 ghost use Rattle.ink_model.specs.Save.Asks.{none_asks, text_asks};
 ghost use Rattle.ink_model.specs.Save.Unspelled.{count_of, format_of, int_of, number_integer, text_of, truth_of};
 
 use crate::spelled::Spelled;
 use ink_model::{Shared, Text};
-use serde_json::{Number, Value as Json};
+use json_tape::{Json, Kind, Number};
 use std::alloc::{AllocError, Global};
 
 impl Spelled for i32 {
@@ -16,10 +16,10 @@ impl Spelled for i32 {
 
     ghost asks = { λ j. none_asks j };
 
-    fn read(_alloc: Global, json: &Json) -> Result<Option<i32>, AllocError> {
-        match json {
-            Json::Number(number) => Ok(small_integer(number)),
-            Json::Null | Json::Bool(_) | Json::String(_) | Json::Array(_) | Json::Object(_) => {
+    fn read<J: Json>(_alloc: Global, json: J) -> Result<Option<i32>, AllocError> {
+        match json.kind() {
+            Kind::Number(number) => Ok(small_integer(number)),
+            Kind::Null | Kind::Bool(_) | Kind::String(_) | Kind::Array(_) | Kind::Object(_) => {
                 Ok(None)
             }
         }
@@ -27,17 +27,14 @@ impl Spelled for i32 {
 }
 
 /// The integer of 32 bits that a number is, if it is one.
-pub(crate) fn small_integer(number: &Number) -> Option<i32>
-    ensures { result ≡ number_integer (number_view number.now) }
+pub(crate) fn small_integer(number: Number) -> Option<i32>
+    ensures { result ≡ number_integer (num number) }
 {
-    let integer = number.as_i128()?;
-    if integer < i32::MIN as i128 || integer > i32::MAX as i128 {
-        return None;
+    match number {
+        Number::Unsigned(natural) if natural <= i32::MAX as u64 => Some(natural as i32),
+        Number::Negative(below) if below < 0 && below >= i32::MIN as i64 => Some(below as i32),
+        Number::Unsigned(_) | Number::Negative(_) | Number::Float(_) => None,
     }
-    if integer >= 0 && number.as_u64().is_none() {
-        return None;
-    }
-    Some(integer as i32)
 }
 
 impl Spelled for u64 {
@@ -45,20 +42,23 @@ impl Spelled for u64 {
 
     ghost asks = { λ j. none_asks j };
 
-    fn read(_alloc: Global, json: &Json) -> Result<Option<u64>, AllocError> {
-        match json {
-            Json::Number(number) => Ok(natural(number)),
-            Json::Null | Json::Bool(_) | Json::String(_) | Json::Array(_) | Json::Object(_) => {
+    fn read<J: Json>(_alloc: Global, json: J) -> Result<Option<u64>, AllocError> {
+        match json.kind() {
+            Kind::Number(number) => Ok(natural(number)),
+            Kind::Null | Kind::Bool(_) | Kind::String(_) | Kind::Array(_) | Kind::Object(_) => {
                 Ok(None)
             }
         }
     }
 }
 
-fn natural(number: &Number) -> Option<u64>
-    ensures { result ≡ as_u64 (number_view number.now) }
+fn natural(number: Number) -> Option<u64>
+    ensures { result ≡ as_u64 (num number) }
 {
-    number.as_u64()
+    match number {
+        Number::Unsigned(natural) => Some(natural),
+        Number::Negative(_) | Number::Float(_) => None,
+    }
 }
 
 impl Spelled for bool {
@@ -66,10 +66,10 @@ impl Spelled for bool {
 
     ghost asks = { λ j. none_asks j };
 
-    fn read(_alloc: Global, json: &Json) -> Result<Option<bool>, AllocError> {
-        match json {
-            Json::Bool(truth) => Ok(Some(*truth)),
-            Json::Null | Json::Number(_) | Json::String(_) | Json::Array(_) | Json::Object(_) => {
+    fn read<J: Json>(_alloc: Global, json: J) -> Result<Option<bool>, AllocError> {
+        match json.kind() {
+            Kind::Bool(truth) => Ok(Some(truth)),
+            Kind::Null | Kind::Number(_) | Kind::String(_) | Kind::Array(_) | Kind::Object(_) => {
                 Ok(None)
             }
         }
@@ -81,10 +81,10 @@ impl Spelled for Text {
 
     ghost asks = { λ j. text_asks j };
 
-    fn read(alloc: Global, json: &Json) -> Result<Option<Text>, AllocError> {
-        match json {
-            Json::String(text) => Ok(Some(Text::from_str(alloc, text.as_str())?)),
-            Json::Null | Json::Bool(_) | Json::Number(_) | Json::Array(_) | Json::Object(_) => {
+    fn read<J: Json>(alloc: Global, json: J) -> Result<Option<Text>, AllocError> {
+        match json.kind() {
+            Kind::String(text) => Ok(Some(Text::from_str(alloc, text)?)),
+            Kind::Null | Kind::Bool(_) | Kind::Number(_) | Kind::Array(_) | Kind::Object(_) => {
                 Ok(None)
             }
         }
@@ -96,10 +96,10 @@ impl Spelled for Shared<Text> {
 
     ghost asks = { λ j. text_asks j };
 
-    fn read(alloc: Global, json: &Json) -> Result<Option<Shared<Text>>, AllocError> {
-        match json {
-            Json::String(text) => Ok(Some(shared_text(alloc, text.as_str())?)),
-            Json::Null | Json::Bool(_) | Json::Number(_) | Json::Array(_) | Json::Object(_) => {
+    fn read<J: Json>(alloc: Global, json: J) -> Result<Option<Shared<Text>>, AllocError> {
+        match json.kind() {
+            Kind::String(text) => Ok(Some(shared_text(alloc, text)?)),
+            Kind::Null | Kind::Bool(_) | Kind::Number(_) | Kind::Array(_) | Kind::Object(_) => {
                 Ok(None)
             }
         }
@@ -114,11 +114,11 @@ pub(crate) fn shared_text(alloc: Global, text: &str) -> Result<Shared<Text>, All
 }
 
 /// Whether a JSON value is the number of a layout.
-pub(crate) fn is_layout(json: &Json, layout: u64) -> bool
-    ensures { result ≡ is_some (format_of layout (view json.now)) }
+pub(crate) fn is_layout<J: Json>(json: J, layout: u64) -> bool
+    ensures { result ≡ is_some (format_of layout (J.spells json)) }
 {
-    match json.as_u64() {
-        Some(number) => number == layout,
-        None => false,
+    match json.kind() {
+        Kind::Number(number) => natural(number) == Some(layout),
+        Kind::Null | Kind::Bool(_) | Kind::String(_) | Kind::Array(_) | Kind::Object(_) => false,
     }
 }

@@ -1,31 +1,28 @@
 //! What a save of layout 1 spells.
 
 ghost use Rattle.std.specs.Prelude.{◌≡◌, IfOk, OnErr, true};
-ghost use Rattle.serde_json.specs.View.{members_view};
 ghost use Rattle.ink_model.specs.Save.Asks.{members_ask, threads_ask, turn_asks};
 ghost use Rattle.ink_model.specs.Save.Unspelled.{from_threads, from_turn, unspelled_by};
 
 use crate::choice::SavedChoice;
 use crate::flow::SavedFlow;
-use crate::listed::Listed;
 use crate::members::{alone, next_named, next_spelled};
 use crate::plain::is_layout;
 use crate::spelled::Spelled;
 use crate::thread::{SavedThread, SavedThreads};
 use crate::value::SavedValue;
-use ink_model::{Part, Text};
-use serde_json::{Map, Value as Json};
+use ink_model::{Part, Seq, Text};
+use json_tape::Json;
 use std::alloc::{AllocError, Global};
-use std::collections::btree_map::Iter;
 use std::marker::Model;
 
 /// What all flows share, as it is spelled. A contract sees it.
 #[derive(Drop)]
 pub struct SavedShared {
-    pub globals: Listed<(Text, SavedValue)>,
+    pub globals: Seq<(Text, SavedValue)>,
     pub turn: u64,
-    pub turns: Listed<(Listed<Part>, u64)>,
-    pub visits: Listed<(Listed<Part>, u64)>,
+    pub turns: Seq<(Seq<Part>, u64)>,
+    pub visits: Seq<(Seq<Part>, u64)>,
 }
 
 impl Model for SavedShared {
@@ -56,85 +53,85 @@ impl Model for Saved {
 
 /// The configuration that members spell in layout 1. The one error is a refused request for memory, which is asked for only where
 /// something of them is kept.
-pub(crate) fn read_alone(
+pub(crate) fn read_alone<J: Json>(
     alloc: Global,
-    members: &Map<String, Json>,
+    members: J::Members,
 ) -> Result<Option<Saved>, AllocError>
-    ensures saved { IfOk result (λ saved. saved ≡ unspelled_by (members_view members.now.entries)) }
-    ensures memory { OnErr result (members_ask (members_view members.now.entries) ≡ true) }
+    ensures saved { IfOk result (λ saved. saved ≡ unspelled_by (J.members members)) }
+    ensures memory { OnErr result (members_ask (J.members members) ≡ true) }
 {
-    let mut rest = members.iter();
-    let Some(json) = next_named(&mut rest, "choices") else {
+    let mut rest = members;
+    let Some(json) = next_named::<J>(&mut rest, "choices") else {
         return Ok(None);
     };
-    let Some(choices) = Listed::<SavedChoice>::read(alloc, json)? else {
+    let Some(choices) = Seq::<SavedChoice>::read::<J>(alloc, json)? else {
         return Ok(None);
     };
-    let Some(json) = next_named(&mut rest, "format") else {
+    let Some(json) = next_named::<J>(&mut rest, "format") else {
         return Ok(None);
     };
-    if !is_layout(json, 1) {
+    if !is_layout::<J>(json, 1) {
         return Ok(None);
     }
-    let Some(json) = next_named(&mut rest, "globals") else {
+    let Some(json) = next_named::<J>(&mut rest, "globals") else {
         return Ok(None);
     };
-    let Some(globals) = Listed::<(Text, SavedValue)>::read(alloc, json)? else {
+    let Some(globals) = Seq::<(Text, SavedValue)>::read::<J>(alloc, json)? else {
         return Ok(None);
     };
-    let Some(json) = next_named(&mut rest, "safe") else {
+    let Some(json) = next_named::<J>(&mut rest, "safe") else {
         return Ok(None);
     };
-    let Some(safe) = bool::read(alloc, json)? else {
+    let Some(safe) = bool::read::<J>(alloc, json)? else {
         return Ok(None);
     };
-    let Some(json) = next_named(&mut rest, "stack") else {
+    let Some(json) = next_named::<J>(&mut rest, "stack") else {
         return Ok(None);
     };
-    let Some(stack) = Listed::<SavedValue>::read(alloc, json)? else {
+    let Some(stack) = Seq::<SavedValue>::read::<J>(alloc, json)? else {
         return Ok(None);
     };
-    read_threads(alloc, &mut rest, choices, globals, safe, stack)
+    read_threads::<J>(alloc, &mut rest, choices, globals, safe, stack)
 }
 
 // The same from its threads on.
-fn read_threads(
+fn read_threads<J: Json>(
     alloc: Global,
-    rest: &mut Iter<'_, String, Json>,
-    choices: Listed<SavedChoice>,
-    globals: Listed<(Text, SavedValue)>,
+    rest: &mut J::Members,
+    choices: Seq<SavedChoice>,
+    globals: Seq<(Text, SavedValue)>,
     safe: bool,
-    stack: Listed<SavedValue>,
+    stack: Seq<SavedValue>,
 ) -> Result<Option<Saved>, AllocError>
-    ensures saved { IfOk result (λ saved. saved ≡ from_threads choices globals safe stack (members_view rest.old)) }
-    ensures memory { OnErr result (threads_ask (members_view rest.old) ≡ true) }
+    ensures saved { IfOk result (λ saved. saved ≡ from_threads choices globals safe stack (J.members rest.old)) }
+    ensures memory { OnErr result (threads_ask (J.members rest.old) ≡ true) }
 {
-    let Some(threads) = next_spelled::<Listed<SavedThread>>(alloc, rest, "threads")? else {
+    let Some(threads) = next_spelled::<J, Seq<SavedThread>>(alloc, rest, "threads")? else {
         return Ok(None);
     };
-    read_turn(alloc, rest, choices, globals, safe, stack, threads)
+    read_turn::<J>(alloc, rest, choices, globals, safe, stack, threads)
 }
 
 // The same from its turn number on.
-fn read_turn(
+fn read_turn<J: Json>(
     alloc: Global,
-    rest: &mut Iter<'_, String, Json>,
-    choices: Listed<SavedChoice>,
-    globals: Listed<(Text, SavedValue)>,
+    rest: &mut J::Members,
+    choices: Seq<SavedChoice>,
+    globals: Seq<(Text, SavedValue)>,
     safe: bool,
-    stack: Listed<SavedValue>,
-    threads: Listed<SavedThread>,
+    stack: Seq<SavedValue>,
+    threads: Seq<SavedThread>,
 ) -> Result<Option<Saved>, AllocError>
-    ensures saved { IfOk result (λ saved. saved ≡ from_turn choices globals safe stack threads (members_view rest.old)) }
-    ensures memory { OnErr result (turn_asks (members_view rest.old) ≡ true) }
+    ensures saved { IfOk result (λ saved. saved ≡ from_turn choices globals safe stack threads (J.members rest.old)) }
+    ensures memory { OnErr result (turn_asks (J.members rest.old) ≡ true) }
 {
-    let Some(turn) = next_spelled::<u64>(alloc, rest, "turn")? else {
+    let Some(turn) = next_spelled::<J, u64>(alloc, rest, "turn")? else {
         return Ok(None);
     };
-    let Some(turns) = next_spelled::<Listed<(Listed<Part>, u64)>>(alloc, rest, "turns")? else {
+    let Some(turns) = next_spelled::<J, Seq<(Seq<Part>, u64)>>(alloc, rest, "turns")? else {
         return Ok(None);
     };
-    let Some(visits) = next_spelled::<Listed<(Listed<Part>, u64)>>(alloc, rest, "visits")? else {
+    let Some(visits) = next_spelled::<J, Seq<(Seq<Part>, u64)>>(alloc, rest, "visits")? else {
         return Ok(None);
     };
     let Some(threads) = SavedThreads::of(threads) else {
@@ -152,5 +149,5 @@ fn read_turn(
         turns,
         visits,
     };
-    Ok(alone(rest, Saved { flow, shared }))
+    Ok(alone::<J, _>(rest, Saved { flow, shared }))
 }

@@ -1,7 +1,6 @@
 //! Temporaries of frames.
 
 ghost use Rattle.std.specs.Prelude.{◌≡◌, ◌++◌, ◌∷◌, [], IfOk, OnErr, OnOk, true};
-ghost use Rattle.serde_json.specs.View.{members_view};
 ghost use Rattle.ink_model.specs.Save.Asks.{rows_ask, temps_ask};
 ghost use Rattle.ink_model.specs.Save.Unspelled.{rows_of, temps_of};
 
@@ -9,7 +8,7 @@ use crate::plain::shared_text;
 use crate::spelled::Spelled;
 use crate::value::SavedValue;
 use ink_model::{Shared, Text};
-use serde_json::{Map, Value as Json};
+use json_tape::{Json, Kind};
 use std::alloc::{AllocError, Global};
 use std::marker::Model;
 
@@ -41,10 +40,10 @@ impl Spelled for SavedTemps {
 
     ghost asks = { λ j. temps_ask j };
 
-    fn read(alloc: Global, json: &Json) -> Result<Option<SavedTemps>, AllocError> {
-        match json {
-            Json::Object(members) => read_rows(alloc, members),
-            Json::Null | Json::Bool(_) | Json::Number(_) | Json::String(_) | Json::Array(_) => {
+    fn read<J: Json>(alloc: Global, json: J) -> Result<Option<SavedTemps>, AllocError> {
+        match json.kind() {
+            Kind::Object(members) => read_rows::<J>(alloc, members),
+            Kind::Null | Kind::Bool(_) | Kind::Number(_) | Kind::String(_) | Kind::Array(_) => {
                 Ok(None)
             }
         }
@@ -66,15 +65,15 @@ fn add_row(
 }
 
 // The rows that members spell. The one error is a refused request for memory.
-fn read_rows(alloc: Global, members: &Map<String, Json>) -> Result<Option<SavedTemps>, AllocError>
-    ensures found { IfOk result (λ temps. temps ≡ rows_of (members_view members.now.entries)) }
-    ensures memory { OnErr result (rows_ask (members_view members.now.entries) ≡ true) }
+fn read_rows<J: Json>(alloc: Global, members: J::Members) -> Result<Option<SavedTemps>, AllocError>
+    ensures found { IfOk result (λ temps. temps ≡ rows_of (J.members members)) }
+    ensures memory { OnErr result (rows_ask (J.members members) ≡ true) }
 {
     let mut rows = Vec::new(alloc);
-    let mut rest = members.iter();
-    while let Some((name, json)) = rest.next() {
-        match SavedValue::read(alloc, json)? {
-            Some(value) => add_row(alloc, &mut rows, name.as_str(), value)?,
+    let mut rest = members;
+    while let Some((name, json)) = J::next_member(&mut rest) {
+        match SavedValue::read::<J>(alloc, json)? {
+            Some(value) => add_row(alloc, &mut rows, J::name_text(&name), value)?,
             None => return Ok(None),
         }
     }

@@ -1,16 +1,14 @@
 //! Threads.
 
 ghost use Rattle.std.specs.Prelude.{◌≡◌, IfOk, OnErr, reverse, true};
-ghost use Rattle.serde_json.specs.View.{members_view};
 ghost use Rattle.ink_model.specs.Save.Asks.{thread_asks, thread_asks_by};
 ghost use Rattle.ink_model.specs.Save.Unspelled.{thread_by, thread_in, thread_with, threads_with};
 
 use crate::frame::SavedFrame;
-use crate::listed::Listed;
 use crate::members::{alone, next_spelled};
 use crate::spelled::Spelled;
-use ink_model::Part;
-use serde_json::{Map, Value as Json};
+use ink_model::{Part, Seq};
+use json_tape::{Json, Kind};
 use std::alloc::{AllocError, Global};
 use std::marker::Model;
 
@@ -19,7 +17,7 @@ use std::marker::Model;
 pub struct SavedThread {
     pub frame: SavedFrame,
     pub below: Vec<SavedFrame>,
-    pub previous: Option<Listed<Part>>,
+    pub previous: Option<Seq<Part>>,
 }
 
 impl Model for SavedThread {
@@ -34,7 +32,7 @@ impl Model for SavedThread {
 
 impl SavedThread {
     /// The thread of these frames, the bottom one first; none where there are no frames.
-    fn of(frames: Listed<SavedFrame>, previous: Option<Listed<Part>>) -> Option<SavedThread>
+    fn of(frames: Seq<SavedFrame>, previous: Option<Seq<Part>>) -> Option<SavedThread>
         ensures { result ≡ thread_with (reverse frames) previous }
     {
         let mut below = frames.into_vec();
@@ -52,10 +50,10 @@ impl Spelled for SavedThread {
 
     ghost asks = { λ j. thread_asks j };
 
-    fn read(alloc: Global, json: &Json) -> Result<Option<SavedThread>, AllocError> {
-        match json {
-            Json::Object(members) => read_members(alloc, members),
-            Json::Null | Json::Bool(_) | Json::Number(_) | Json::String(_) | Json::Array(_) => {
+    fn read<J: Json>(alloc: Global, json: J) -> Result<Option<SavedThread>, AllocError> {
+        match json.kind() {
+            Kind::Object(members) => read_members::<J>(alloc, members),
+            Kind::Null | Kind::Bool(_) | Kind::Number(_) | Kind::String(_) | Kind::Array(_) => {
                 Ok(None)
             }
         }
@@ -63,24 +61,24 @@ impl Spelled for SavedThread {
 }
 
 // The thread that members spell. The one error is a refused request for memory.
-fn read_members(
+fn read_members<J: Json>(
     alloc: Global,
-    members: &Map<String, Json>,
+    members: J::Members,
 ) -> Result<Option<SavedThread>, AllocError>
-    ensures found { IfOk result (λ thread. thread ≡ thread_by (members_view members.now.entries)) }
-    ensures memory { OnErr result (thread_asks_by (members_view members.now.entries) ≡ true) }
+    ensures found { IfOk result (λ thread. thread ≡ thread_by (J.members members)) }
+    ensures memory { OnErr result (thread_asks_by (J.members members) ≡ true) }
 {
-    let mut rest = members.iter();
-    let Some(frames) = next_spelled::<Listed<SavedFrame>>(alloc, &mut rest, "frames")? else {
+    let mut rest = members;
+    let Some(frames) = next_spelled::<J, Seq<SavedFrame>>(alloc, &mut rest, "frames")? else {
         return Ok(None);
     };
-    let Some(previous) = next_spelled::<Option<Listed<Part>>>(alloc, &mut rest, "previous")? else {
+    let Some(previous) = next_spelled::<J, Option<Seq<Part>>>(alloc, &mut rest, "previous")? else {
         return Ok(None);
     };
     let Some(thread) = SavedThread::of(frames, previous) else {
         return Ok(None);
     };
-    Ok(alone(&mut rest, thread))
+    Ok(alone::<J, _>(&mut rest, thread))
 }
 
 /// Threads as they are spelled: the top one, and those below it with the bottom one first. A contract sees the threads.
@@ -102,7 +100,7 @@ impl Model for SavedThreads {
 
 impl SavedThreads {
     /// These threads, the bottom one first; none where there are none.
-    pub(crate) fn of(threads: Listed<SavedThread>) -> Option<SavedThreads>
+    pub(crate) fn of(threads: Seq<SavedThread>) -> Option<SavedThreads>
         ensures { result ≡ threads_with (reverse threads) }
     {
         let mut below = threads.into_vec();

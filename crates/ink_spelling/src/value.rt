@@ -1,7 +1,7 @@
 //! Values.
 
+ghost use Rattle.json_tape.specs.Number.{num};
 ghost use Rattle.std.specs.Prelude.{◌≡◌, IfOk, IfSome, OnErr, is_some, option_map, true};
-ghost use Rattle.serde_json.specs.View.{members_view, number_view, view};
 ghost use Rattle.ink_model.specs.Path as rules;
 ghost use Rattle.ink_model.specs.Save.Asks.{object_asks, path_asks, pointer_asks, tag_asks, target_asks, value_asks};
 ghost use Rattle.ink_model.specs.Save.Unspelled.{number_integer, path_in, pointer_in, tag_in, target_in, value_of};
@@ -13,7 +13,7 @@ use crate::plain::{shared_text, small_integer};
 use crate::spelled::Spelled;
 use ink_model::{Cause, Path, Shared, Text, Value};
 use ink_path::{print_path, read_path};
-use serde_json::{Map, Number, Value as Json};
+use json_tape::{Json, Kind, Number};
 use std::alloc::{AllocError, Global};
 use std::marker::Model;
 
@@ -57,8 +57,8 @@ impl Spelled for SavedValue {
 
     ghost asks = { λ j. value_asks j };
 
-    fn read(alloc: Global, json: &Json) -> Result<Option<SavedValue>, AllocError> {
-        match read_value(alloc, json)? {
+    fn read<J: Json>(alloc: Global, json: J) -> Result<Option<SavedValue>, AllocError> {
+        match read_value::<J>(alloc, json)? {
             Some(value) => Ok(Some(SavedValue { value })),
             None => Ok(None),
         }
@@ -66,24 +66,24 @@ impl Spelled for SavedValue {
 }
 
 // The value that a JSON value spells. The one error is a refused request for memory.
-fn read_value(alloc: Global, json: &Json) -> Result<Option<Value>, AllocError>
-    ensures value { IfOk result (λ value. value ≡ value_of (view json.now)) }
+fn read_value<J: Json>(alloc: Global, json: J) -> Result<Option<Value>, AllocError>
+    ensures value { IfOk result (λ value. value ≡ value_of (J.spells json)) }
     ensures read { IfOk result (λ value. IfSome value IsRead) }
-    ensures memory { OnErr result (value_asks (view json.now) ≡ true) }
+    ensures memory { OnErr result (value_asks (J.spells json) ≡ true) }
 {
-    match json {
-        Json::Null => Ok(Some(Value::Void)),
-        Json::Bool(truth) => Ok(Some(Value::Bool(*truth))),
-        Json::Number(number) => Ok(whole(number)),
-        Json::String(text) => Ok(Some(Value::Text(shared_text(alloc, text.as_str())?))),
-        Json::Array(_) => Ok(None),
-        Json::Object(members) => read_members(alloc, members),
+    match json.kind() {
+        Kind::Null => Ok(Some(Value::Void)),
+        Kind::Bool(truth) => Ok(Some(Value::Bool(truth))),
+        Kind::Number(number) => Ok(whole(number)),
+        Kind::String(text) => Ok(Some(Value::Text(shared_text(alloc, text)?))),
+        Kind::Array(_) => Ok(None),
+        Kind::Object(members) => read_members::<J>(alloc, members),
     }
 }
 
 // The integer that a number is.
-fn whole(number: &Number) -> Option<Value>
-    ensures value { result ≡ option_map (λ z. Int z) (number_integer (number_view number.now)) }
+fn whole(number: Number) -> Option<Value>
+    ensures value { result ≡ option_map (λ z. Int z) (number_integer (num number)) }
     ensures read { IfSome result IsRead }
 {
     match small_integer(number) {
@@ -93,71 +93,71 @@ fn whole(number: &Number) -> Option<Value>
 }
 
 // The value that an object spells: a target, a pointer or a tag. The one error is a refused request for memory.
-fn read_members(alloc: Global, members: &Map<String, Json>) -> Result<Option<Value>, AllocError>
-    ensures value { IfOk result (λ value. value ≡ value_by (members_view members.now.entries)) }
+fn read_members<J: Json>(alloc: Global, members: J::Members) -> Result<Option<Value>, AllocError>
+    ensures value { IfOk result (λ value. value ≡ value_by (J.members members)) }
     ensures read { IfOk result (λ value. IfSome value IsRead) }
-    ensures memory { OnErr result (object_asks (members_view members.now.entries) ≡ true) }
+    ensures memory { OnErr result (object_asks (J.members members) ≡ true) }
 {
-    if let Some(target) = read_target(alloc, members)? {
+    if let Some(target) = read_target::<J>(alloc, J::again(&members))? {
         return Ok(Some(target));
     }
-    if let Some(pointer) = read_pointer(alloc, members)? {
+    if let Some(pointer) = read_pointer::<J>(alloc, J::again(&members))? {
         return Ok(Some(pointer));
     }
-    read_tag(alloc, members)
+    read_tag::<J>(alloc, members)
 }
 
-fn read_target(alloc: Global, members: &Map<String, Json>) -> Result<Option<Value>, AllocError>
-    ensures value { IfOk result (λ target. target ≡ target_in (members_view members.now.entries)) }
+fn read_target<J: Json>(alloc: Global, members: J::Members) -> Result<Option<Value>, AllocError>
+    ensures value { IfOk result (λ target. target ≡ target_in (J.members members)) }
     ensures read { IfOk result (λ target. IfSome target IsRead) }
-    ensures memory { OnErr result (target_asks (members_view members.now.entries) ≡ true) }
+    ensures memory { OnErr result (target_asks (J.members members) ≡ true) }
 {
-    let mut rest = members.iter();
-    let Some(json) = next_named(&mut rest, "->") else {
+    let mut rest = members;
+    let Some(json) = next_named::<J>(&mut rest, "->") else {
         return Ok(None);
     };
-    let Some(path) = read_spelled(alloc, json)? else {
+    let Some(path) = read_spelled::<J>(alloc, json)? else {
         return Ok(None);
     };
-    Ok(alone(&mut rest, Value::Target(path)))
+    Ok(alone::<J, _>(&mut rest, Value::Target(path)))
 }
 
-fn read_pointer(alloc: Global, members: &Map<String, Json>) -> Result<Option<Value>, AllocError>
-    ensures value { IfOk result (λ pointer. pointer ≡ pointer_in (members_view members.now.entries)) }
+fn read_pointer<J: Json>(alloc: Global, members: J::Members) -> Result<Option<Value>, AllocError>
+    ensures value { IfOk result (λ pointer. pointer ≡ pointer_in (J.members members)) }
     ensures read { IfOk result (λ pointer. IfSome pointer IsRead) }
-    ensures memory { OnErr result (pointer_asks (members_view members.now.entries) ≡ true) }
+    ensures memory { OnErr result (pointer_asks (J.members members) ≡ true) }
 {
-    let mut rest = members.iter();
-    let Some(frame) = next_spelled::<i32>(alloc, &mut rest, "ci")? else {
+    let mut rest = members;
+    let Some(frame) = next_spelled::<J, i32>(alloc, &mut rest, "ci")? else {
         return Ok(None);
     };
-    let Some(name) = next_spelled::<Shared<Text>>(alloc, &mut rest, "var")? else {
+    let Some(name) = next_spelled::<J, Shared<Text>>(alloc, &mut rest, "var")? else {
         return Ok(None);
     };
-    Ok(alone(&mut rest, Value::Pointer(frame, name)))
+    Ok(alone::<J, _>(&mut rest, Value::Pointer(frame, name)))
 }
 
-fn read_tag(alloc: Global, members: &Map<String, Json>) -> Result<Option<Value>, AllocError>
-    ensures value { IfOk result (λ tag. tag ≡ tag_in (members_view members.now.entries)) }
+fn read_tag<J: Json>(alloc: Global, members: J::Members) -> Result<Option<Value>, AllocError>
+    ensures value { IfOk result (λ tag. tag ≡ tag_in (J.members members)) }
     ensures read { IfOk result (λ tag. IfSome tag IsRead) }
-    ensures memory { OnErr result (tag_asks (members_view members.now.entries) ≡ true) }
+    ensures memory { OnErr result (tag_asks (J.members members) ≡ true) }
 {
-    let mut rest = members.iter();
-    let Some(text) = next_spelled::<Shared<Text>>(alloc, &mut rest, "tag")? else {
+    let mut rest = members;
+    let Some(text) = next_spelled::<J, Shared<Text>>(alloc, &mut rest, "tag")? else {
         return Ok(None);
     };
-    Ok(alone(&mut rest, Value::Tag(text)))
+    Ok(alone::<J, _>(&mut rest, Value::Tag(text)))
 }
 
 // The path that a JSON value spells as paths are printed. The one error is a refused request for memory.
-fn read_spelled(alloc: Global, json: &Json) -> Result<Option<Shared<Path>>, AllocError>
-    ensures path { IfOk result (λ path. path ≡ path_in (view json.now)) }
+fn read_spelled<J: Json>(alloc: Global, json: J) -> Result<Option<Shared<Path>>, AllocError>
+    ensures path { IfOk result (λ path. path ≡ path_in (J.spells json)) }
     ensures read { IfOk result (λ path. IfSome path ReadsSame) }
-    ensures memory { OnErr result (path_asks (view json.now) ≡ true) }
+    ensures memory { OnErr result (path_asks (J.spells json) ≡ true) }
 {
-    match json {
-        Json::String(text) => shared_path(alloc, text.as_str()),
-        Json::Null | Json::Bool(_) | Json::Number(_) | Json::Array(_) | Json::Object(_) => {
+    match json.kind() {
+        Kind::String(text) => shared_path(alloc, text),
+        Kind::Null | Kind::Bool(_) | Kind::Number(_) | Kind::Array(_) | Kind::Object(_) => {
             Ok(None)
         }
     }

@@ -2,15 +2,16 @@ use Rattle.std.proofs.Common.{◌≡◌, ◌+◌, ◌++◌, true, false, cond, N
 use Rattle.std.proofs.lemmas.List.{append-nil}
 use Rattle.std.proofs.lemmas.Result.{err_from_is_err_and}
 use Rattle.serde_json.specs.Data.{array, item}
+use Rattle.json_tape.specs.Size.{items_size, members_size}
+use Rattle.json_tape.specs.Value.{json_data, items_left, Entry, members_data}
+use Rattle.json_tape.proofs.Counts.{size_positive}
 use Rattle.ink_model.specs.Grammar.{with_name, name_of, name_in, flags_of, own_of, own_after, content, content_of, tree_of, faults_inside, faults_by, keyed_in, keyed_last, keyed_by, first}
 use Rattle.ink_model.specs.Tree.{container, count, key, tree}
 use Rattle.ink_model.specs.View.{count_keys}
 use Rattle.ink_model.specs.declared.content.Leaf.{Leaf}
 use Rattle.ink_json.specs.Listing.{Lists, nodes_from, nodes_by_key, nodes_inside}
 use Rattle.ink_json.specs.Reading.{is_whole}
-use Rattle.ink_json.specs.Size.{items_size, members_size}
-use Rattle.ink_json.specs.Value.{json_data, items_left, Entry, members_data}
-use Rattle.ink_json.proofs.Containers.{first_ok, size_positive, keyed_takes, container_takes, container_stops, container_read, keyed_is, keyed_members, last_within, element_goes, element_stops, own_key_faults, key_stops, key_goes}
+use Rattle.ink_json.proofs.Containers.{first_ok, keyed_takes, container_takes, container_stops, container_read, keyed_is, keyed_members, last_within, element_goes, element_stops, own_key_faults, key_stops, key_goes}
 use Rattle.ink_json.proofs.Growing.{container_listed, grown, inside_listed, keys_within, last_grown, next_key, opened_listed, own_key}
 use Rattle.ink_json.proofs.Listing.{by_key_more, from_more}
 use Rattle.ink_json.proofs.container.+content.Goals as goal

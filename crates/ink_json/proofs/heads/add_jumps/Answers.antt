@@ -1,5 +1,5 @@
 use Rattle.std.proofs.Common.{subst}
-use Rattle.ink_json.specs.Value.{json_data}
+use Rattle.json_tape.specs.Value.{json_data}
 use Rattle.ink_model.specs.Leaves.{jump_readings}
 use Rattle.ink_json.specs.Heads.{Counts}
 use Rattle.ink_json.proofs.Adding.{one_by_one}

@@ -1,5 +1,5 @@
 use Rattle.std.proofs.Common.{[], refl, append_assoc}
-use Rattle.ink_json.specs.Value.{json_data}
+use Rattle.json_tape.specs.Value.{json_data}
 use Rattle.ink_model.specs.Leaves.{jump_readings, value_readings, store_readings}
 use Rattle.ink_json.proofs.heads.heads.Goals as goal
 

@@ -1,5 +1,5 @@
 use Rattle.std.proofs.Common.{codes, arith}
-use Rattle.ink_json.specs.Value.{json_data}
+use Rattle.json_tape.specs.Value.{json_data}
 use Rattle.ink_json.proofs.Bytes.{get_size}
 use Rattle.ink_json.proofs.reading.read_value.Goals as goal
 

@@ -4,9 +4,9 @@ use Rattle.ink_model.specs.Answer.{Refuses, reply_of, reply_of_events, reply_of_
 use Rattle.ink_model.specs.declared.fault.Refusal.TheVariants as refusal
 use Rattle.ink_protocol.specs.Replies.{reply_of_text}
 use Rattle.ink_protocol.specs.declared.command.LineCommand.TheVariants as line
-use Rattle.ink_player.specs.Words.{desk_of, scene_of}
+use Rattle.ink_player.specs.Words.{desk_of, scene_of, state_of}
 use Rattle.ink_player.proofs.Dealing.{same_refusals, untouched}
-use Rattle.ink_player.proofs.Sessions.{came}
+use Rattle.ink_player.proofs.Sessions.{came, text-came}
 use Rattle.ink_player.proofs.session.perform.Goals as goal
 
 pub returns-in-Some-Continue-clause-does : goal.returns-in-Some-Continue-clause-does
@@ -52,11 +52,11 @@ returns-in-Some-Set-clause-does g c =
 pub returns-in-Some-Load-clause-does : goal.returns-in-Some-Load-clause-does
 returns-in-Some-Load-clause-does g c =
     let old = c.args.player.now in
-    let new = c.load.new.player in
-    let reply = reply_of_events c.load.result in
-    let does = c.load.ensures.does in
-    let all = came g.F.TurnFn.log g.F.TurnFn.refusals g.O.Watcher.state _ _ does.0 (scene_of old) reply (scene_of new) c.args.command (Some (line.Load c.in-Some-Load.saved)) (c.in-Some-Load.is ∙ ap (λ k. Some k) c.in-Some-Load.field-0-is)
-    (inl does.1, (does.2, same_refusals g.F.TurnFn.refusals (desk_of old) (desk_of new) reply c.load.ensures.functions)) in
+    let new = c.load_text.new.self in
+    let reply = reply_of_events c.load_text.result in
+    let does = c.load_text.ensures.does in
+    let all = came g.F.TurnFn.log g.F.TurnFn.refusals g.O.Watcher.state _ _ does.0 (scene_of old) reply (scene_of new) c.args.command (Some (line.Load c.in-Some-Load.json)) (c.in-Some-Load.is ∙ ap (λ k. Some k) c.in-Some-Load.field-0-is)
+    (text-came c.in-Some-Load.json.now _ _ does.0 (state_of old) reply (state_of new) does.1, (does.2, same_refusals g.F.TurnFn.refusals (desk_of old) (desk_of new) reply c.load_text.ensures.functions)) in
     (does.0, null, tt, all.0, all.1)
 
 pub returns-in-Some-Get-clause-does : goal.returns-in-Some-Get-clause-does

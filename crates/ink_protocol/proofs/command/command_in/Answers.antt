@@ -1,6 +1,6 @@
 use Rattle.std.proofs.Common.{◌≡◌, ◌∙◌, IfOk, OnErr, option_map, subst, sym, true}
 use Rattle.ink_protocol.specs.Commands.{command_by}
-use Rattle.ink_protocol.proofs.Commands.{choose_word, drop_word, flow_word, get_word, jump_word, load_word, load_word_asks, set_word, set_word_asks, visits_word}
+use Rattle.ink_protocol.proofs.Commands.{choose_word, drop_word, flow_word, get_word, jump_word, load_word, set_word, set_word_asks, visits_word}
 use Rattle.ink_protocol.proofs.command.command_in.Goals as goal
 
 pub returns-in-Some-clause-command : goal.returns-in-Some-clause-command
@@ -24,13 +24,7 @@ pub returns-in-Some-after-4-clause-command : goal.returns-in-Some-after-4-clause
 returns-in-Some-after-4-clause-command c = c.jump_command.ensures ∙ sym (jump_word c.args.text.now c.in-Some-after-4.path.now (sym c.in-Some-after-4.ensures))
 
 pub returns-in-Some-after-5-clause-command : goal.returns-in-Some-after-5-clause-command
-returns-in-Some-after-5-clause-command c =
-    subst (λ k. IfOk c.load_command.result (λ command. option_map command_by command ≡ k)) (sym (load_word c.args.text.now c.in-Some-after-5.json.now (sym c.in-Some-after-5.ensures)))
-    c.load_command.ensures.command
-
-pub returns-in-Some-after-5-clause-memory : goal.returns-in-Some-after-5-clause-memory
-returns-in-Some-after-5-clause-memory c =
-    subst (λ b. OnErr c.load_command.result (b ≡ true)) (sym (load_word_asks c.args.text.now c.in-Some-after-5.json.now (sym c.in-Some-after-5.ensures))) c.load_command.ensures.memory
+returns-in-Some-after-5-clause-command c = c.load_command.ensures ∙ sym (load_word c.args.text.now c.in-Some-after-5.json.now (sym c.in-Some-after-5.ensures))
 
 pub returns-in-Some-after-6-clause-command : goal.returns-in-Some-after-6-clause-command
 returns-in-Some-after-6-clause-command c = c.flow_command.ensures ∙ sym (flow_word c.args.text.now c.in-Some-after-6.name.now (sym c.in-Some-after-6.ensures))

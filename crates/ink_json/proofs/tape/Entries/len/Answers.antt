@@ -1,6 +1,0 @@
-use Rattle.std.proofs.Common.{length, ap, arith}
-use Rattle.ink_json.proofs.Taped.{many_nodes}
-use Rattle.ink_json.proofs.tape.Entries.len.Goals as goal
-
-pub returns : goal.returns
-returns c = omega (arith, many_nodes c.self.inside.texts.items _ c.self.inside.tags.items c.self.inside.numbers.items c.self.invariant.fit, ap length c.self.view_is, c.len.ensures, c.self.inside.tags.ok.0)

@@ -1,6 +1,0 @@
-use Rattle.std.proofs.Common.{◌∙◌}
-use Rattle.ink_json.proofs.Shapes.{object_value}
-use Rattle.ink_json.proofs.value.Value.is_object.Goals as goal
-
-pub returns : goal.returns
-returns c = c.is_some.ensures ∙ object_value c.args.self.now.element c.args.self.now.readable c.members.result c.members.ensures

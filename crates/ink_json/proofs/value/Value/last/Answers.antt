@@ -1,6 +1,0 @@
-use Rattle.ink_json.specs.Value.{json_data, items_left}
-use Rattle.ink_json.proofs.Lasts.{last_own_of}
-use Rattle.ink_json.proofs.value.Value.last.Goals as goal
-
-pub loop-item-init : goal.loop-item-init
-loop-item-init c = last_own_of (json_data c.args.self.now) (items_left c.in_ok-items.items) c.in_ok-items.ensures

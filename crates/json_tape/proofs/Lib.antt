@@ -1,0 +1,12 @@
+pub mod Size
+pub mod Conditions
+pub mod Spelled
+pub mod Shapes
+pub mod Counts
+pub mod Digits
+pub mod Taped
+pub mod Moves
+pub mod Tokens
+pub mod Elements
+pub mod Rise
+pub mod Left

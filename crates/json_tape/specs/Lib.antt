@@ -1,0 +1,9 @@
+pub mod Size
+pub mod Marks
+pub mod Spelled
+pub mod Number
+pub mod Value
+pub mod Tape
+pub mod Rise
+pub mod Shape
+pub mod Text

@@ -1,0 +1,56 @@
+//! Which names the members of an object may have.
+
+ghost use Rattle.std.specs.Prelude.{◌≡◌, ◌<◌, length, get_or, set};
+ghost use Rattle.std.specs.Bool.{OnFalse};
+ghost use Rattle.json_tape.specs.Marks.{slot};
+
+/// How many slots there are.
+const SLOTS: usize = 32;
+
+/// By a few bytes of a name, whether a member has such a name. What an object is read for differs there, so that few names that it
+/// has not are looked for.
+#[derive(Clone, Copy)]
+pub struct Marks {
+    slots: [u8; SLOTS],
+}
+
+impl Marks {
+    /// No name.
+    #[inline(always)]
+    pub(crate) fn none() -> Marks {
+        Marks { slots: [0; SLOTS] }
+    }
+
+    /// This name too.
+    #[inline(always)]
+    pub(crate) fn mark(&mut self, name: &str)
+        ensures marked { self.new.slots ≡ set self.old.slots (slot name.now) 1 }
+        ensures within { slot name.now < length self.old.slots }
+    {
+        self.slots[slot(name)] = 1;
+    }
+
+    /// Whether a member may have this name.
+    #[inline(always)]
+    pub fn may_have(&self, name: &str) -> bool
+        ensures { OnFalse result (get_or self.now.slots (slot name.now) 0 ≡ 0) }
+    {
+        self.slots[slot(name)] != 0
+    }
+}
+
+// The slot of a name.
+#[inline(always)]
+fn slot(name: &str) -> usize
+    ensures slot { result ≡ slot name.now }
+    ensures within { result < 32 }
+{
+    let bytes = name.as_bytes();
+    let len = bytes.len();
+    if len == 0 {
+        return 0;
+    }
+    let first = bytes[0] as usize;
+    let last = bytes[len - 1] as usize;
+    (len % SLOTS + 10 * first + 3 * last) % SLOTS
+}

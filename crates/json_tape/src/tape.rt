@@ -1,0 +1,351 @@
+//! A whole text of JSON as one flat list, in few bytes for each token.
+
+ghost use Rattle.std.specs.Prelude.{◌≡◌, ◌<◌, ◌^◌, ◌+◌, ◌++◌, ◌∷◌, [], true, false, ℕ, List, length, drop, get_or, slice_set, Some, None, Err, IfOk, OnOk, IsSome, MatchOption};
+ghost use Rattle.json.specs.Token.{Token as SpecToken, begin_array, begin_object};
+ghost use Rattle.json.specs.Lex.{tokens};
+ghost use Rattle.json.specs.Json.{document, skip_value};
+ghost use Rattle.json.specs.Reads.{token_of, opens, skip_items, skip_members};
+ghost use Rattle.json.specs.Tape.{node_token, LinkAt, Grown};
+ghost use Rattle.json.specs.Find.{HasValue};
+ghost use Rattle.json.specs.declared.tape.Node.TheVariants.{Null};
+ghost use Rattle.json_tape.specs.Tape.{node_of, has_text, text_node, IsOpening, leading_to, Moves};
+
+use json::{Invalid, MAX_DEPTH, Node, Reader, Scratch, Token};
+use std::alloc::{AllocError, Global};
+use std::marker::Model;
+
+/// What stands at a place of a tape: a bracket, a text of some kind, or one of the three words.
+#[derive(Clone, Copy, Drop)]
+enum Tag {
+    Object,
+    EndObject,
+    Array,
+    EndArray,
+    Key,
+    String,
+    Number,
+    True,
+    False,
+    Null,
+}
+
+/// The nodes of a tape, five bytes for each, and the texts that they name. A contract sees the nodes.
+#[derive(Drop)]
+struct Entries<'a> {
+    tags: Vec<Tag>,
+    /// Of an opening bracket the place behind its closing one, and of a key, a string or a number which of the texts it is.
+    numbers: Vec<u32>,
+    texts: Vec<&'a str>,
+}
+
+impl<'a> Model for Entries<'a> {
+    ghost use Rattle.std.specs.Prelude.{List};
+    ghost use Rattle.json.specs.declared.tape.Node.{Node};
+    ghost use Rattle.json_tape.specs.Tape.{nodes_of, AreNodes};
+
+    ghost Value = { List Node };
+
+    ghost view = { λ a. nodes_of a.texts.items a.tags.items a.numbers.items };
+
+    ghost invariant = { λ a. AreNodes a.texts.items a.tags.items a.numbers.items };
+}
+
+impl<'a> Entries<'a> {
+    /// None yet. Takes no memory.
+    fn new(alloc: Global) -> Entries<'a>
+        ensures { result ≡ [] }
+    {
+        Entries {
+            tags: Vec::new(alloc),
+            numbers: Vec::new(alloc),
+            texts: Vec::new(alloc),
+        }
+    }
+
+    /// How many there are.
+    fn len(&self) -> usize
+        ensures { result ≡ length self.now }
+    {
+        self.tags.len()
+    }
+
+    /// One node more, which names no text.
+    #[inline(always)]
+    fn push(&mut self, tag: Tag, number: u32) -> Result<(), AllocError>
+        requires { has_text tag ≡ false }
+        ensures { OnOk result (self.new ≡ self.old ++ node_of [] tag number ∷ []) }
+    {
+        self.tags.reserve(1)?;
+        self.numbers.reserve(1)?;
+        self.tags.push_reserved(tag);
+        self.numbers.push_reserved(number);
+        Ok(())
+    }
+
+    /// One node more, of this text.
+    #[inline(always)]
+    fn push_text(&mut self, tag: Tag, text: &'a str) -> Result<(), AllocError>
+        requires kind { has_text tag ≡ true }
+        requires few { length self.old < 2 ^ 32 }
+        ensures { OnOk result (self.new ≡ self.old ++ text_node tag text.entry ∷ []) }
+    {
+        self.tags.reserve(1)?;
+        self.numbers.reserve(1)?;
+        self.texts.reserve(1)?;
+        self.tags.push_reserved(tag);
+        self.numbers.push_reserved(self.texts.len() as u32);
+        self.texts.push_reserved(text);
+        Ok(())
+    }
+
+    /// A closing bracket more. The opening one stands at a place, and now leads behind it.
+    fn close(&mut self, at: usize, end: Tag) -> Result<(), AllocError>
+        requires opening { IsOpening (get_or self.old at Null) }
+        requires kind { has_text end ≡ false }
+        requires few { length self.old + 1 < 2 ^ 32 }
+        ensures { OnOk result (self.new ≡ slice_set (self.old ++ node_of [] end 0 ∷ []) at (leading_to (length self.old + 1) (get_or self.old at Null))) }
+    {
+        self.push(end, 0)?;
+        self.numbers[at] = self.numbers.len() as u32;
+        Ok(())
+    }
+
+    /// The node at a place, put together.
+    #[inline(always)]
+    fn node(&self, at: usize) -> Node<'a>
+        requires { at < length self.now }
+        ensures { result ≡ get_or self.now at Null }
+    {
+        node(&self.texts, self.tags[at], self.numbers[at])
+    }
+}
+
+/// The node of a tag and a number.
+#[inline(always)]
+fn node<'a>(texts: &[&'a str], tag: Tag, number: u32) -> Node<'a>
+    requires { has_text tag ≡ true → number < length texts.now }
+    ensures { result ≡ node_of texts.now tag number }
+{
+    let number = number as usize;
+    match tag {
+        Tag::Object => Node::Object(number),
+        Tag::EndObject => Node::EndObject,
+        Tag::Array => Node::Array(number),
+        Tag::EndArray => Node::EndArray,
+        Tag::Key => Node::Key(texts[number]),
+        Tag::String => Node::String(texts[number]),
+        Tag::Number => Node::Number(texts[number]),
+        Tag::True => Node::Bool(true),
+        Tag::False => Node::Bool(false),
+        Tag::Null => Node::Null,
+    }
+}
+
+/// Why a value is not taken into a tape: it is none, or a request for memory was refused.
+#[derive(Clone, Copy, Drop)]
+enum Stop {
+    Invalid,
+    Memory,
+}
+
+impl From<Invalid> for Stop {
+    ghost use Rattle.std.specs.Prelude.{◌≡◌};
+    ghost use Rattle.json_tape.specs.declared.tape.Stop.TheVariants.{Invalid as invalid};
+
+    ghost from_gives = { λ _ stop. stop ≡ invalid };
+
+    fn from(_invalid: Invalid) -> Stop {
+        Stop::Invalid
+    }
+}
+
+impl From<AllocError> for Stop {
+    ghost use Rattle.std.specs.Prelude.{◌≡◌};
+    ghost use Rattle.json_tape.specs.declared.tape.Stop.TheVariants.{Memory};
+
+    ghost from_gives = { λ _ stop. stop ≡ Memory };
+
+    fn from(_refused: AllocError) -> Stop {
+        Stop::Memory
+    }
+}
+
+/// Takes one value, in which arrays and objects nest so deep at most.
+#[cycle(tape)]
+#[inline(always)]
+fn value<'a>(reader: &mut Reader<'a>, nodes: &mut Entries<'a>, depth: usize) -> Result<(), Stop>
+    requires { length nodes.old + length reader.old < 2 ^ 32 }
+    ensures ok { OnOk result (Moves depth nodes.old reader.old nodes.new reader.new) }
+    ensures invalid { result ≡ Err Stop.Invalid → skip_value depth reader.old ≡ None }
+{
+    let Some(token) = reader.next() else {
+        return Err(Stop::Invalid);
+    };
+    match token {
+        Token::BeginArray => if depth == 0 {
+            Err(Stop::Invalid)
+        } else {
+            items(reader, nodes, depth - 1)
+        },
+        Token::BeginObject => if depth == 0 {
+            Err(Stop::Invalid)
+        } else {
+            members(reader, nodes, depth - 1)
+        },
+        _ => leaf(nodes, token),
+    }
+}
+
+/// Takes a token that is a value by itself.
+#[inline(always)]
+fn leaf<'a>(nodes: &mut Entries<'a>, token: Token<'a>) -> Result<(), Stop>
+    requires { length nodes.old < 2 ^ 32 }
+    ensures ok { OnOk result ((depth : ℕ) (rest : List SpecToken) → Moves depth nodes.old (token_of token.entry ∷ rest) nodes.new rest) }
+    ensures invalid { result ≡ Err Stop.Invalid → (depth : ℕ) (rest : List SpecToken) → opens (token_of token.entry ∷ rest) ≡ false
+        → skip_value depth (token_of token.entry ∷ rest) ≡ None }
+{
+    match token {
+        Token::String(text) => Ok(nodes.push_text(Tag::String, text)?),
+        Token::Number(text) => Ok(nodes.push_text(Tag::Number, text)?),
+        Token::Bool(true) => Ok(nodes.push(Tag::True, 0)?),
+        Token::Bool(false) => Ok(nodes.push(Tag::False, 0)?),
+        Token::Null => Ok(nodes.push(Tag::Null, 0)?),
+        Token::BeginObject
+        | Token::EndObject
+        | Token::BeginArray
+        | Token::EndArray
+        | Token::Key(_)
+        | Token::Bad => Err(Stop::Invalid),
+    }
+}
+
+/// Takes the items of an array, whose opening bracket has been read.
+#[cycle(tape)]
+#[inline(never)]
+fn items<'a>(reader: &mut Reader<'a>, nodes: &mut Entries<'a>, depth: usize) -> Result<(), Stop>
+    requires { length nodes.old + length reader.old + 1 < 2 ^ 32 }
+    ensures ok { OnOk result (Grown nodes.old (begin_array ∷ reader.old) nodes.new reader.new × (skip_items depth reader.old ≡ Some reader.new)) }
+    ensures invalid { result ≡ Err Stop.Invalid → skip_items depth reader.old ≡ None }
+{
+    let at = nodes.len();
+    nodes.push(Tag::Array, 0)?;
+    while !reader.take_end_array() {
+        value(reader, nodes, depth)?;
+    }
+    nodes.close(at, Tag::EndArray)?;
+    Ok(())
+}
+
+/// Takes the members of an object, whose opening bracket has been read.
+#[cycle(tape)]
+#[inline(never)]
+fn members<'a>(reader: &mut Reader<'a>, nodes: &mut Entries<'a>, depth: usize) -> Result<(), Stop>
+    requires { length nodes.old + length reader.old + 1 < 2 ^ 32 }
+    ensures ok { OnOk result (Grown nodes.old (begin_object ∷ reader.old) nodes.new reader.new × (skip_members depth reader.old ≡ Some reader.new)) }
+    ensures invalid { result ≡ Err Stop.Invalid → skip_members depth reader.old ≡ None }
+{
+    let at = nodes.len();
+    nodes.push(Tag::Object, 0)?;
+    while let Some(key) = reader.next_key()? {
+        nodes.push_text(Tag::Key, key)?;
+        value(reader, nodes, depth)?;
+    }
+    nodes.close(at, Tag::EndObject)?;
+    Ok(())
+}
+
+/// A text of JSON, token by token. A contract sees the tokens.
+#[derive(Drop)]
+pub struct Tape<'a> {
+    nodes: Entries<'a>,
+}
+
+impl<'a> Model for Tape<'a> {
+    ghost use Rattle.std.specs.Prelude.{List, map};
+    ghost use Rattle.json.specs.Token.{Token, tokens_code};
+    ghost use Rattle.json.specs.Tape.{node_token, Linked};
+    ghost use Rattle.json.specs.Find.{HasValue};
+
+    ghost Value = { List Token };
+
+    ghost coded = { tokens_code };
+
+    ghost view = { λ a. map node_token a.nodes };
+
+    ghost invariant = { λ a. Linked (map node_token a.nodes) 0 a.nodes × HasValue (map node_token a.nodes) };
+}
+
+/// What a text is, taken into a tape.
+#[derive(Drop)]
+pub enum Parsed<'a> {
+    Tape(Tape<'a>),
+    NotJson,
+    /// No tape is made of 4 GiB or more.
+    TooLong,
+}
+
+impl<'a> Parsed<'a> {
+    ghost use Rattle.json_tape.specs.Text.{IsParsed};
+
+    /// What a text is. The one error is a refused request for memory.
+    pub fn of(
+        alloc: Global,
+        text: &'a str,
+        scratch: &'a mut Scratch,
+    ) -> Result<Parsed<'a>, AllocError>
+        ensures { IfOk result (λ parsed. IsParsed parsed text.now) }
+    {
+        if text.len() > u32::MAX as usize {
+            return Ok(Parsed::TooLong);
+        }
+        match Tape::parse(alloc, text, scratch) {
+            Ok(Some(tape)) => Ok(Parsed::Tape(tape)),
+            Ok(None) => Ok(Parsed::NotJson),
+            Err(refused) => Err(refused),
+        }
+    }
+}
+
+impl<'a> Tape<'a> {
+    /// The tape of a text; none where the text is no JSON. The one error is a refused request for memory.
+    pub fn parse(
+        alloc: Global,
+        text: &'a str,
+        scratch: &'a mut Scratch,
+    ) -> Result<Option<Tape<'a>>, AllocError>
+        requires { length text.now < 2 ^ 32 }
+        ensures { IfOk result (λ found. MatchOption found (document text.now ≡ None)
+            (λ tape. (tape ≡ tokens text.now) × IsSome (document text.now))) }
+    {
+        let mut reader = Reader::new(text, scratch)?;
+        let mut nodes = Entries::new(alloc);
+        match value(&mut reader, &mut nodes, MAX_DEPTH) {
+            Ok(()) => {}
+            Err(Stop::Invalid) => return Ok(None),
+            Err(Stop::Memory) => return Err(AllocError),
+        }
+        if reader.next().is_some() {
+            return Ok(None);
+        }
+        Ok(Some(Tape { nodes }))
+    }
+
+    /// How many tokens there are. They begin with a value.
+    #[inline(always)]
+    pub(crate) fn len(&self) -> usize
+        ensures length { result ≡ length self.now }
+        ensures value { HasValue self.now }
+    {
+        self.nodes.len()
+    }
+
+    /// What stands at a place.
+    #[inline(always)]
+    pub(crate) fn node(&self, at: usize) -> Node<'a>
+        requires { at < length self.now }
+        ensures token { drop at self.now ≡ node_token result ∷ drop (at + 1) self.now }
+        ensures link { LinkAt self.now at result }
+    {
+        self.nodes.node(at)
+    }
+}
