@@ -1,7 +1,7 @@
 -- What a written path is for, and what it comes to.
 use Rattle.std.specs.Prelude.{◌≡◌, ℕ, ◌≤◌, List, ◌∷◌, All, length, map, slice_index_or, Bool, true, false, not, if◌then◌else◌, Option, Some, None, is_some}
 use Rattle.std.specs.Option.{option_map}
-use Rattle.ink_model.specs.Acceptance.{is_counted}
+use Rattle.ink_model.specs.Acceptance.{is_counted, leads}
 use Rattle.ink_model.specs.Flags.{is_once_only}
 use Rattle.ink_model.specs.Path.{landing, read_path}
 use Rattle.ink_model.specs.Tree.{StoryTree, leaf, container}
@@ -37,16 +37,17 @@ written (leaves.Tunnel to conditional) = destination to
 written (leaves.Choice text flags) = Some (text, choice_purpose flags)
 written l = None
 
--- a text that is a path
-abbrev pub is_path : Option (List ℕ × Purpose) → Bool
-is_path None = false
-is_path (Some w) = is_some (read_path w.0)
+-- a value's path that leads somewhere is kept
+abbrev pub is_kept : StoryTree → List Part → Option (List ℕ × Purpose) → Bool
+is_kept s p None = false
+is_kept s p (Some (text, Value)) = is_some (leads s p text)
+is_kept s p (Some (text, u)) = false
 
--- content with a text that is a path
-abbrev pub has_path : Option StoryTree → Bool
-has_path None = false
-has_path (Some (container name flags content named)) = false
-has_path (Some (leaf l)) = is_path (written l)
+-- content at a place, with a path that is kept
+abbrev pub keeps_path : StoryTree → List Part → Option StoryTree → Bool
+keeps_path s p None = false
+keeps_path s p (Some (container name flags content named)) = false
+keeps_path s p (Some (leaf l)) = is_kept s p (written l)
 
 -- ---- a path that leads to a place
 

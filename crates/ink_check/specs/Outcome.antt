@@ -11,7 +11,7 @@ use Rattle.ink_model.specs.declared.fault.ReadRefusal.{ReadRefusal}
 use Rattle.ink_model.specs.declared.place.Path.{Path}
 use Rattle.ink_tree.specs.Nodes.{node_place, place_of}
 use Rattle.ink_tree.specs.declared.spot.NodeId.{NodeId}
-use Rattle.ink_check.specs.Links.{counted_place, has_path, number_of, pushed_of, pushed_path, target_place}
+use Rattle.ink_check.specs.Links.{counted_place, keeps_path, number_of, pushed_of, pushed_path, target_place}
 use Rattle.ink_check.specs.Names.{number_in, variable_of}
 use Rattle.ink_tree.specs.declared.leading.Lead.{Lead}
 use Rattle.ink_check.specs.declared.link.Link.{Link}
@@ -22,11 +22,11 @@ Leads s n text (Ok lead) = (path : Path) × (read_path text ≡ Some path) × (t
 Leads s n text (Err OutOfMemory) = ⊥
 Leads s n text (Err (Refused m)) = (m ≡ n) × (leads s (node_place s n) text ≡ None)
 
--- what the written path of a node's content comes to, or the number of its variable; or it is bad; memory is asked for only where there is a path to be read
+-- what the written path of a node's content comes to, or the number of its variable; or it is bad; memory is asked for only to keep a path that is pushed
 abbrev pub Follows : StoryTree → List (List ℕ) → NodeId → Option StoryTree → Result Link (Failure NodeId) → Type 0
 Follows s names n t (Ok l) = (good_content s (node_place s n) t ≡ true) × (target_place s l ≡ content_target s (node_place s n) t)
     × (counted_place s l ≡ content_counted s (node_place s n) t) × (pushed_of l ≡ pushed_path t) × (number_of l ≡ number_in names (variable_of t))
-Follows s names n t (Err OutOfMemory) = has_path t ≡ true
+Follows s names n t (Err OutOfMemory) = keeps_path s (node_place s n) t ≡ true
 Follows s names n t (Err (Refused m)) = (m ≡ n) × (good_content s (node_place s n) t ≡ false)
 
 -- the first bad path of a story

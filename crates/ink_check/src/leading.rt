@@ -1,6 +1,6 @@
 //! Where a written path leads.
 
-ghost use Rattle.std.specs.Prelude.{◌≡◌, Some, None, IfOk, if◌then◌else◌, option_map};
+ghost use Rattle.std.specs.Prelude.{◌≡◌, Some, None, IfOk, OnErr, if◌then◌else◌, option_map};
 ghost use Rattle.ink_check.specs.Links.{IsCountOf, IsLinkFor};
 ghost use Rattle.ink_check.specs.Outcome.{Leads};
 ghost use Rattle.ink_model.specs.Acceptance.{is_counted};
@@ -26,7 +26,8 @@ pub(crate) fn follow(tree: &Tree, node: NodeId, text: &str) -> Result<Lead, Fail
     }
 }
 
-/// What a path comes to that leads there; none where it is bad for that purpose. The one error is a refused request for memory.
+/// What a path comes to that leads there; none where it is bad for that purpose. The one error is a refused request for memory,
+/// which a value alone makes: its path is kept.
 pub(crate) fn link(
     alloc: Global,
     tree: &Tree,
@@ -34,8 +35,9 @@ pub(crate) fn link(
     lead: Lead,
     purpose: Purpose,
 ) -> Result<Option<Link>, AllocError>
-    ensures { let s = story_tree tree.now in (path : Path) → read_path text.now ≡ Some path → ends_in_index path.parts ≡ lead.by_index
+    ensures link { let s = story_tree tree.now in (path : Path) → read_path text.now ≡ Some path → ends_in_index path.parts ≡ lead.by_index
         → IfOk result (λ link. IsLinkFor s purpose path (place_of s lead.spot) link) }
+    ensures memory { OnErr result (purpose ≡ Purpose.Value) }
 {
     match purpose {
         Purpose::Value => value(alloc, text, lead),

@@ -49,7 +49,8 @@ impl Hints {
     ) -> Result<(), AllocError>
         ensures slots { OnOk result (0 < length self.new) }
         ensures enough { OnOk result (2 * length names.now.items ≤ length self.old → 2 * (length names.now.items + 1) ≤ length self.new) }
-        ensures most { length self.new ≤ max (2 * length self.old) 512 }
+        ensures stays { 2 * (length names.now.items + 1) ≤ length self.old → self.new ≡ self.old }
+        ensures doubles { OnOk result (length self.old < 2 * (length names.now.items + 1) → length self.new ≡ max (2 * length self.old) 512) }
         ensures err { OnErr result (self.new ≡ self.old) }
         ensures right { let all = names_of names.now.items in Differ all → Right others.old all → Right others.new all }
         ensures finds { let all = names_of names.now.items in Differ all → Right others.old all → Finds self.old others.old all → Finds self.new others.new all }

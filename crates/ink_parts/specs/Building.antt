@@ -1,9 +1,12 @@
 -- What is made of what a save spells.
-use Rattle.std.specs.Prelude.{◌≡◌, List, [], ◌∷◌, Bool, true, false, Option, Some, None, is_some}
+use Rattle.std.specs.Prelude.{◌≡◌, ◌≤◌, ◌⊎◌, List, [], ◌∷◌, Bool, true, false, Option, Some, None, is_some, IsTrue}
+use Rattle.ink_model.specs.Bytes.{fits_text}
+use Rattle.ink_model.specs.Configuration.{ChoiceOf}
 use Rattle.ink_model.specs.Frames.{FrameOf, ThreadOf}
 use Rattle.ink_model.specs.Tree.{StoryTree}
+use Rattle.ink_model.specs.declared.limits.TheConstants.{MAX_SECTIONS}
 use Rattle.ink_model.specs.declared.place.Part.{Part}
-use Rattle.ink_model.specs.Save.Sound.{AnyPlace, FrameFits, ThreadFits}
+use Rattle.ink_model.specs.Save.Sound.{AnyPlace, FrameFits, PlaceFits, RowFits, ThreadFits}
 use Rattle.ink_tree.specs.declared.spot.Spot.{Spot}
 
 -- what is made stands for it in the story, and it fits; where nothing is made it does not
@@ -18,6 +21,19 @@ FrameBuilds s f = FrameFits s f × AnyPlace s f.place
 -- a thread whose top frame is at one, or at none
 abbrev pub ThreadBuilds : StoryTree → ThreadOf (List Part) → Type 0
 ThreadBuilds s t = ThreadFits s t × AnyPlace s t.frame.place
+
+-- memory is asked for, for a list: its first element fits, or asks for some
+abbrev pub FirstAsks : {B : Type 0} → (B → Type 0) → (B → Type 0) → List B → Type 0
+FirstAsks fits asks [] = ⊥
+FirstAsks fits asks (b ∷ bs) = fits b ⊎ asks b
+
+-- for a frame: there are few sections, its place is one of the story, or none, and its first temporary fits
+abbrev pub FrameAsks : StoryTree → FrameOf (List Part) → Type 0
+FrameAsks s f = (f.depth ≤ MAX_SECTIONS) × AnyPlace s f.place × FirstAsks (RowFits s) (RowFits s) f.temps
+
+-- and for a choice: its text is within the limit, and its target is a place of the story
+abbrev pub ChoiceAsks : StoryTree → ChoiceOf (List Part) → Type 0
+ChoiceAsks s c = IsTrue (fits_text c.text) × PlaceFits s c.target
 
 -- a thread is at a place
 abbrev pub placed : ThreadOf Spot → Bool

@@ -1,5 +1,5 @@
 -- The flows that a save spells.
-use Rattle.std.specs.Prelude.{ℕ, List, [], ◌∷◌, Bool, false, IsTrue, bytes_eq, Option, Some, None}
+use Rattle.std.specs.Prelude.{ℕ, List, [], ◌∷◌, Bool, false, ◌&&◌, IsTrue, bytes_eq, length, nat_le, Option, Some, None}
 use Rattle.std.specs.List.{AllByRecursion}
 use Rattle.std.specs.Option.{option_map}
 use Rattle.ink_flows.specs.Words.{aside_of, flow_of, rows_of}
@@ -9,6 +9,7 @@ use Rattle.ink_model.specs.Flows.{Aside, AsideOf, default_flow, is_flow_name}
 use Rattle.ink_model.specs.Named.{Rows, once}
 use Rattle.ink_model.specs.Save.Sound.{AsideFits, FlowSound}
 use Rattle.ink_model.specs.Tree.{StoryTree}
+use Rattle.ink_model.specs.declared.limits.TheConstants.{MAX_FLOWS}
 use Rattle.ink_model.specs.declared.place.Part.{Part}
 use Rattle.ink_parts.specs.declared.flowing.Gathered.{Gathered}
 use Rattle.ink_parts.specs.declared.restoring.AllFlows.{AllFlows}
@@ -26,6 +27,10 @@ pub record FlowsFit (s : StoryTree) (flows : Rows (FlowOf (List Part))) : Type 0
 abbrev pub first_is_default : {F : Type 0} → Rows F → Bool
 first_is_default [] = false
 first_is_default (r ∷ rows) = bytes_eq r.0 default_flow
+
+-- and there are not too many
+abbrev pub may_be_all : {F : Type 0} → Rows F → Bool
+may_be_all rows = first_is_default rows && nat_le (length rows) MAX_FLOWS
 
 abbrev pub gathered_as : StoryTree → Gathered → Aside × Option (FlowOf (List Part))
 gathered_as s g = (aside_of s (rows_of g.rows.entries), option_map (flow_of s) g.current)

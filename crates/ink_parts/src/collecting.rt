@@ -1,9 +1,9 @@
 //! Stacks, lists of choices and globals that a save spells, in a story.
 
-ghost use Rattle.std.specs.Prelude.{◌≡◌, IfOk, map};
+ghost use Rattle.std.specs.Prelude.{◌≡◌, IfOk, OnErr, map};
 ghost use Rattle.ink_model.specs.Configuration.{map_choice};
-ghost use Rattle.ink_parts.specs.Building.{Builds};
-ghost use Rattle.ink_model.specs.Save.Sound.{ChoicesFit, GlobalsFit, StackFits};
+ghost use Rattle.ink_parts.specs.Building.{Builds, ChoiceAsks, FirstAsks};
+ghost use Rattle.ink_model.specs.Save.Sound.{ChoiceFits, ChoicesFit, GlobalsFit, StackFits, ValueFits};
 ghost use Rattle.ink_tree.specs.Nodes.{place_of, story_tree};
 
 use crate::building::{Built, build_all};
@@ -16,13 +16,14 @@ use ink_vars::Globals;
 use std::alloc::{AllocError, Global};
 
 /// The stack of these values; none where one does not fit, or there are too many. The one error is a refused request for
-/// memory.
+/// memory, which is made once the first one fits.
 pub fn build_stack(
     alloc: Global,
     tree: &Tree,
     values: &[SavedValue],
 ) -> Result<Option<EvalStack>, AllocError>
-    ensures { let s = story_tree tree.now in IfOk result (λ made. Builds (λ v. v.items) (StackFits s) values.now made) }
+    ensures builds { let s = story_tree tree.now in IfOk result (λ made. Builds (λ v. v.items) (StackFits s) values.now made) }
+    ensures memory { let s = story_tree tree.now in OnErr result (FirstAsks (ValueFits s) (ValueFits s) values.now) }
 {
     let Some(items) = build_all(alloc, tree, values)? else {
         return Ok(None);
@@ -31,14 +32,15 @@ pub fn build_stack(
 }
 
 /// The list of these choices; none where one does not fit, or there are too many. The one error is a refused request for
-/// memory.
+/// memory, which is made once the first one fits, or its text does and its target is a place of the story.
 pub fn build_choices(
     alloc: Global,
     tree: &Tree,
     choices: &[SavedChoice],
 ) -> Result<Option<Choices<Spot>>, AllocError>
-    ensures { let s = story_tree tree.now in
+    ensures builds { let s = story_tree tree.now in
         IfOk result (λ made. Builds (λ v. map (map_choice (place_of s)) v.items) (ChoicesFit s) choices.now made) }
+    ensures memory { let s = story_tree tree.now in OnErr result (FirstAsks (ChoiceFits s) (ChoiceAsks s) choices.now) }
 {
     let Some(items) = build_all(alloc, tree, choices)? else {
         return Ok(None);

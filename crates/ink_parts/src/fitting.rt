@@ -8,22 +8,22 @@ ghost use Rattle.ink_model.specs.Save.Sound.{AnyPlace, PathFits, PlaceFits, RowF
 ghost use Rattle.ink_tree.specs.Nodes.{place_of, story_tree};
 
 use crate::building::Built;
-use ink_model::{MAX_TEXT, Part, Path, Shared, Text, Value};
-use ink_spelling::{Listed, SavedValue};
+use ink_model::{MAX_TEXT, Part, Path, Seq, Shared, Text, Value};
+use ink_spelling::SavedValue;
 use ink_tree::{NodeId, Spot, Tree};
 use std::alloc::{AllocError, Global};
 
 // ---- places
 
 /// The spot of a place.
-pub(crate) fn spot_of(tree: &Tree, place: &Listed<Part>) -> Option<Spot>
+pub(crate) fn spot_of(tree: &Tree, place: &Seq<Part>) -> Option<Spot>
     ensures { let s = story_tree tree.now in Builds (place_of s) (PlaceFits s) place.now result }
 {
     tree.spot(place.as_slice())
 }
 
 /// The same, or none.
-pub(crate) fn any_spot(tree: &Tree, place: &Option<Listed<Part>>) -> Option<Option<Spot>>
+pub(crate) fn any_spot(tree: &Tree, place: &Option<Seq<Part>>) -> Option<Option<Spot>>
     ensures { let s = story_tree tree.now in Builds (option_map (place_of s)) (AnyPlace s) place.now result }
 {
     match place {
@@ -43,6 +43,8 @@ impl Built for SavedValue {
     ghost in_story = { λ s value. value };
 
     ghost fits = { λ s value. ValueFits s value };
+
+    ghost asks = { λ s value. ValueFits s value };
 
     fn build(&self, alloc: Global, tree: &Tree) -> Result<Option<Value>, AllocError> {
         if value_fits(tree, self) {
@@ -90,6 +92,8 @@ impl Built for (Shared<Text>, SavedValue) {
     ghost in_story = { λ s row. row };
 
     ghost fits = { λ s row. RowFits s row };
+
+    ghost asks = { λ s row. RowFits s row };
 
     fn build(
         &self,

@@ -3,7 +3,8 @@
 ghost use Rattle.std.specs.Prelude.{◌≡◌, is_some};
 ghost use Rattle.std.specs.List.{list_all};
 ghost use Rattle.ink_model.specs.Frames.{map_frame, map_thread};
-ghost use Rattle.ink_parts.specs.Building.{FrameBuilds, ThreadBuilds};
+ghost use Rattle.ink_parts.specs.Building.{FrameAsks, FrameBuilds, ThreadBuilds};
+ghost use Rattle.ink_model.specs.Save.Sound.{AnyPlace};
 ghost use Rattle.ink_tree.specs.Nodes.{place_of};
 
 use crate::building::{Built, build_all};
@@ -20,6 +21,8 @@ impl Built for SavedFrame {
     ghost in_story = { λ s frame. map_frame (place_of s) frame };
 
     ghost fits = { λ s frame. FrameBuilds s frame };
+
+    ghost asks = { λ s frame. FrameAsks s frame };
 
     fn build(&self, alloc: Global, tree: &Tree) -> Result<Option<Frame<Spot>>, AllocError> {
         if self.depth > MAX_SECTIONS as u64 {
@@ -49,6 +52,8 @@ impl Built for SavedThread {
     ghost in_story = { λ s thread. map_thread (place_of s) thread };
 
     ghost fits = { λ s thread. ThreadBuilds s thread };
+
+    ghost asks = { λ s thread. AnyPlace s thread.previous };
 
     fn build(&self, alloc: Global, tree: &Tree) -> Result<Option<Thread<Spot>>, AllocError> {
         let Some(previous) = any_spot(tree, &self.previous) else {

@@ -4,7 +4,7 @@ ghost use Rattle.std.specs.Prelude.{◌≡◌, IfOk, IsTrue};
 ghost use Rattle.ink_model.specs.Bytes.{fits_text};
 ghost use Rattle.ink_model.specs.Configuration.{map_choice};
 ghost use Rattle.ink_model.specs.Frames.{map_thread};
-ghost use Rattle.ink_parts.specs.Building.{Builds};
+ghost use Rattle.ink_parts.specs.Building.{Builds, ChoiceAsks};
 ghost use Rattle.ink_model.specs.Save.Sound.{ChoiceFits, ThreadStands};
 ghost use Rattle.ink_tree.specs.Nodes.{place_of, story_tree};
 
@@ -23,6 +23,8 @@ impl Built for Shared<Text> {
     ghost in_story = { λ s text. text };
 
     ghost fits = { λ s text. IsTrue (fits_text text) };
+
+    ghost asks = { λ s text. IsTrue (fits_text text) };
 
     fn build(&self, _alloc: Global, _tree: &Tree) -> Result<Option<Shared<Text>>, AllocError> {
         if text_fits(self.as_str()) {
@@ -57,6 +59,8 @@ impl Built for SavedChoice {
     ghost in_story = { λ s choice. map_choice (place_of s) choice };
 
     ghost fits = { λ s choice. ChoiceFits s choice };
+
+    ghost asks = { λ s choice. ChoiceAsks s choice };
 
     fn build(&self, alloc: Global, tree: &Tree) -> Result<Option<Choice<Spot>>, AllocError> {
         if !text_fits(self.text.as_str()) {

@@ -1,6 +1,6 @@
 //! What a save spells, made again in a story.
 
-ghost use Rattle.std.specs.Prelude.{◌≡◌, ◌≤◌, ◌&&◌, IfOk, IfSome, IsTrue, length, nat_le, option_map};
+ghost use Rattle.std.specs.Prelude.{◌≡◌, ◌≤◌, IfOk, IfSome, IsTrue, OnErr, option_map, true};
 ghost use Rattle.std.specs.List.{AllByRecursion};
 ghost use Rattle.ink_flows.specs.Words.{rows_of};
 ghost use Rattle.ink_model.specs.Configuration.{unnumbered_flow};
@@ -9,10 +9,10 @@ ghost use Rattle.ink_model.specs.Named.{at};
 ghost use Rattle.ink_model.specs.Save.Reads.{Rests, Stands};
 ghost use Rattle.ink_model.specs.Save.Sound.{SharedSound};
 ghost use Rattle.ink_model.specs.Save.Unspelled.{aside_but, game_of, game_spelled};
-ghost use Rattle.ink_model.specs.declared.limits.TheConstants.{MAX_COUNT, MAX_FLOWS};
+ghost use Rattle.ink_model.specs.declared.limits.TheConstants.{MAX_COUNT};
 ghost use Rattle.ink_parts.specs.Building.{Builds};
 ghost use Rattle.ink_parts.specs.Counted.{AreOwn};
-ghost use Rattle.ink_parts.specs.Gathered.{AllStand, first_is_default, flows_as, parts_of, with_rows};
+ghost use Rattle.ink_parts.specs.Gathered.{AllStand, flows_as, may_be_all, parts_of, with_rows};
 ghost use Rattle.ink_parts.specs.Parts.{Restores, restored_as, shared_as};
 ghost use Rattle.ink_spelling.specs.Layouts.{Rest, layout_as};
 ghost use Rattle.ink_tree.specs.Nodes.{story_tree};
@@ -89,6 +89,7 @@ fn restore_game(
     requires { AllByRecursion (λ r. unnumbered_flow r.1 ≡ r.1) saved.now.flows }
     ensures restores { IfOk result (λ made. Restores (story_tree tree.now) (game_spelled saved.now) made) }
     ensures own { IfOk result (λ made. IfSome made (λ r. AreOwn (story_tree tree.now) r.shared.counts.rows)) }
+    ensures memory { OnErr result (may_be_all saved.now.flows ≡ true) }
 {
     let Some(flows) = restore_flows(alloc, tree, saved)? else {
         return Ok(None);
@@ -110,16 +111,19 @@ struct AllFlows {
     aside: Aside,
 }
 
-// All flows of a save, if they fit the story, and the current one is among them. The one error is a refused request for memory.
+// All flows of a save, if they fit the story, and the current one is among them. The one error is a refused request for memory,
+// which is made once they may be all.
 fn restore_flows(
     alloc: Global,
     tree: &Tree,
     saved: &SavedGame,
 ) -> Result<Option<AllFlows>, AllocError>
     requires { AllByRecursion (λ r. unnumbered_flow r.1 ≡ r.1) saved.now.flows }
-    ensures { let s = story_tree tree.now in
+    ensures builds { let s = story_tree tree.now in
         let x = saved.now in
         IfOk result (λ made. Builds (flows_as s) (AllStand s) (at x.current x.flows, aside_but x.current x.flows) made) }
+    ensures all { IfOk result (λ made. IfSome made (λ _. may_be_all saved.now.flows ≡ true)) }
+    ensures memory { OnErr result (may_be_all saved.now.flows ≡ true) }
 {
     let flows = saved.flows.as_slice();
     if !may_be_all(flows) {
@@ -133,7 +137,7 @@ fn restore_flows(
 
 // Whether the first flow is the one that is always there, and there are not too many.
 fn may_be_all(flows: &[NamedFlow]) -> bool
-    ensures { result ≡ (first_is_default flows.now && nat_le (length flows.now) MAX_FLOWS) }
+    ensures { result ≡ may_be_all flows.now }
 {
     match flows.first() {
         Some(first) => first.name() == DEFAULT_FLOW && flows.len() <= MAX_FLOWS,
@@ -157,7 +161,8 @@ fn with_aside(alloc: Global, gathered: Gathered) -> Option<AllFlows>
     }
 }
 
-// What the flows of a save share, if it fits the story. The one error is a refused request for memory.
+// What the flows of a save share, if it fits the story. The one error is a refused request for memory, which is made once the turn
+// is within its limit.
 fn restore_shared(
     alloc: Global,
     tree: &Tree,
@@ -165,6 +170,7 @@ fn restore_shared(
 ) -> Result<Option<SharedParts>, AllocError>
     ensures builds { let s = story_tree tree.now in IfOk result (λ made. Builds (shared_as s) (SharedSound s) saved.now made) }
     ensures own { IfOk result (λ made. IfSome made (λ v. AreOwn (story_tree tree.now) v.counts.rows)) }
+    ensures memory { OnErr result (saved.now.turn ≤ MAX_COUNT) }
 {
     let Some(turn) = turn_of(saved.turn) else {
         return Ok(None);

@@ -1,6 +1,6 @@
 //! All threads that a save spells, in a story.
 
-ghost use Rattle.std.specs.Prelude.{◌≡◌};
+ghost use Rattle.std.specs.Prelude.{◌≡◌, ⊤};
 ghost use Rattle.std.specs.List.{list_all};
 ghost use Rattle.ink_model.specs.Frames.{map_threads};
 ghost use Rattle.ink_parts.specs.Building.{flows, placed};
@@ -19,6 +19,8 @@ impl Built for SavedThreads {
     ghost in_story = { λ s threads. map_threads (place_of s) threads.threads };
 
     ghost fits = { λ s threads. ThreadsFit s threads };
+
+    ghost asks = { λ s threads. ⊤ };
 
     fn build(&self, alloc: Global, tree: &Tree) -> Result<Option<Threads<Spot>>, AllocError> {
         let Some(below) = build_all(alloc, tree, self.below.as_slice())? else {

@@ -18,3 +18,4 @@ pub mod Down
 pub mod Gaps
 pub mod Firsts
 pub mod Flagged
+mod Powers

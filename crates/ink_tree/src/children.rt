@@ -1,5 +1,8 @@
 //! Where contents may be looked for first.
 
+ghost use Rattle.std.specs.Prelude.{◌≡◌, ◌≤◌, ◌*◌, ◌^◌, length, max, IfOk};
+ghost use Rattle.std.specs.Int.{IsPowerOfTwo};
+
 use ink_json::{Key, Nodes, compare_parts};
 use std::alloc::{AllocError, Global};
 use std::cmp::Ordering;
@@ -24,7 +27,9 @@ pub(crate) struct Children {
 
 impl Children {
     /// The numbers of these nodes by what is around them. The one error is a refused request for memory.
-    pub(crate) fn of(alloc: Global, nodes: &Nodes) -> Result<Children, AllocError> {
+    pub(crate) fn of(alloc: Global, nodes: &Nodes) -> Result<Children, AllocError>
+        ensures { IfOk result (λ children. length children.slots.items ≤ max (8 * length nodes.now) 1024) }
+    {
         let mut ends = Vec::from_elem(alloc, 0, nodes.len())?;
         let named = count_all(nodes, &mut ends);
         let mut numbers = Vec::from_elem(alloc, 0, nodes.len())?;
@@ -105,7 +110,9 @@ impl Children {
 
 // Counts the contents in each container, then puts where its block starts in place of the count, and answers how many contents have
 // names.
-fn count_all(nodes: &Nodes, counts: &mut Vec<u32>) -> usize {
+fn count_all(nodes: &Nodes, counts: &mut Vec<u32>) -> usize
+    ensures { result ≤ length nodes.now }
+{
     let mut named: usize = 0;
     for number in 1..nodes.len() {
         let node = nodes.at(number);
@@ -124,14 +131,20 @@ fn count_all(nodes: &Nodes, counts: &mut Vec<u32>) -> usize {
 }
 
 // Notes the number of a content at a place.
-fn note(numbers: &mut Vec<u32>, place: usize, number: usize) {
+fn note(numbers: &mut Vec<u32>, place: usize, number: usize)
+    ensures { length numbers.new.items ≡ length numbers.old.items }
+{
     if let Some(noted) = numbers.get_mut(place) {
         *noted = small(number);
     }
 }
 
 // How many slots so many names have: four times as many or more, a power of two, so that a slot is found without a division.
-fn slots_for(count: usize) -> usize {
+fn slots_for(count: usize) -> usize
+    ensures power { IsPowerOfTwo result }
+    ensures enough { count ≤ 2 ^ 31 → 4 * count ≤ result }
+    ensures most { result ≤ max (8 * count) 1024 }
+{
     let slots = count.min(MOST).saturating_mul(4).next_power_of_two();
     slots.max(LEAST)
 }

@@ -10,10 +10,10 @@ use Rattle.ink_tree.specs.Nodes.{place_of, story_tree}
 use Rattle.ink_tree.specs.declared.spot.Spot.{Spot}
 use Rattle.ink_parts.proofs.collecting.build_choices.Goals as goal
 
-pub returns : goal.returns
-returns c =
+pub returns-clause-builds : goal.returns-clause-builds
+returns-clause-builds c =
     let s = story_tree c.args.tree.now in
     choices_built s c.args.choices.now c.in-Some.items.items
     (built (λ (v : Vec (ChoiceOf Spot) Global). map (map_choice (place_of s)) v.items) (AllByRecursion (ChoiceFits s)) c.args.choices.now c.args.choices.now c.in_ok-items.field-0 c.in-Some.items refl c.in-Some.is
-    c.in_ok-items.ensures)
+    c.in_ok-items.ensures.builds)
     c.from_vec.result c.from_vec.ensures.items

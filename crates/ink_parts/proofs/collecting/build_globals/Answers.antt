@@ -19,7 +19,7 @@ returns-in-None c =
     let s = story_tree c.args.tree.now in
     let r = c.row-item.result in
     value_refused s c.args.rows.now c.loop-row.made.rows c.loop-row.row-index r c.loop-row-test.true
-    (never (λ (v : Value). v) (ValueFits s) r.1 (get_or c.args.rows.now c.loop-row.row-index r).1 c.in_ok-value.field-0 (ap (λ x. x.1) c.row-item.is) c.in-None.is c.in_ok-value.ensures)
+    (never (λ (v : Value). v) (ValueFits s) r.1 (get_or c.args.rows.now c.loop-row.row-index r).1 c.in_ok-value.field-0 (ap (λ x. x.1) c.row-item.is) c.in-None.is c.in_ok-value.ensures.builds)
     c.loop-row.invariant
 
 pub loop-row-preserved : goal.loop-row-preserved
@@ -29,7 +29,7 @@ loop-row-preserved c =
     let rows = c.args.rows.now in
     let i = c.loop-row.row-index in
     let made = c.loop-row.made.rows in
-    let b = built (λ (v : Value). v) (ValueFits s) r.1 (get_or rows i r).1 c.in_ok-value.field-0 c.in-Some.value (ap (λ x. x.1) c.row-item.is) c.in-Some.is c.in_ok-value.ensures in
+    let b = built (λ (v : Value). v) (ValueFits s) r.1 (get_or rows i r).1 c.in_ok-value.field-0 c.in-Some.value (ap (λ x. x.1) c.row-item.is) c.in-Some.is c.in_ok-value.ensures.builds in
     subst (λ m. Collects s rows m (drop (i + 1) rows))
     (sym (c.in_ok-put-in-Some.ensures.ok ∙ ap (λ n. store n c.in-Some.value made) (c.as_str-in-Some.ensures ∙ ap (λ x. x.0) c.row-item.is) ∙ ap (λ v. store (get_or rows i r).0 v made) b.0))
     (collects_more s rows made i r c.loop-row-test.true

@@ -9,9 +9,9 @@ use Rattle.ink_model.specs.Save.Sound.{ValueFits}
 use Rattle.ink_tree.specs.Nodes.{story_tree}
 use Rattle.ink_parts.proofs.collecting.build_stack.Goals as goal
 
-pub returns : goal.returns
-returns c =
+pub returns-clause-builds : goal.returns-clause-builds
+returns-clause-builds c =
     let s = story_tree c.args.tree.now in
     stack_built s c.args.values.now c.in-Some.items.items
-    (built (λ (v : Vec Value Global). map (λ x. x) v.items) (AllByRecursion (ValueFits s)) c.args.values.now c.args.values.now c.in_ok-items.field-0 c.in-Some.items refl c.in-Some.is c.in_ok-items.ensures)
+    (built (λ (v : Vec Value Global). map (λ x. x) v.items) (AllByRecursion (ValueFits s)) c.args.values.now c.args.values.now c.in_ok-items.field-0 c.in-Some.items refl c.in-Some.is c.in_ok-items.ensures.builds)
     c.from_vec.result c.from_vec.ensures.items

@@ -9,8 +9,8 @@ use Rattle.ink_parts.proofs.Whole.{Plain, flows_built, flows_found, gather_refus
 use Rattle.ink_parts.specs.Gathered.{FlowsFit, gathered_as}
 use Rattle.ink_parts.proofs.restoring.restore_flows.Goals as goal
 
-pub returns-in-Some : goal.returns-in-Some
-returns-in-Some c =
+pub returns-in-Some-clause-builds : goal.returns-in-Some-clause-builds
+returns-in-Some-clause-builds c =
     let s = story_tree c.args.tree.now in
     let cur = c.as_str.result.now in
     let xs = c.as_slice-flows.result.now in
@@ -20,8 +20,8 @@ returns-in-Some c =
     (flows_built s cur xs (rows_of c.in-Some.gathered.rows.entries) c.in-Some.gathered.current c.with_aside.result (subst (AllByRecursion Plain) (sym listed) c.requires)
     (sym c.may_be_all.ensures ∙ c.if-not-may_be_all.false) made c.with_aside.ensures)
 
-pub returns-in-None : goal.returns-in-None
-returns-in-None c =
+pub returns-in-None-clause-builds : goal.returns-in-None-clause-builds
+returns-in-None-clause-builds c =
     let s = story_tree c.args.tree.now in
     let cur = c.as_str.result.now in
     let xs = c.as_slice-flows.result.now in

@@ -13,7 +13,7 @@ pub returns-in_default-clause-restores : goal.returns-in_default-clause-restores
 returns-in_default-clause-restores c =
     let s = story_tree c.args.tree.now in
     let x = c.args.saved.now in
-    flows_refused s x (never (flows_as s) (AllStand s) (at x.current x.flows, aside_but x.current x.flows) (at x.current x.flows, aside_but x.current x.flows) c.in_ok-flows.field-0 refl c.in_default.is c.in_ok-flows.ensures)
+    flows_refused s x (never (flows_as s) (AllStand s) (at x.current x.flows, aside_but x.current x.flows) (at x.current x.flows, aside_but x.current x.flows) c.in_ok-flows.field-0 refl c.in_default.is c.in_ok-flows.ensures.builds)
 
 pub returns-in_default-2-clause-restores : goal.returns-in_default-2-clause-restores
 returns-in_default-2-clause-restores c =
@@ -26,5 +26,5 @@ returns-clause-restores c =
     let s = story_tree c.args.tree.now in
     let x = c.args.saved.now in
     game_built s x c.in-Some.flows.flow c.in-Some.flows.aside c.in-Some-2.shared c.requires
-    (built (flows_as s) (AllStand s) (at x.current x.flows, aside_but x.current x.flows) (at x.current x.flows, aside_but x.current x.flows) c.in_ok-flows.field-0 c.in-Some.flows refl c.in-Some.is c.in_ok-flows.ensures)
+    (built (flows_as s) (AllStand s) (at x.current x.flows, aside_but x.current x.flows) (at x.current x.flows, aside_but x.current x.flows) c.in_ok-flows.field-0 c.in-Some.flows refl c.in-Some.is c.in_ok-flows.ensures.builds)
     (built (shared_as s) (SharedSound s) c.saved.inside.shared x.shared c.in_ok-shared.field-0 c.in-Some-2.shared (ap (λ y. y.shared) c.saved.view_is) c.in-Some-2.is c.in_ok-shared.ensures.builds)

@@ -13,29 +13,29 @@ use Rattle.ink_tree.specs.Nodes.{place_of, story_tree}
 use Rattle.ink_tree.specs.declared.spot.Spot.{Spot}
 use Rattle.ink_parts.proofs.framing.SavedThreadBuilt.build.Goals as goal
 
-pub returns-in_default-2 : goal.returns-in_default-2
-returns-in_default-2 c =
+pub returns-in_default-2-clause-builds : goal.returns-in_default-2-clause-builds
+returns-in_default-2-clause-builds c =
     let s = story_tree c.args.tree.now in
     subst (λ t. ThreadBuilds s t → ⊥) c.self.view_is
     (below_refused s c.self.inside.frame c.self.inside.below.items c.self.inside.previous
     (never (λ (v : Vec (FrameOf Spot) Global). map (map_frame (place_of s)) v.items) (AllByRecursion (FrameBuilds s)) _ _ c.in_ok-below.field-0
-    c.as_slice.ensures.value c.in_default-2.is c.in_ok-below.ensures))
+    c.as_slice.ensures.value c.in_default-2.is c.in_ok-below.ensures.builds))
 
-pub returns-then-not-all_stand : goal.returns-then-not-all_stand
-returns-then-not-all_stand c =
+pub returns-then-not-all_stand-clause-builds : goal.returns-then-not-all_stand-clause-builds
+returns-then-not-all_stand-clause-builds c =
     let s = story_tree c.args.tree.now in
     let rest = built (λ (v : Vec (FrameOf Spot) Global). map (map_frame (place_of s)) v.items) (AllByRecursion (FrameBuilds s)) _ c.self.inside.below.items c.in_ok-below.field-0 c.in-Some-2.below
-    c.as_slice.ensures.value c.in-Some-2.is c.in_ok-below.ensures in
+    c.as_slice.ensures.value c.in-Some-2.is c.in_ok-below.ensures.builds in
     subst (λ t. ThreadBuilds s t → ⊥) c.self.view_is
     (standing_refused s c.self.inside.frame c.in-Some-2.below.items c.self.inside.below.items c.self.inside.previous rest.0
     (sym (c.all_stand.ensures ∙ ap (list_all standing) c.as_slice-2.ensures.value) ∙ c.if-not-all_stand.true))
 
-pub returns : goal.returns
-returns c =
+pub returns-clause-builds : goal.returns-clause-builds
+returns-clause-builds c =
     let s = story_tree c.args.tree.now in
     let rest = built (λ (v : Vec (FrameOf Spot) Global). map (map_frame (place_of s)) v.items) (AllByRecursion (FrameBuilds s)) _ c.self.inside.below.items c.in_ok-below.field-0 c.in-Some-2.below
-    c.as_slice.ensures.value c.in-Some-2.is c.in_ok-below.ensures in
-    let top = built (map_frame (place_of s)) (FrameBuilds s) c.self.inside.frame c.self.inside.frame c.in_ok-frame.field-0 c.in-Some-3.frame refl c.in-Some-3.is c.in_ok-frame.ensures in
+    c.as_slice.ensures.value c.in-Some-2.is c.in_ok-below.ensures.builds in
+    let top = built (map_frame (place_of s)) (FrameBuilds s) c.self.inside.frame c.self.inside.frame c.in_ok-frame.field-0 c.in-Some-3.frame refl c.in-Some-3.is c.in_ok-frame.ensures.builds in
     let thread : ThreadOf (List Part) = record { frame = c.self.inside.frame; below = reverse c.self.inside.below.items; previous = c.self.inside.previous } in
     subst (λ t. IfOk c.from_frames.result (λ made. Builds (map_thread (place_of s)) (ThreadBuilds s) t made)) c.self.view_is
     (IfOk-weaker c.from_frames.result (λ made. made ≡ thread_from c.push.new.self.items c.in-Some.previous) (λ made. Builds (map_thread (place_of s)) (ThreadBuilds s) thread made)

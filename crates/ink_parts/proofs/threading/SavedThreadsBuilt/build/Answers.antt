@@ -13,46 +13,46 @@ use Rattle.ink_tree.specs.Nodes.{place_of, story_tree}
 use Rattle.ink_tree.specs.declared.spot.Spot.{Spot}
 use Rattle.ink_parts.proofs.threading.SavedThreadsBuilt.build.Goals as goal
 
-pub returns-in_default : goal.returns-in_default
-returns-in_default c =
+pub returns-in_default-clause-builds : goal.returns-in_default-clause-builds
+returns-in_default-clause-builds c =
     let s = story_tree c.args.tree.now in
     subst (λ t. ThreadsFit s t → ⊥) c.self.view_is
     (below_refused s c.self.inside.thread c.self.inside.below.items
     (never (λ (v : Vec (ThreadOf Spot) Global). map (map_thread (place_of s)) v.items) (AllByRecursion (ThreadBuilds s)) _ _ c.in_ok-below.field-0
-    c.as_slice.ensures.value c.in_default.is c.in_ok-below.ensures))
+    c.as_slice.ensures.value c.in_default.is c.in_ok-below.ensures.builds))
 
-pub returns-then-not-all_placed : goal.returns-then-not-all_placed
-returns-then-not-all_placed c =
+pub returns-then-not-all_placed-clause-builds : goal.returns-then-not-all_placed-clause-builds
+returns-then-not-all_placed-clause-builds c =
     let s = story_tree c.args.tree.now in
     let rest = built (λ (v : Vec (ThreadOf Spot) Global). map (map_thread (place_of s)) v.items) (AllByRecursion (ThreadBuilds s)) _ c.self.inside.below.items c.in_ok-below.field-0 c.in-Some.below
-    c.as_slice.ensures.value c.in-Some.is c.in_ok-below.ensures in
+    c.as_slice.ensures.value c.in-Some.is c.in_ok-below.ensures.builds in
     subst (λ t. ThreadsFit s t → ⊥) c.self.view_is
     (placed_refused s c.self.inside.thread c.self.inside.below.items c.in-Some.below.items rest.0
     (sym (c.all_placed.ensures ∙ ap (list_all placed) c.as_slice-2.ensures.value) ∙ c.if-not-all_placed.true))
 
-pub returns-in_default-2 : goal.returns-in_default-2
-returns-in_default-2 c =
+pub returns-in_default-2-clause-builds : goal.returns-in_default-2-clause-builds
+returns-in_default-2-clause-builds c =
     let s = story_tree c.args.tree.now in
     subst (λ t. ThreadsFit s t → ⊥) c.self.view_is
     (top_refused s c.self.inside.thread c.self.inside.below.items
-    (never (map_thread (place_of s)) (ThreadBuilds s) _ _ c.in_ok-thread.field-0 refl c.in_default-2.is c.in_ok-thread.ensures))
+    (never (map_thread (place_of s)) (ThreadBuilds s) _ _ c.in_ok-thread.field-0 refl c.in_default-2.is c.in_ok-thread.ensures.builds))
 
-pub returns-then-not-flows : goal.returns-then-not-flows
-returns-then-not-flows c =
+pub returns-then-not-flows-clause-builds : goal.returns-then-not-flows-clause-builds
+returns-then-not-flows-clause-builds c =
     let s = story_tree c.args.tree.now in
     let rest = built (λ (v : Vec (ThreadOf Spot) Global). map (map_thread (place_of s)) v.items) (AllByRecursion (ThreadBuilds s)) _ c.self.inside.below.items c.in_ok-below.field-0 c.in-Some.below
-    c.as_slice.ensures.value c.in-Some.is c.in_ok-below.ensures in
-    let top = built (map_thread (place_of s)) (ThreadBuilds s) c.self.inside.thread c.self.inside.thread c.in_ok-thread.field-0 c.in-Some-2.thread refl c.in-Some-2.is c.in_ok-thread.ensures in
+    c.as_slice.ensures.value c.in-Some.is c.in_ok-below.ensures.builds in
+    let top = built (map_thread (place_of s)) (ThreadBuilds s) c.self.inside.thread c.self.inside.thread c.in_ok-thread.field-0 c.in-Some-2.thread refl c.in-Some-2.is c.in_ok-thread.ensures.builds in
     subst (λ t. ThreadsFit s t → ⊥) c.self.view_is
     (flow_refused s c.self.inside.thread c.self.inside.below.items c.in-Some-2.thread c.in-Some.below.items top.0 rest.0
     (sym (c.flows.ensures ∙ ap (λ o. flows o c.as_slice-3.result.now) c.place.ensures ∙ ap (flows c.in-Some-2.thread.frame.place) c.as_slice-3.ensures.value) ∙ c.if-not-flows.true))
 
-pub returns : goal.returns
-returns c =
+pub returns-clause-builds : goal.returns-clause-builds
+returns-clause-builds c =
     let s = story_tree c.args.tree.now in
     let rest = built (λ (v : Vec (ThreadOf Spot) Global). map (map_thread (place_of s)) v.items) (AllByRecursion (ThreadBuilds s)) _ c.self.inside.below.items c.in_ok-below.field-0 c.in-Some.below
-    c.as_slice.ensures.value c.in-Some.is c.in_ok-below.ensures in
-    let top = built (map_thread (place_of s)) (ThreadBuilds s) c.self.inside.thread c.self.inside.thread c.in_ok-thread.field-0 c.in-Some-2.thread refl c.in-Some-2.is c.in_ok-thread.ensures in
+    c.as_slice.ensures.value c.in-Some.is c.in_ok-below.ensures.builds in
+    let top = built (map_thread (place_of s)) (ThreadBuilds s) c.self.inside.thread c.self.inside.thread c.in_ok-thread.field-0 c.in-Some-2.thread refl c.in-Some-2.is c.in_ok-thread.ensures.builds in
     subst (λ t. Builds (λ (v : ThreadsView Spot). map_threads (place_of s) v.threads) (ThreadsFit s) t c.from_threads.result) c.self.view_is
     (threads_built s c.in-Some-2.thread c.in-Some.below.items c.self.inside.thread c.self.inside.below.items top rest
     (sym (c.all_placed.ensures ∙ ap (list_all placed) c.as_slice-2.ensures.value) ∙ c.if-not-all_placed.false)
