@@ -10,7 +10,7 @@ use Rattle.ink_model.specs.Tree.{StoryTree}
 use Rattle.ink_model.specs.declared.fault.Fault.{Fault}
 use Rattle.ink_model.specs.declared.host.Given.{Given}
 use Rattle.ink_model.specs.declared.limits.TheConstants.{MAX_STEPS}
-use Rattle.ink_line.specs.Rows.{IsAnswered, Lines, anew, extended, joined, laid}
+use Rattle.ink_line.specs.Rows.{EachLine, IsAnswered, Lines, Passes, anew, extended, joined, laid}
 
 answers_join : (xs ys : List Made) → answers_of (xs ++ ys) ≡ answers_of xs ++ answers_of ys
 answers_join [] ys = refl
@@ -99,8 +99,8 @@ cut_stopped (Waits name r) d left made e = cc
 
 module _ (s : StoryTree) (b : Bound) where
   -- after how many steps of the run, with calls before it and answers left over
-  abbrev Reaches : Configuration → List Made → Configuration → List Made → List (Option Given) → Type 0
-  Reaches c made d before later = (n : ℕ) × (anew (run s b n (At (begun c) (answers_of made ++ later) before)) ≡ At (begun (settled d)) later (before ++ made))
+  abbrev pub Reaches : Configuration → List Made → Configuration → List Made → List (Option Given) → Type 0
+  Reaches c made d before later = (n : ℕ) × Passes s b c made (settled d) n before later
 
   stands_at : (c : Configuration) (made : List Made) (d : Configuration) (m : Moment) → Line s b c (answers_of made) m → IsKept d made m
       → (before : List Made) (later : List (Option Given)) → Reaches c made d before later
@@ -117,22 +117,27 @@ module _ (s : StoryTree) (b : Bound) where
   stands_at c made d (Faulted f e left r) h is before later = absurd is
   stands_at c made d (Waits name r) h is before later = absurd is
 
-  line_stands : (c : Configuration) (made : List Made) (d : Configuration) → EndsLine s b c made (Kept d) → (before : List Made) (later : List (Option Given)) → Reaches c made d before later
+  pub line_stands : (c : Configuration) (made : List Made) (d : Configuration) → EndsLine s b c made (Kept d) → (before : List Made) (later : List (Option Given)) → Reaches c made d before later
   line_stands c made d (m, line, ends) before later = stands_at c made d m line (kept_is m d made ends) before later
 
   -- ---- rows
 
-  laid_from : (c e : Configuration) (lines : List (List Made)) → Lines s b c lines e → (before : List Made)
-      → (steps : List ℕ) × (laid s b steps (At (begun c) (answers_of (joined lines)) before) ≡ At (begun e) [] (before ++ joined lines))
-  laid_from c e [] h before = ([], ap (λ d. At (begun d) [] before) (sym h) ∙ ap (At (begun e) []) (sym (append-nil before)))
+  -- an entry for a line, before those for the lines behind it
+  pub laid_before : (c d e : Configuration) (made rest all : List Made) → all ≡ made ++ rest → (n : ℕ) (steps : List ℕ) (before : List Made)
+      → Passes s b c made d n before (answers_of rest) → laid s b steps (At (begun d) (answers_of rest) (before ++ made)) ≡ At (begun e) [] ((before ++ made) ++ rest)
+      → laid s b (n ∷ steps) (At (begun c) (answers_of all) before) ≡ At (begun e) [] (before ++ all)
+  laid_before c d e made rest all is n steps before here there =
+      ap (λ left. laid s b steps (anew (run s b n (At (begun c) left before)))) (ap answers_of is ∙ answers_join made rest)
+      ∙ (ap (laid s b steps) here ∙ (there ∙ ap (At (begun e) []) (append_assoc before made rest ∙ ap (λ l. before ++ l) (sym is))))
+
+  laid_from : (c e : Configuration) (lines : List (List Made)) → (row : Lines s b c lines e) → (before : List Made)
+      → (steps : List ℕ) × (laid s b steps (At (begun c) (answers_of (joined lines)) before) ≡ At (begun e) [] (before ++ joined lines)) × EachLine s b c e lines row steps before
+  laid_from c e [] row before = ([], ap (λ d. At (begun d) [] before) (sym row) ∙ ap (At (begun e) []) (sym (append-nil before)), refl)
   laid_from c e (made ∷ rest) (d, kept, on) before =
       let (n, here) = line_stands c made d kept before (answers_of (joined rest)) in
-      let (steps, there) = laid_from (settled d) e rest on (before ++ made) in (
-        n ∷ steps,
-        ap (λ left. laid s b steps (anew (run s b n (At (begun c) left before)))) (answers_join made (joined rest))
-            ∙ (ap (laid s b steps) here ∙ (there ∙ ap (At (begun e) []) (append_assoc before made (joined rest)))),
-      )
+      let (steps, there, each) = laid_from (settled d) e rest on (before ++ made) in
+      (n ∷ steps, laid_before c (settled d) e made (joined rest) (made ++ joined rest) refl n steps before here there, (here, each))
 
-  pub lines_are_laid : (c e : Configuration) (lines : List (List Made)) → Lines s b c lines e
-      → (steps : List ℕ) × (laid s b steps (At (begun c) (answers_of (joined lines)) []) ≡ At (begun e) [] (joined lines))
-  lines_are_laid c e lines h = laid_from c e lines h []
+  pub lines_are_laid : (c e : Configuration) (lines : List (List Made)) → (row : Lines s b c lines e)
+      → (steps : List ℕ) × (laid s b steps (At (begun c) (answers_of (joined lines)) []) ≡ At (begun e) [] (joined lines)) × EachLine s b c e lines row steps []
+  lines_are_laid c e lines row = laid_from c e lines row []

@@ -1,4 +1,4 @@
--- A row of `continue` commands is a row of lines, and the calls among its events are theirs.
+-- A row of `continue` commands is one run, and the calls among its events are that run's.
 use Rattle.std.proofs.Common.{◌≡◌, refl, sym, ap, ◌∙◌, subst, ℕ, zero, suc, List, [], ◌∷◌, ◌++◌, append-nil, inl, inr, Bool, true, false, MatchBool}
 use Rattle.ink_model.specs.Answer.{Reply, Tells, Refuses}
 use Rattle.ink_model.specs.Changed.{Keeps}
@@ -16,8 +16,8 @@ use Rattle.ink_model.specs.declared.host.Change.{Change}
 use Rattle.ink_model.specs.declared.host.Event.{Event}
 use Rattle.ink_model.specs.declared.host.Event.TheVariants as event
 use Rattle.ink_model.specs.declared.passage.Passage.{Passage}
-use Rattle.ink_line.specs.Rows.{Continues, Lines, called, joined, laid}
-use Rattle.ink_line.proofs.Laying.{lines_are_laid}
+use Rattle.ink_line.specs.Rows.{Continues, EachCommand, Passes, called, laid}
+use Rattle.ink_line.proofs.Laying.{laid_before, line_stands}
 
 -- ---- the calls among events
 
@@ -94,21 +94,28 @@ module _ (s : StoryTree) (h : Bindings) where
   same_ready : (c d : Configuration) → Ready c ≡ Ready d → c ≡ d
   same_ready c d e = cc
 
-  -- a row of commands is a row of lines
-  lines_of_row : (n : ℕ) (es : List Event) (old new : State) → Continues s h es n old new → (c e : Configuration) → old.condition ≡ Ready c → new.condition ≡ Ready e
-      → (lines : List (List Made)) × Lines s h.functions c lines e × (called es ≡ joined lines)
-  lines_of_row zero es old new x c e from to = ([], same_ready e c (sym to ∙ (ap (λ (st : State). st.condition) x.1 ∙ from)), ap called x.0)
-  lines_of_row (suc n) es old new (first, others, line, mid, parts, does, on) c e from to =
+  continues_from : (n : ℕ) (es : List Event) (old new : State) → (row : Continues s h es n old new) → (c e : Configuration) → old.condition ≡ Ready c → new.condition ≡ Ready e
+      → (before : List Made)
+      → (steps : List ℕ) × (laid s h.functions steps (At (begun c) (answers_of (called es)) before) ≡ At (begun e) [] (before ++ called es)) × EachCommand s h es n old new row c steps before
+  continues_from zero es old new row c e from to before =
+      let same : c ≡ e = same_ready c e (sym from ∙ (sym (ap (λ (st : State). st.condition) row.1) ∙ to)) in
+      let none : called es ≡ [] = ap called row.0 in (
+        [],
+        ap (λ l. At (begun c) (answers_of l) before) none
+            ∙ (ap (λ d. At (begun d) [] before) same ∙ ap (At (begun e) []) (sym (append-nil before) ∙ ap (λ l. before ++ l) (sym none))),
+        refl,
+      )
+  continues_from (suc n) es old new (first, others, line, mid, parts, does, on) c e from to before =
       let here : Told s h c first mid = continue_told s h c first line old mid old.condition from does in
-      let (rest, lines, same) = lines_of_row n others mid new on (settled here.kept) e here.ready to in (
-        here.made ∷ rest,
-        (here.kept, here.line, lines),
-        ap called parts ∙ (called_joins first others ∙ (ap (λ l. l ++ called others) here.called_so ∙ ap (λ l. here.made ++ l) same)),
+      let (k, passes) = line_stands s h.functions c here.made here.kept here.line before (answers_of (called others)) in
+      let goes : Passes s h.functions c (called first) (settled here.kept) k before (answers_of (called others)) =
+      subst (λ made. Passes s h.functions c made (settled here.kept) k before (answers_of (called others))) (sym here.called_so) passes in
+      let (steps, there, each) = continues_from n others mid new on (settled here.kept) e here.ready to (before ++ called first) in (
+        k ∷ steps,
+        laid_before s h.functions c (settled here.kept) e (called first) (called others) (called es) (ap called parts ∙ called_joins first others) k steps before goes there,
+        (settled here.kept, here.ready, goes, each),
       )
 
-  pub continues_are_laid : (es : List Event) (n : ℕ) (old new : State) → Continues s h es n old new → (c e : Configuration) → old.condition ≡ Ready c → new.condition ≡ Ready e
-      → (steps : List ℕ) × (laid s h.functions steps (At (begun c) (answers_of (called es)) []) ≡ At (begun e) [] (called es))
-  continues_are_laid es n old new x c e from to =
-      let (lines, row, same) = lines_of_row n es old new x c e from to in
-      subst (λ made. (steps : List ℕ) × (laid s h.functions steps (At (begun c) (answers_of made) []) ≡ At (begun e) [] made)) (sym same)
-      (lines_are_laid s h.functions c e lines row)
+  pub continues_are_laid : (es : List Event) (n : ℕ) (old new : State) → (row : Continues s h es n old new) → (c e : Configuration) → old.condition ≡ Ready c → new.condition ≡ Ready e
+      → (steps : List ℕ) × (laid s h.functions steps (At (begun c) (answers_of (called es)) []) ≡ At (begun e) [] (called es)) × EachCommand s h es n old new row c steps []
+  continues_are_laid es n old new row c e from to = continues_from n es old new row c e from to []

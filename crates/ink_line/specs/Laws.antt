@@ -11,21 +11,23 @@ use Rattle.ink_model.specs.Tree.{StoryTree}
 use Rattle.ink_model.specs.declared.host.Event.{Event}
 use Rattle.ink_model.specs.declared.host.Given.{Given}
 use Rattle.ink_line.specs.Look.{Knows, Over, Seeking, found, search}
-use Rattle.ink_line.specs.Rows.{Continues, IsAnswered, Lines, called, extended, joined, laid}
+use Rattle.ink_line.specs.Rows.{Continues, EachCommand, EachLine, IsAnswered, Lines, called, extended, joined, laid}
 
 -- ---- rows of lines
 
 -- Lines one after another, with nothing between, are one run laid end to end: given the answers of all their calls, in order, it
--- uses them all, makes just these calls, each once, and comes to where the last line leaves the story.
+-- uses them all, makes just these calls, each once, and comes to where the last line leaves the story. It begins anew once for each
+-- line, where that line was kept, with that line's calls made.
 abbrev pub LinesAreLaid : Type 0
-LinesAreLaid = (s : StoryTree) (b : Bound) (c e : Configuration) (lines : List (List Made)) → Lines s b c lines e
-    → (steps : List ℕ) × (laid s b steps (At (begun c) (answers_of (joined lines)) []) ≡ At (begun e) [] (joined lines))
+LinesAreLaid = (s : StoryTree) (b : Bound) (c e : Configuration) (lines : List (List Made)) → (row : Lines s b c lines e)
+    → (steps : List ℕ) × (laid s b steps (At (begun c) (answers_of (joined lines)) []) ≡ At (begun e) [] (joined lines)) × EachLine s b c e lines row steps []
 
--- The same of a row of `continue` commands: the calls among its events are the calls of one run.
+-- The same of a row of `continue` commands: the calls among its events are the calls of one run, which begins anew once for each
+-- command, where that command left the story.
 abbrev pub ContinuesAreLaid : Type 0
-ContinuesAreLaid = (s : StoryTree) (h : Bindings) (es : List Event) (n : ℕ) (old new : State) → Continues s h es n old new
+ContinuesAreLaid = (s : StoryTree) (h : Bindings) (es : List Event) (n : ℕ) (old new : State) → (row : Continues s h es n old new)
     → (c e : Configuration) → old.condition ≡ Ready c → new.condition ≡ Ready e
-    → (steps : List ℕ) × (laid s h.functions steps (At (begun c) (answers_of (called es)) []) ≡ At (begun e) [] (called es))
+    → (steps : List ℕ) × (laid s h.functions steps (At (begun c) (answers_of (called es)) []) ≡ At (begun e) [] (called es)) × EachCommand s h es n old new row c steps []
 
 -- ---- calls
 

@@ -5,9 +5,9 @@ use Rattle.ink_model.specs.Command as command
 use Rattle.ink_model.specs.Configuration.{Configuration, begun, settled}
 use Rattle.ink_model.specs.Host.{Bindings, Bound}
 use Rattle.ink_model.specs.Line.{EndsLine}
-use Rattle.ink_model.specs.Run.{Made, Moment, At, Stopped, Faulted, Waits, Kept, run}
+use Rattle.ink_model.specs.Run.{Made, Moment, At, Stopped, Faulted, Waits, Kept, answers_of, run}
 use Rattle.ink_model.specs.Session.{Does}
-use Rattle.ink_model.specs.State.{State}
+use Rattle.ink_model.specs.State.{State, Ready}
 use Rattle.ink_model.specs.Tree.{StoryTree}
 use Rattle.ink_model.specs.declared.host.Event.{Event}
 use Rattle.ink_model.specs.declared.host.Event.TheVariants as event
@@ -39,6 +39,18 @@ abbrev pub laid : StoryTree → Bound → List ℕ → Moment → Moment
 laid s b [] m = m
 laid s b (n ∷ ns) m = laid s b ns (anew (run s b n m))
 
+-- From where a line begins, so many steps of the one run come to where the next one begins: the line's calls are made, and of the
+-- answers only the later ones are left.
+abbrev pub Passes : StoryTree → Bound → Configuration → List Made → Configuration → ℕ → List Made → List (Option Given) → Type 0
+Passes s b c made d n before later = anew (run s b n (At (begun c) (answers_of made ++ later) before)) ≡ At (begun d) later (before ++ made)
+
+-- One entry for each line: it goes from where the line begins to where it was kept.
+abbrev pub EachLine : (s : StoryTree) (b : Bound) (c e : Configuration) (lines : List (List Made)) → Lines s b c lines e → List ℕ → List Made → Type 0
+EachLine s b c e [] row steps before = steps ≡ []
+EachLine s b c e (made ∷ rest) row [] before = ⊥
+EachLine s b c e (made ∷ rest) (d, kept, on) (n ∷ steps) before =
+    Passes s b c made (settled d) n before (answers_of (joined rest)) × EachLine s b (settled d) e rest on steps (before ++ made)
+
 -- ---- commands
 
 -- `continue` so many times, with nothing between, and each was answered with a line
@@ -52,6 +64,15 @@ abbrev pub called : List Event → List Made
 called [] = []
 called (event.Call name arguments gave stamp ∷ es) = record { name = name; arguments = arguments; gave = gave } ∷ called es
 called (event.Saw name stamp value ∷ es) = called es
+
+-- One entry for each command: it goes from where the command found the story to where it left it, and makes the calls among its
+-- events.
+abbrev pub EachCommand : (s : StoryTree) (h : Bindings) (es : List Event) (n : ℕ) (old new : State) → Continues s h es n old new → Configuration → List ℕ → List Made → Type 0
+EachCommand s h es zero old new row c steps before = steps ≡ []
+EachCommand s h es (suc n) old new row c [] before = ⊥
+EachCommand s h es (suc n) old new (first, others, line, mid, parts, does, on) c (k ∷ steps) before =
+    (d : Configuration) × (mid.condition ≡ Ready d) × Passes s h.functions c (called first) d k before (answers_of (called others))
+    × EachCommand s h others n mid new on d steps (before ++ called first)
 
 -- ---- more answers
 

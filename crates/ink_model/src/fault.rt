@@ -83,7 +83,7 @@ pub enum Refusal {
     NoSuchVariable,
     /// The path leads nowhere, or to what it may not.
     NoSuchPath,
-    /// The value cannot be set: it is of another kind, or over its limit.
+    /// The value cannot be set: it is of another kind, or over its limit. Or the name is none of a flow.
     BadValue,
     /// The save does not fit this story, or is none.
     BadSave,
@@ -101,7 +101,7 @@ pub enum Refusal {
     OutOfMemory,
 }
 
-/// Why a command that runs the story gave no passage.
+/// Why a command was not done: it was refused, and nothing has changed; or a fault ended it, with the events up to it.
 #[derive(Drop)]
 pub enum Halt {
     Refused(Refusal),

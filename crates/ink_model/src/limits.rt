@@ -6,7 +6,7 @@ pub const MAX_STORY: usize = 16_777_216;
 /// Containers around one another, the root among them.
 pub const MAX_NESTING: usize = 120;
 
-/// Bytes of a text: of a value, a tag, or a name's value that a host gives.
+/// Bytes of a text: of a value, a tag, or the name of a flow.
 pub const MAX_TEXT: usize = 1_048_576;
 
 /// Values on the evaluation stack.

@@ -1,17 +1,31 @@
 //! What stands at a place of a story that is refused.
 
+ghost use Rattle.std.specs.Prelude.{◌≡◌};
+ghost use Rattle.ink_model.specs.Grammar.{unmarked};
+
 use ink_model::Part;
 use serde_json::Value;
 use std::alloc::Global;
 
-/// The JSON that stands at a place of a story, as it is written compactly; none where nothing can be found there.
-pub fn piece_at(alloc: Global, story: &str, parts: &[Part]) -> Option<String> {
-    let story = Value::from_str(alloc, story).ok()?;
+/// The JSON that stands at a place of a story's bytes, as it is written compactly; none where nothing can be found there.
+pub fn piece_at(alloc: Global, story: &[u8], parts: &[Part]) -> Option<String> {
+    let text = str::from_utf8(without_mark(story)).ok()?;
+    let story = Value::from_str(alloc, text).ok()?;
     let mut piece = story.get("root")?;
     for part in parts {
         piece = inside(piece, part)?;
     }
     piece.to_string(alloc).ok()
+}
+
+// The bytes without the byte order mark.
+fn without_mark(bytes: &[u8]) -> &[u8]
+    ensures { result.now ≡ unmarked bytes.now }
+{
+    match bytes {
+        [0xef, 0xbb, 0xbf, rest @ ..] => rest,
+        _ => bytes,
+    }
 }
 
 // What a container has at an index, or under a name behind its list.

@@ -4,8 +4,7 @@ use Rattle.ink_host.specs.Telling.{Watching}
 use Rattle.ink_host.specs.declared.objects.Called.{Called}
 use Rattle.ink_model.specs.Host.{Bindings}
 use Rattle.ink_model.specs.Tree.{StoryTree}
-use Rattle.ink_player.specs.Ends.{EndsOnce, FailsOnce}
-use Rattle.ink_player.specs.Playing.{OpenFails}
+use Rattle.ink_player.specs.Ends.{EndsOnce, FailsOnce, IsLastLine}
 use Rattle.ink_player.specs.Serving.{Answers}
 use Rattle.ink_player.specs.Words.{Scene}
 use Rattle.ink_player.specs.declared.end.PlayFault.{PlayFault}
@@ -26,10 +25,10 @@ ends_not fault.Write was is h = inl h
 ends_not fault.TooLong was is h = h
 ends_not fault.OutOfMemory was is h = inl h
 
-pub fails_not : (f : PlayFault) (was is : ℕ) → is ≡ was → FailsOnce f was is
-fails_not (play.Story r) was is h = inl h
-fails_not (play.Start f) was is h = inl h
-fails_not (play.Run f) was is h = ends_not f was is h
+pub fails_not : (left left' : Option (List ℕ)) (f : PlayFault) (was is : ℕ) → is ≡ was → FailsOnce left left' f was is
+fails_not left left' (play.Story r) was is h = inl h
+fails_not left left' (play.Start f) was is h = inl h
+fails_not left left' (play.Run f) was is h = ends_not f was is h
 
 -- ---- once
 
@@ -42,7 +41,7 @@ ends_once turn_log refusals state s h line held held' old new fault.TooLong was 
 ends_once turn_log refusals state s h line held held' old new fault.OutOfMemory was is answers once = inr once
 
 -- the story is the last line, and is not played
-pub fails_once : (line : List ℕ) (f : PlayFault) (was is : ℕ) → OpenFails line f → is ≡ after_call true was → FailsOnce f was is
-fails_once line (play.Story r) was is opens once = inr once
-fails_once line (play.Start f) was is opens once = inr once
-fails_once line (play.Run f) was is opens once = absurd opens
+pub fails_once : (left left' : Option (List ℕ)) (f : PlayFault) (was is : ℕ) → IsLastLine left left' f → is ≡ after_call true was → FailsOnce left left' f was is
+fails_once left left' (play.Story r) was is last once = inr (once, last)
+fails_once left left' (play.Start f) was is last once = inr (once, last)
+fails_once left left' (play.Run f) was is (line, consumed, at_end, plain, within, opens) once = absurd opens

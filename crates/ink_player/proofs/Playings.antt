@@ -1,6 +1,6 @@
 -- How a play goes on from its story's line.
 use Rattle.std.proofs.Common.{◌≡◌, ℕ, ◌+◌, ◌-◌, ◌<◌, ◌≤◌, List, [], ◌∷◌, ◌++◌, length, false, Option, Result, Ok, Err, ap, ◌∙◌, sym, refl, subst, inl, inr, arith, append_assoc, append-nil, length-append}
-use Rattle.std.specs.Io.KnownBytes.{IsAtEnd}
+use Rattle.std.specs.Io.KnownBytes.{Consumes, IsAtEnd}
 use Rattle.std.proofs.KnownBytes.{Appends-nil, Consumes-trans}
 use Rattle.ink_model.specs.Bytes.{has_newline}
 use Rattle.ink_model.specs.declared.limits.TheConstants.{MAX_STORY, MAX_INPUT}
@@ -12,6 +12,7 @@ use Rattle.ink_host.specs.declared.objects.Called.{Called}
 use Rattle.ink_protocol.specs.Buffered.{Buffered}
 use Rattle.ink_protocol.specs.Input.{Takes}
 use Rattle.ink_protocol.specs.Lines.{TakesLine, GivesLine}
+use Rattle.ink_player.specs.Ends.{IsLastLine}
 use Rattle.ink_player.specs.Playing.{IsStoryLine, PlaysOn, EndsEarly, PlayFails, PlayEnds, Plays, play_fault, OpenFails, Opens}
 use Rattle.ink_player.specs.Serving.{RunEnds, Runs}
 use Rattle.ink_protocol.specs.Spelled.{HasRoom}
@@ -69,6 +70,11 @@ all_is a b o n line t = record {
   within = t.1;
   whole = inr (ap (λ l. line ++ l) t.2 ∙ append-nil line, refl, t.3);
 }
+
+pub is_last_line : (a b : Option (List ℕ)) (o n : Buffered) (line : List ℕ) (f : PlayFault) → o ≡ fresh → TakesAll a b o n line → OpenFails line f → IsLastLine a b f
+is_last_line a b o n line f e t p =
+    let whole : t.0.takes.got ≡ line = got_is a b o n line e t.0.takes ∙ (ap (λ l. line ++ l) t.2 ∙ append-nil line) in
+    (line, subst (λ l. Consumes a b l) whole t.0.takes.consumed, t.3, t.0.plain, t.1, p)
 
 module _ {P F O : Type 0} (turn_log : F → List Called) (refusals : F → ℕ) (state : O → Watching) (host : Bindings) (old : DeskView P F O) where
   abbrev Played : Option (List ℕ) → Option (List ℕ) → Option (List ℕ) → Option (List ℕ) → Result (DeskView P F O) (PlayEnd P F O) → Type 0

@@ -1,6 +1,10 @@
 -- Whose failure ended a session or a play, and how often its source was at its end.
-use Rattle.std.specs.Prelude.{◌≡◌, ◌⊎◌, ℕ, Bool, true, false, Result, Ok, Err}
+use Rattle.std.specs.Prelude.{◌≡◌, ◌≤◌, ◌⊎◌, ℕ, List, length, Bool, true, false, Option, Result, Ok, Err}
+use Rattle.std.specs.Io.KnownBytes.{Consumes, IsAtEnd}
 use Rattle.ink_host.specs.Desk.{DeskView}
+use Rattle.ink_model.specs.Bytes.{has_newline}
+use Rattle.ink_model.specs.declared.limits.TheConstants.{MAX_STORY}
+use Rattle.ink_player.specs.Playing.{OpenFails}
 use Rattle.ink_player.specs.declared.end.PlayEnd.{PlayEnd}
 use Rattle.ink_player.specs.declared.end.PlayFault.{PlayFault}
 use Rattle.ink_player.specs.declared.end.PlayFault.TheVariants as play
@@ -44,12 +48,22 @@ EndsNext (Ok More) was is = is ≡ was
 EndsNext (Ok Done) was is = is ≡ after_call true was
 EndsNext (Err f) was is = EndsOnce (Err f) was is
 
--- and of a play, whose story may be the last line
-abbrev pub FailsOnce : PlayFault → ℕ → ℕ → Type 0
-FailsOnce (play.Story r) was is = AtMostOnce was is
-FailsOnce (play.Start f) was is = AtMostOnce was is
-FailsOnce (play.Run f) was is = EndsOnce (Err f) was is
+-- The story was the last line: it was read whole, up to the reader's end, and this is why it is not played.
+abbrev pub IsLastLine : Option (List ℕ) → Option (List ℕ) → PlayFault → Type 0
+IsLastLine left left' f =
+    (line : List ℕ) × Consumes left left' line × IsAtEnd left' × (has_newline line ≡ false) × (length line ≤ MAX_STORY) × OpenFails line f
 
-abbrev pub PlayEndsOnce : {P F O : Type 0} → Result (DeskView P F O) (PlayEnd P F O) → ℕ → ℕ → Type 0
-PlayEndsOnce (Ok desk) was is = is ≡ after_call true was
-PlayEndsOnce (Err e) was is = FailsOnce e.fault was is
+-- A story that is not played ends once where it was the last line; not where a newline stands behind it, it is over its limit, or
+-- memory was refused for a byte of it.
+abbrev pub EndsInStory : Option (List ℕ) → Option (List ℕ) → PlayFault → ℕ → ℕ → Type 0
+EndsInStory left left' f was is = (is ≡ was) ⊎ ((is ≡ after_call true was) × IsLastLine left left' f)
+
+-- and of a play, whose story may be the last line
+abbrev pub FailsOnce : Option (List ℕ) → Option (List ℕ) → PlayFault → ℕ → ℕ → Type 0
+FailsOnce left left' (play.Story r) was is = EndsInStory left left' (play.Story r) was is
+FailsOnce left left' (play.Start f) was is = EndsInStory left left' (play.Start f) was is
+FailsOnce left left' (play.Run f) was is = EndsOnce (Err f) was is
+
+abbrev pub PlayEndsOnce : {P F O : Type 0} → Option (List ℕ) → Option (List ℕ) → Result (DeskView P F O) (PlayEnd P F O) → ℕ → ℕ → Type 0
+PlayEndsOnce left left' (Ok desk) was is = is ≡ after_call true was
+PlayEndsOnce left left' (Err e) was is = FailsOnce left left' e.fault was is

@@ -53,7 +53,7 @@ pub fn serve_story<S: Source, T: Sink, P: PureFn, F: TurnFn, O: Watcher>(
     ensures plays { Plays F.log F.refusals O.state (bindings P.meaning desk) desk (S.remaining source.old) (S.remaining source.new) (T.contents sink.old) (T.contents sink.new) result }
     ensures rest { Resting (rests O.state) desk.watchers → Resting (rests O.state) (desk_left result).watchers }
     ensures source { Reports (play_reads_fail result) (S.failures source.old) (S.failures source.new) (S.name source.old) (S.name source.new) }
-    ensures ends { PlayEndsOnce result (S.ends source.old) (S.ends source.new) }
+    ensures ends { PlayEndsOnce (S.remaining source.old) (S.remaining source.new) result (S.ends source.old) (S.ends source.new) }
     ensures sink { Reports (play_writes_fail result) (T.failures sink.old) (T.failures sink.new) (T.name sink.old) (T.name sink.new) }
 {
     let mut ahead = Ahead::new(MAX_INPUT);
@@ -93,13 +93,13 @@ pub fn serve_story<S: Source, T: Sink, P: PureFn, F: TurnFn, O: Watcher>(
 /// run to a step that asks for memory and gets none. The desk is handed back.
 pub fn open_story<P: PureFn, F: TurnFn, O: Watcher>(
     alloc: Global,
-    line: &[u8],
+    bytes: &[u8],
     desk: Desk<P, F, O>,
 ) -> Result<Player<P, F, O>, PlayEnd<P, F, O>>
-    ensures opens { Opens line.now result }
+    ensures opens { Opens bytes.now result }
     ensures desk { OpensDesk desk result }
 {
-    let story = match accepted_story(alloc, line) {
+    let story = match accepted_story(alloc, bytes) {
         Ok(story) => story,
         Err(refusal) => {
             let fault = PlayFault::Story(refusal);
@@ -122,11 +122,11 @@ pub fn open_story<P: PureFn, F: TurnFn, O: Watcher>(
 }
 
 // Reads a story and accepts it.
-fn accepted_story(alloc: Global, line: &[u8]) -> Result<Story, ReadRefusal>
-    ensures ok { IfOk result (λ s. rules.accepted_story line.now ≡ Ok (story_tree s)) }
-    ensures err { IfErr result (IsRefused line.now) }
+fn accepted_story(alloc: Global, bytes: &[u8]) -> Result<Story, ReadRefusal>
+    ensures ok { IfOk result (λ s. rules.accepted_story bytes.now ≡ Ok (story_tree s)) }
+    ensures err { IfErr result (IsRefused bytes.now) }
 {
-    let raw = match read_story(alloc, line) {
+    let raw = match read_story(alloc, bytes) {
         Ok(raw) => raw,
         Err(refusal) => return Err(refusal),
     };

@@ -74,8 +74,7 @@ fn place_words(alloc: Global, place: &Place) -> Result<String, AllocError> {
 
 // The content that stands there, or how long it is where that is too much to show.
 fn piece_words(alloc: Global, bytes: &[u8], parts: &[Part]) -> Option<String> {
-    let story = str::from_utf8(bytes).ok()?;
-    let piece = piece_at(alloc, story, parts)?;
+    let piece = piece_at(alloc, bytes, parts)?;
     if piece.len() > PIECE {
         return format!(in alloc; "There stands a piece of {} bytes.", piece.len()).ok();
     }

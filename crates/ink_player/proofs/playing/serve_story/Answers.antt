@@ -2,7 +2,7 @@ use Rattle.std.proofs.Common.{◌∙◌, ap, true, Ok, Err}
 use Rattle.ink_player.specs.Words.{bindings}
 use Rattle.ink_protocol.specs.Ends.{after_call}
 use Rattle.ink_player.proofs.Endings.{ends_from, fails_not, fails_once}
-use Rattle.ink_player.proofs.Playings.{no_story, unopened, unopened_last, plays_last, plays_on, plays_short, opens_as}
+use Rattle.ink_player.proofs.Playings.{is_last_line, no_story, unopened, unopened_last, plays_last, plays_on, plays_short, opens_as}
 use Rattle.ink_player.proofs.Sessions.{runs_for}
 use Rattle.ink_player.proofs.playing.serve_story.Goals as goal
 
@@ -43,10 +43,10 @@ returns-clause-plays g c =
 -- ---- how often the source was at its end
 
 pub returns-in-Err-clause-ends : goal.returns-in-Err-clause-ends
-returns-in-Err-clause-ends g c = fails_not c.fault_of-fault.result _ _ c.in-Err.ensures.ends
+returns-in-Err-clause-ends g c = fails_not _ _ c.fault_of-fault.result _ _ c.in-Err.ensures.ends
 
 pub returns-in-Err-open_story-clause-ends : goal.returns-in-Err-open_story-clause-ends
-returns-in-Err-open_story-clause-ends g c = fails_not c.in-Err-open_story.end.fault _ _ (rw c.in-Whole.is at c.in-Ok.ensures.ends)
+returns-in-Err-open_story-clause-ends g c = fails_not _ _ c.in-Err-open_story.end.fault _ _ (rw c.in-Whole.is at c.in-Ok.ensures.ends)
 
 pub returns-in-Ok-outcome-clause-ends : goal.returns-in-Ok-outcome-clause-ends
 returns-in-Ok-outcome-clause-ends g c = c.in-Ok-outcome.ensures.ends ∙ ap (after_call true) (rw c.in-Whole.is at c.in-Ok.ensures.ends)
@@ -58,4 +58,8 @@ pub returns-in-Ok-open_story-2-clause-ends : goal.returns-in-Ok-open_story-2-cla
 returns-in-Ok-open_story-2-clause-ends g c = rw c.in-Last.is at c.in-Ok.ensures.ends
 
 pub returns-clause-ends : goal.returns-clause-ends
-returns-clause-ends g c = fails_once _ c.in-Err-open_story-2.end.fault _ _ c.in-Err-open_story-2.ensures.opens (rw c.in-Last.is at c.in-Ok.ensures.ends)
+returns-clause-ends g c =
+    fails_once _ _ c.in-Err-open_story-2.end.fault _ _
+    (is_last_line _ _ _ _ c.in-Last.line.items c.in-Err-open_story-2.end.fault c.new-ahead.ensures (rw c.in-Last.is at c.in-Ok.ensures.gives)
+    (opens_as _ _ (Err c.in-Err-open_story-2.end) c.deref-in-Last.ensures.value c.in-Err-open_story-2.ensures.opens))
+    (rw c.in-Last.is at c.in-Ok.ensures.ends)
