@@ -128,6 +128,9 @@ def runs(program, folder):
     with open(os.path.join(folder, "bad.json"), "w", encoding="utf-8") as out:
         json.dump(dict(STORY, root=["done", {"k": ["^a", 1.5, None]}]), out)
     yield "a story that is refused", run(program, folder, ["bad.json"], ""), ("", BAD, 2)
+    with open(os.path.join(folder, "marked.json"), "w", encoding="utf-8-sig") as out:
+        json.dump(dict(STORY, root=["done", {"k": ["^a", 1.5, None]}]), out)
+    yield "a refused story behind a byte order mark", run(program, folder, ["marked.json"], ""), ("", BAD, 2)
 
 
 def main():
