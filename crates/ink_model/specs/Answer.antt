@@ -1,5 +1,5 @@
 -- Answers (docs/PROTOCOL.md, "Answers").
-use Rattle.std.specs.Prelude.{ℕ, ℤ, List, [], ◌∷◌, ◌++◌, map, codes, Bool, true, false, Result, Ok, Err}
+use Rattle.std.specs.Prelude.{ℕ, ℤ, List, [], ◌∷◌, ◌++◌, map, codes, Bool, true, false, if◌then◌else◌, Result, Ok, Err}
 pub use Rattle.ink_model.specs.Events.{items_of}
 use Rattle.ink_model.specs.ValueJson.{value_data}
 use Rattle.serde_json.specs.Data.{Data, boolean, number, string, array, object, no_members, member}
@@ -13,7 +13,9 @@ use Rattle.ink_model.specs.declared.fault.Refusal.{Refusal}
 use Rattle.ink_model.specs.declared.fault.Refusal.TheVariants as refusal
 use Rattle.ink_model.specs.declared.fault.Halt.{Halt}
 use Rattle.ink_model.specs.declared.fault.Halt.TheVariants as halt
+use Rattle.ink_model.specs.declared.fault.ReadRefusal.{ReadRefusal}
 use Rattle.ink_model.specs.Events.{event_data}
+use Rattle.ink_model.specs.Path.{place_text}
 use Rattle.ink_model.specs.declared.host.Event.{Event}
 use Rattle.ink_model.specs.declared.passage.Passage.{Passage}
 use Rattle.ink_model.specs.declared.value.Value.{Value}
@@ -107,6 +109,17 @@ refusal_name refusal.DefaultFlow = codes "DefaultFlow"
 refusal_name refusal.TooManyFlows = codes "TooManyFlows"
 refusal_name (refusal.Broken f) = codes "Broken"
 refusal_name refusal.OutOfMemory = codes "OutOfMemory"
+
+-- ---- printed
+
+-- a refused story: why, and where of what stands at one place
+abbrev pub refused_story_text : ReadRefusal → List ℕ
+refused_story_text r = cause_name r.cause ++ (if is_of_a_place r.cause then codes " at " ++ place_text r.place else [])
+
+-- why a command was not done
+abbrev pub halt_text : Halt → List ℕ
+halt_text (halt.Refused r) = codes "refused: " ++ refusal_name r
+halt_text (halt.Fault f events) = codes "fault: " ++ fault_name f
 
 -- ---- replies as JSON
 

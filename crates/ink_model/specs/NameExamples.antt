@@ -1,9 +1,13 @@
 -- The names that answers and the program print, each proved by computation.
-use Rattle.std.specs.Prelude.{◌≡◌, codes, refl}
-use Rattle.ink_model.specs.Answer.{cause_name, fault_name, refusal_name}
+use Rattle.std.specs.Prelude.{◌≡◌, [], ◌∷◌, codes, refl}
+use Rattle.std.specs.Fmt.{digits}
+use Rattle.ink_model.specs.Answer.{cause_name, fault_name, halt_text, refusal_name, refused_story_text}
+use Rattle.ink_model.specs.Path.{place_text}
 use Rattle.ink_model.specs.declared.fault.Cause.TheVariants as cause
 use Rattle.ink_model.specs.declared.fault.Fault.TheVariants as fault
+use Rattle.ink_model.specs.declared.fault.Halt.TheVariants as halt
 use Rattle.ink_model.specs.declared.fault.Refusal.TheVariants as refusal
+use Rattle.ink_model.specs.declared.place.Part.TheVariants.{Index, Name}
 
 -- ---- causes of refused stories
 
@@ -107,3 +111,28 @@ refusal_out_of_memory = refl
 -- whatever broke the player
 refusal_broken : refusal_name (refusal.Broken fault.Divide) ≡ codes "Broken"
 refusal_broken = refl
+
+-- ---- what is printed
+
+root_printed : place_text [] ≡ codes "root"
+root_printed = refl
+
+place_printed : place_text (Name (codes "kitchen") ∷ Index 0 ∷ Index 12 ∷ []) ≡ codes "kitchen.0.12"
+unfolding digits
+place_printed = refl
+
+list_printed : refused_story_text (record { cause = cause.Unsupported; place = Name (codes "kitchen") ∷ Index 0 ∷ Index 12 ∷ [] }) ≡ codes "Unsupported at kitchen.0.12"
+unfolding digits
+list_printed = refl
+
+large_root_printed : refused_story_text (record { cause = cause.Limit; place = [] }) ≡ codes "Limit at root"
+large_root_printed = refl
+
+version_printed : refused_story_text (record { cause = cause.Version; place = [] }) ≡ codes "Version"
+version_printed = refl
+
+refusal_printed : halt_text (halt.Refused refusal.CannotContinue) ≡ codes "refused: CannotContinue"
+refusal_printed = refl
+
+fault_printed : halt_text (halt.Fault fault.Divide []) ≡ codes "fault: Divide"
+fault_printed = refl

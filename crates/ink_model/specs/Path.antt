@@ -111,3 +111,8 @@ part_text (Name n) = n
 
 abbrev pub path_text : Path → List ℕ
 path_text p = (if p.relative then 46 ∷ [] else []) ++ joined 46 (map part_text p.parts)
+
+-- a place as it is printed: its parts joined by dots, or `root`
+abbrev pub place_text : List Part → List ℕ
+place_text [] = codes "root"
+place_text (part ∷ parts) = joined 46 (map part_text (part ∷ parts))

@@ -1,6 +1,6 @@
 //! Refusals and faults.
 
-ghost use Rattle.std.specs.Prelude.{◌≡◌};
+ghost use Rattle.std.specs.Prelude.{◌≡◌, Some};
 ghost use Rattle.ink_model.specs.declared.fault.Fault.TheVariants.{OutOfMemory};
 
 use crate::host::Event;
@@ -138,6 +138,10 @@ impl Cause {
 }
 
 impl fmt::Display for Cause {
+    ghost use Rattle.ink_model.specs.Answer.{cause_name};
+
+    ghost output = { λ c. Some (cause_name c) };
+
     fn fmt<W: fmt::Write>(&self, f: &mut fmt::Formatter<W>) -> fmt::Result {
         f.write_str(self.name())
     }
@@ -172,6 +176,10 @@ impl Fault {
 }
 
 impl fmt::Display for Fault {
+    ghost use Rattle.ink_model.specs.Answer.{fault_name};
+
+    ghost output = { λ f. Some (fault_name f) };
+
     fn fmt<W: fmt::Write>(&self, f: &mut fmt::Formatter<W>) -> fmt::Result {
         f.write_str(self.name())
     }
@@ -202,6 +210,10 @@ impl Refusal {
 }
 
 impl fmt::Display for Refusal {
+    ghost use Rattle.ink_model.specs.Answer.{refusal_name};
+
+    ghost output = { λ r. Some (refusal_name r) };
+
     fn fmt<W: fmt::Write>(&self, f: &mut fmt::Formatter<W>) -> fmt::Result {
         f.write_str(self.name())
     }
@@ -223,6 +235,10 @@ impl ReadRefusal {
 
 /// The cause, and where it is of one place ` at ` with that.
 impl fmt::Display for ReadRefusal {
+    ghost use Rattle.ink_model.specs.Answer.{refused_story_text};
+
+    ghost output = { λ r. Some (refused_story_text r) };
+
     fn fmt<W: fmt::Write>(&self, f: &mut fmt::Formatter<W>) -> fmt::Result {
         f.write_str(self.cause.name())?;
         if self.cause.is_of_a_place() {
@@ -230,6 +246,20 @@ impl fmt::Display for ReadRefusal {
             self.place.fmt(f)?;
         }
         Ok(())
+    }
+}
+
+/// `refused: ` and the refusal's name, or `fault: ` and the fault's.
+impl fmt::Display for Halt {
+    ghost use Rattle.ink_model.specs.Answer.{halt_text};
+
+    ghost output = { λ h. Some (halt_text h) };
+
+    fn fmt<W: fmt::Write>(&self, f: &mut fmt::Formatter<W>) -> fmt::Result {
+        match self {
+            Halt::Refused(refusal) => write!(f, "refused: {refusal}"),
+            Halt::Fault { fault, events: _ } => write!(f, "fault: {fault}"),
+        }
     }
 }
 

@@ -2,12 +2,13 @@
 
 ghost use Rattle.std.specs.Prelude.{◌≡◌, IfOk, OnErr};
 ghost use Rattle.ink_model.specs.Host.{value_given};
+ghost use Rattle.ink_model.specs.declared.host.HostFault.TheVariants as fault;
 
 use crate::seq::Seq;
 use crate::shared::Shared;
 use crate::text::Text;
 use crate::value::Value;
-use std::alloc::{AllocError, Global};
+use std::alloc::{AllocError, AllocFailed, Global};
 
 /// What a host object answers.
 #[derive(Drop)]
@@ -75,6 +76,22 @@ pub enum HostFault {
     Refused,
     #[error("OutOfMemory")]
     OutOfMemory,
+}
+
+impl From<AllocError> for HostFault {
+    ghost from_gives = { λ _ e. e ≡ fault.OutOfMemory };
+
+    fn from(_refused: AllocError) -> HostFault {
+        HostFault::OutOfMemory
+    }
+}
+
+impl<T: Drop> From<AllocFailed<T>> for HostFault {
+    ghost from_gives = { λ _ e. e ≡ fault.OutOfMemory };
+
+    fn from(_refused: AllocFailed<T>) -> HostFault {
+        HostFault::OutOfMemory
+    }
 }
 
 /// What happened between a player and the objects of its host: a turn function was called and gave an answer, none where it

@@ -1,6 +1,6 @@
 //! Places in a story, and paths to them.
 
-ghost use Rattle.std.specs.Prelude.{◌≡◌, [], ◌∷◌, ◌++◌, IfOk, OnOk, OnErr};
+ghost use Rattle.std.specs.Prelude.{◌≡◌, [], ◌∷◌, ◌++◌, Some, IfOk, OnOk, OnErr};
 
 use crate::seq::Seq;
 use crate::text::Text;
@@ -26,6 +26,20 @@ impl Part {
                 let copy = name.clone_in(alloc)?;
                 Ok(Part::Name(copy))
             }
+        }
+    }
+}
+
+/// The index, or the name.
+impl fmt::Display for Part {
+    ghost use Rattle.ink_model.specs.Path.{part_text};
+
+    ghost output = { λ part. Some (part_text part) };
+
+    fn fmt<W: fmt::Write>(&self, f: &mut fmt::Formatter<W>) -> fmt::Result {
+        match self {
+            Part::Index(index) => write!(f, "{index}"),
+            Part::Name(name) => f.write_str(name.as_str()),
         }
     }
 }
@@ -93,18 +107,17 @@ impl Place {
 
 /// The parts with dots between, or `root`.
 impl fmt::Display for Place {
+    ghost use Rattle.ink_model.specs.Path.{place_text};
+
+    ghost output = { λ p. Some (place_text p) };
+
     fn fmt<W: fmt::Write>(&self, f: &mut fmt::Formatter<W>) -> fmt::Result {
-        if self.parts.is_empty() {
+        let Some((first, rest)) = self.parts().split_first() else {
             return f.write_str("root");
-        }
-        for (depth, part) in self.parts().iter().enumerate() {
-            if depth > 0 {
-                f.write_str(".")?;
-            }
-            match part {
-                Part::Index(index) => write!(f, "{index}")?,
-                Part::Name(name) => f.write_str(name.as_str())?,
-            }
+        };
+        first.fmt(f)?;
+        for part in rest {
+            write!(f, ".{part}")?;
         }
         Ok(())
     }

@@ -8,3 +8,4 @@ pub mod Saving
 pub mod Loading
 pub mod Passages
 pub mod Extents
+pub mod Printed

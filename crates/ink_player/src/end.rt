@@ -1,8 +1,12 @@
 //! How plays end before their reader does.
 
+ghost use Rattle.std.specs.Prelude.{Some};
+ghost use Rattle.ink_player.specs.Printed.{play_fault_text};
+
 use ink_host::Desk;
 use ink_model::{Fault, ReadRefusal};
 use ink_protocol::RunFault;
+use std::fmt;
 
 /// Why a story could not be played to its reader's end.
 #[derive(Drop)]
@@ -15,9 +19,32 @@ pub enum PlayFault {
     Run(RunFault),
 }
 
+/// `story refused: `, `story fault: ` or `run fault: `, and behind it which one, as the program says it (docs/PROTOCOL.md, "The
+/// program").
+impl fmt::Display for PlayFault {
+    ghost output = { λ fault. Some (play_fault_text fault) };
+
+    fn fmt<W: fmt::Write>(&self, f: &mut fmt::Formatter<W>) -> fmt::Result {
+        match self {
+            PlayFault::Story(refusal) => write!(f, "story refused: {refusal}"),
+            PlayFault::Start(fault) => write!(f, "story fault: {fault}"),
+            PlayFault::Run(fault) => write!(f, "run fault: {}", fault.name()),
+        }
+    }
+}
+
 /// A story that was not played to its reader's end: why, and the desk.
 #[derive(Drop)]
 pub struct PlayEnd<P, F, O> {
     pub fault: PlayFault,
     pub desk: Desk<P, F, O>,
+}
+
+/// Why, as its fault prints.
+impl<P, F, O> fmt::Display for PlayEnd<P, F, O> {
+    ghost output = { λ end. Some (play_fault_text end.fault) };
+
+    fn fmt<W: fmt::Write>(&self, f: &mut fmt::Formatter<W>) -> fmt::Result {
+        self.fault.fmt(f)
+    }
 }

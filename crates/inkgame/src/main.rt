@@ -1,11 +1,12 @@
 //! A small game that plays its story as any game would: it binds objects of its own, shows line by line what comes and then the
-//! choices, and takes a choice for each line of its input, which is the choice's number (docs/HOST.md).
+//! choices, and takes a choice for each line of its input, which is the choice's number (docs/HOST.md). A line `s` saves the game,
+//! and `l` goes back to that save, also after a fault.
 #![tactic(auto)]
 
 mod objects;
 mod story;
 
-use ink_player::{Desk, Halt, Passage, PlayEnd, PlayFault, Player, Refusal, open_story};
+use ink_player::{Desk, Passage, PlayEnd, PlayFault, Player, Refusal, Shown, Text, open_story};
 use objects::{Die, Inn, Purse};
 use std::alloc::{AllocError, Global};
 use std::io;
@@ -60,9 +61,7 @@ fn main(rt: HostRuntime) -> ExitCode {
 fn complain(rt: &impl Eprint, fault: &GameFault) -> io::Result<()> {
     match fault {
         GameFault::Memory => eprintln!(rt; "inkgame: out of memory"),
-        GameFault::Story(PlayFault::Story(why)) => eprintln!(rt; "inkgame: story refused: {why}"),
-        GameFault::Story(PlayFault::Start(why)) => eprintln!(rt; "inkgame: story fault: {why}"),
-        GameFault::Story(PlayFault::Run(why)) => eprintln!(rt; "inkgame: run fault: {why}"),
+        GameFault::Story(why) => eprintln!(rt; "inkgame: {why}"),
         GameFault::Terminal => eprintln!(rt; "inkgame: reading or writing failed"),
     }
 }
@@ -97,15 +96,58 @@ fn play<R: Print + Drop>(
     alloc: Global,
     game: &mut Game<R>,
 ) -> Result<(), GameFault> {
+    let mut saved: Option<Text> = None;
     tell(rt, game)?;
     for line in rt.lines(alloc) {
         let line = line?;
-        match line.trim().parse::<u32>() {
-            Ok(number) => take(rt, game, number)?,
-            Err(_) => println!(rt; "There is no such choice.")?,
+        match line.trim() {
+            "s" => save(rt, game, &mut saved)?,
+            "l" => load(rt, game, &saved)?,
+            word => match word.parse::<u32>() {
+                Ok(number) => take(rt, game, number)?,
+                Err(_) => println!(rt; "There is no such choice.")?,
+            },
         }
     }
     Ok(())
+}
+
+/// Saves the game. A save is a text, which a larger game would write to a file.
+fn save<R: Print + Drop>(
+    rt: &impl Print,
+    game: &Game<R>,
+    saved: &mut Option<Text>,
+) -> io::Result<()> {
+    match game.save_text() {
+        Ok(text) => {
+            *saved = Some(text);
+            println!(rt; "Saved.")
+        }
+        Err(refusal) => println!(rt; "{refusal}"),
+    }
+}
+
+/// Goes back to the save, and shows the choices that are open there. What the watchers saw is told by then.
+fn load<R: Print + Drop>(
+    rt: &impl Print,
+    game: &mut Game<R>,
+    saved: &Option<Text>,
+) -> io::Result<()> {
+    let Some(save) = saved else {
+        return println!(rt; "There is no save.");
+    };
+    match game.load_text(save.as_str()) {
+        Ok(_events) => offer(rt, game),
+        Err(halt) => println!(rt; "{halt}"),
+    }
+}
+
+/// Shows the choices that are open.
+fn offer<R: Print + Drop>(rt: &impl Print, game: &Game<R>) -> io::Result<()> {
+    match game.choices() {
+        Ok(choices) => list(rt, choices.as_slice()),
+        Err(refusal) => println!(rt; "{refusal}"),
+    }
 }
 
 /// Takes a choice, and shows what comes; or tells why it was not taken.
@@ -127,17 +169,21 @@ fn tell<R: Print + Drop>(rt: &impl Print, game: &mut Game<R>) -> io::Result<()> 
                     return Ok(());
                 }
             }
-            Err(Halt::Refused(refusal)) => return println!(rt; "{refusal}"),
-            Err(Halt::Fault { fault, events: _ }) => return println!(rt; "{fault}"),
+            Err(halt) => return println!(rt; "{halt}"),
         }
     }
     Ok(())
 }
 
-/// Shows a line, and behind the last one the choices by their numbers.
+/// Shows a line, and behind the last one the choices.
 fn show(rt: &impl Print, line: &Passage) -> io::Result<()> {
     print!(rt; "{}", line.text.as_str())?;
-    for (number, choice) in line.choices.as_slice().iter().enumerate() {
+    list(rt, line.choices.as_slice())
+}
+
+/// Shows choices by their numbers.
+fn list(rt: &impl Print, choices: &[Shown]) -> io::Result<()> {
+    for (number, choice) in choices.iter().enumerate() {
         println!(rt; "  {number}: {}", choice.text.as_str())?;
     }
     Ok(())

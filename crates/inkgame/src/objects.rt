@@ -23,10 +23,7 @@ impl PureFn for Inn {
     ghost meaning = { λ inn arguments. Some inn.name };
 
     fn ask(&self, _arguments: &[Value]) -> Result<Given, HostFault> {
-        match self.name.clone_in(self.alloc) {
-            Ok(name) => Ok(name),
-            Err(_) => Err(HostFault::OutOfMemory),
-        }
+        Ok(self.name.clone_in(self.alloc)?)
     }
 }
 

@@ -21,18 +21,9 @@ pub(crate) fn refuse_file(rt: &impl Eprint) -> u8 {
 
 /// Tells why the play ended, and gives the exit status.
 pub(crate) fn tell(rt: &impl Eprint, fault: &PlayFault) -> u8 {
+    let _ = eprintln!(rt; "inkplay: {fault}");
     match fault {
-        PlayFault::Story(refusal) => {
-            let _ = eprintln!(rt; "inkplay: story refused: {refusal}");
-            REFUSED
-        }
-        PlayFault::Start(fault) => {
-            let _ = eprintln!(rt; "inkplay: story fault: {fault}");
-            REFUSED
-        }
-        PlayFault::Run(fault) => {
-            let _ = eprintln!(rt; "inkplay: run fault: {fault}");
-            RUN_FAULT
-        }
+        PlayFault::Story(_) | PlayFault::Start(_) => REFUSED,
+        PlayFault::Run(_) => RUN_FAULT,
     }
 }

@@ -41,10 +41,7 @@ impl PureFn for Constant {
 
     fn ask(&self, _arguments: &[Value]) -> Result<Given, HostFault> {
         match &self.deed {
-            Deed::Gives(given) => match given.clone_in(self.alloc) {
-                Ok(copy) => Ok(copy),
-                Err(_) => Err(HostFault::OutOfMemory),
-            },
+            Deed::Gives(given) => Ok(given.clone_in(self.alloc)?),
             Deed::Refuses => Err(HostFault::Refused),
             Deed::FindsNoMemory => Err(HostFault::OutOfMemory),
         }

@@ -23,7 +23,7 @@ use crate::shown::{show_done, show_passage, show_text};
 use ink_check::{Story, check};
 use ink_host::{PureFn, TurnFn, Watcher};
 use ink_json::read_story;
-use ink_model::Refusal;
+use ink_model::{Fault, Refusal};
 use ink_player::{Desk, PlayFault, Player, open_story};
 use inkcases::{
     NoAnswer, Questions, Report, Table, Tally, ask_below, expanded, first_line, first_word,
@@ -140,7 +140,7 @@ impl Questions for Called<'_> {
 
 // ---- calls of a story
 
-/// Opens a story. Where its declarations fault the story is handed back.
+/// Opens a story. Where its declarations fault the story is handed back, and what is answered is how that prints.
 fn open(said: &mut Report, story: &str) -> Result<(), NoAnswer> {
     let story = accepted(said.alloc(), story)?;
     let desk: Desk<Constant, Script, Witness> = Desk::new(said.alloc());
@@ -149,7 +149,10 @@ fn open(said: &mut Report, story: &str) -> Result<(), NoAnswer> {
             let _desk = player.close();
             said.put("opened");
         }
-        Err(end) => said.halt(NoAnswer::from(end.fault)),
+        Err(end) => match end.fault {
+            Fault::OutOfMemory => said.refuse(),
+            _ => said.show(end),
+        },
     }
     Ok(())
 }
