@@ -29,7 +29,7 @@ module _ (s : StoryTree) where
   stand_all [] h = refl
   stand_all (t ∷ ts) h = rw (sym (some_mapped (place_of s) t.frame.place) ∙ (any_place s (option_map (place_of s) t.frame.place) h.0.place).1) (stand_all ts h.1)
 
-  stand_build : (ts : List (ThreadOf (List Part))) → AllByRecursion (ThreadStands s) ts → AllByRecursion (ThreadBuilds s) ts
+  pub stand_build : (ts : List (ThreadOf (List Part))) → AllByRecursion (ThreadStands s) ts → AllByRecursion (ThreadBuilds s) ts
   stand_build [] h = tt
   stand_build (t ∷ ts) h = ((h.0.thread, (any_place s t.frame.place h.0.place).0), stand_build ts h.1)
 
@@ -51,7 +51,7 @@ module _ (s : StoryTree) where
   flow_from None (t ∷ ts) h = absurd (stopped_alone (reverse (map (map_thread (place_of s)) ts)) (map_thread (place_of s) t)
       (subst (FlowStands s None) (reverse-append (map_thread (place_of s) t ∷ []) (map (map_thread (place_of s)) ts)) h))
 
-  any_flow : (o : Option (List Part)) (us : List (ThreadOf (List Part))) → FlowStands s o us → AnyPlace s o
+  pub any_flow : (o : Option (List Part)) (us : List (ThreadOf (List Part))) → FlowStands s o us → AnyPlace s o
   any_flow None us h = tt
   any_flow (Some p) us h = h
 

@@ -9,4 +9,5 @@ pub mod Numbering
 pub mod Joining
 pub mod Shown
 pub mod Gathers
+pub mod Asking
 pub mod Whole

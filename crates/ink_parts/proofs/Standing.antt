@@ -75,7 +75,7 @@ module _ (s : StoryTree) where
   stand_all [] h = refl
   stand_all (f ∷ fs) h = rw (sym (some_mapped (place_of s) f.place) ∙ (any_place s (option_map (place_of s) f.place) h.0.1).1) (stand_all fs h.1)
 
-  stand_build : (fs : List (FrameOf (List Part))) → AllByRecursion (FrameStands s) fs → AllByRecursion (FrameBuilds s) fs
+  pub stand_build : (fs : List (FrameOf (List Part))) → AllByRecursion (FrameStands s) fs → AllByRecursion (FrameBuilds s) fs
   stand_build [] h = tt
   stand_build (f ∷ fs) h = ((h.0.0, (any_place s f.place h.0.1).0), stand_build fs h.1)
 

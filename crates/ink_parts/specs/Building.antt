@@ -2,7 +2,7 @@
 use Rattle.std.specs.Prelude.{◌≡◌, ◌≤◌, ◌⊎◌, List, [], ◌∷◌, Bool, true, false, Option, Some, None, is_some, IsTrue}
 use Rattle.ink_model.specs.Bytes.{fits_text}
 use Rattle.ink_model.specs.Configuration.{ChoiceOf}
-use Rattle.ink_model.specs.Frames.{FrameOf, ThreadOf}
+use Rattle.ink_model.specs.Frames.{FrameOf, ThreadOf, ThreadsOf}
 use Rattle.ink_model.specs.Tree.{StoryTree}
 use Rattle.ink_model.specs.declared.limits.TheConstants.{MAX_SECTIONS}
 use Rattle.ink_model.specs.declared.place.Part.{Part}
@@ -31,9 +31,28 @@ FirstAsks fits asks (b ∷ bs) = fits b ⊎ asks b
 abbrev pub FrameAsks : StoryTree → FrameOf (List Part) → Type 0
 FrameAsks s f = (f.depth ≤ MAX_SECTIONS) × AnyPlace s f.place × FirstAsks (RowFits s) (RowFits s) f.temps
 
--- and for a choice: its text is within the limit, and its target is a place of the story
+-- of a top one and those below it, the nearest first, the bottom one
+abbrev pub bottom : {B : Type 0} → B → List B → B
+bottom b [] = b
+bottom b (c ∷ cs) = bottom c cs
+
+-- for a thread: its previous place is one of the story, or none, and its bottom frame fits, or asks
+abbrev pub ThreadAsks : StoryTree → ThreadOf (List Part) → Type 0
+ThreadAsks s t = AnyPlace s t.previous × (FrameBuilds s (bottom t.frame t.below) ⊎ FrameAsks s (bottom t.frame t.below))
+
+-- for threads: the bottom one asks
+abbrev pub ThreadsAsk : StoryTree → ThreadsOf (List Part) → Type 0
+ThreadsAsk s ts = ThreadAsks s (bottom ts.thread ts.below)
+
+-- for a list and what comes after it: its first element asks; where it has none, what comes after it does
+abbrev pub ListAsks : {B : Type 0} → (B → Type 0) → List B → Type 0 → Type 0
+ListAsks asks [] later = later
+ListAsks asks (b ∷ bs) later = asks b
+
+-- for a choice: its text is within the limit, its target is a place of the story, and its first tag is within the limit; where it
+-- has none, its thread asks
 abbrev pub ChoiceAsks : StoryTree → ChoiceOf (List Part) → Type 0
-ChoiceAsks s c = IsTrue (fits_text c.text) × PlaceFits s c.target
+ChoiceAsks s c = IsTrue (fits_text c.text) × PlaceFits s c.target × ListAsks (λ t. IsTrue (fits_text t)) c.tags (ThreadAsks s c.thread)
 
 -- a thread is at a place
 abbrev pub placed : ThreadOf Spot → Bool

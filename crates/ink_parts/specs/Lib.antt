@@ -2,4 +2,5 @@ pub mod Words
 pub mod Building
 pub mod Counted
 pub mod Gathered
+pub mod Asks
 pub mod Parts

@@ -3,7 +3,7 @@
 ghost use Rattle.std.specs.Prelude.{◌≡◌, IfOk, OnErr, map};
 ghost use Rattle.ink_model.specs.Configuration.{map_choice};
 ghost use Rattle.ink_parts.specs.Building.{Builds, ChoiceAsks, FirstAsks};
-ghost use Rattle.ink_model.specs.Save.Sound.{ChoiceFits, ChoicesFit, GlobalsFit, StackFits, ValueFits};
+ghost use Rattle.ink_model.specs.Save.Sound.{ChoiceFits, ChoicesFit, GlobalsFit, RowFits, StackFits, ValueFits};
 ghost use Rattle.ink_tree.specs.Nodes.{place_of, story_tree};
 
 use crate::building::{Built, build_all};
@@ -32,7 +32,7 @@ pub fn build_stack(
 }
 
 /// The list of these choices; none where one does not fit, or there are too many. The one error is a refused request for
-/// memory, which is made once the first one fits, or its text does and its target is a place of the story.
+/// memory, which is made once the first one fits, or asks for some.
 pub fn build_choices(
     alloc: Global,
     tree: &Tree,
@@ -49,13 +49,14 @@ pub fn build_choices(
 }
 
 /// The globals of these rows; none where a value does not fit, or a name stands twice. The one error is a refused request for
-/// memory.
+/// memory, which is made once the first value fits.
 pub fn build_globals(
     alloc: Global,
     tree: &Tree,
     rows: &[(Text, SavedValue)],
 ) -> Result<Option<Globals>, AllocError>
-    ensures { let s = story_tree tree.now in IfOk result (λ made. Builds (λ v. v.rows) (GlobalsFit s) rows.now made) }
+    ensures builds { let s = story_tree tree.now in IfOk result (λ made. Builds (λ v. v.rows) (GlobalsFit s) rows.now made) }
+    ensures memory { let s = story_tree tree.now in OnErr result (FirstAsks (RowFits s) (RowFits s) rows.now) }
 {
     let mut made = Globals::new(alloc);
     for row in rows {

@@ -1,12 +1,13 @@
 //! Visits and turns that a save spells, in a story.
 
-ghost use Rattle.std.specs.Prelude.{◌≡◌, ◌≤◌, ◌<◌, ◌+◌, ◌++◌, ◌∷◌, [], IfOk, IfSome, OnOk, length, nat_le, true};
+ghost use Rattle.std.specs.Prelude.{◌≡◌, ◌≤◌, ◌<◌, ◌+◌, ◌++◌, ◌∷◌, [], IfOk, IfSome, OnErr, OnOk, length, nat_le, true};
 ghost use Rattle.ink_model.specs.Entered.{flags_at};
 ghost use Rattle.ink_model.specs.Places.{places};
 ghost use Rattle.ink_model.specs.Save.Sound.{CountsFit, RowCounts, RowsCount};
 ghost use Rattle.ink_model.specs.Tree.{at};
 ghost use Rattle.ink_model.specs.declared.limits.TheConstants.{MAX_COUNT};
-ghost use Rattle.ink_parts.specs.Building.{Builds};
+ghost use Rattle.ink_parts.specs.Asks.{CountsAsk};
+ghost use Rattle.ink_parts.specs.Building.{Builds, FirstAsks};
 ghost use Rattle.ink_parts.specs.Counted.{AreBelow, AreOwn, counts_at, flag_of, least_of, place_at, row_at, rows_at};
 ghost use Rattle.ink_tree.specs.Nodes.{Finds, NumbersInOrder, story_tree};
 ghost use Rattle.ink_vars.specs.Slots.{AreCounts, rows_from};
@@ -24,7 +25,8 @@ pub enum Counted {
 }
 
 /// The counts of these rows; none where a row is of no container that has such a count, a count is out of its bounds, or rows do
-/// not rise by place. The one error is a refused request for memory.
+/// not rise by place. The one error is a refused request for memory, which is made once the first row of visits fits, or, where
+/// there is none, the first row of turns does.
 pub fn build_counts(
     alloc: Global,
     tree: &Tree,
@@ -34,6 +36,7 @@ pub fn build_counts(
     ensures builds { let s = story_tree tree.now in
         IfOk result (λ made. Builds (λ v. counts_at s v.rows) (CountsFit s) (record { visits = visits.now; turns = turns.now }) made) }
     ensures own { IfOk result (λ made. IfSome made (λ v. AreOwn (story_tree tree.now) v.rows)) }
+    ensures memory { OnErr result (CountsAsk (story_tree tree.now) (record { visits = visits.now; turns = turns.now })) }
 {
     let Some(visits) = build_rows(alloc, tree, Counted::Visits, visits)? else {
         return Ok(None);
@@ -44,7 +47,8 @@ pub fn build_counts(
     Ok(Some(Counts::from_slots(visits, turns)))
 }
 
-// The counts of rows, by the numbers of their containers. The one error is a refused request for memory.
+// The counts of rows, by the numbers of their containers. The one error is a refused request for memory, which is made once the
+// first one fits.
 fn build_rows(
     alloc: Global,
     tree: &Tree,
@@ -55,6 +59,7 @@ fn build_rows(
         IfOk result (λ made. Builds (λ v. rows_at s (rows_from 0 v.items)) (RowsCount s (flag_of what) (least_of what)) rows.now made) }
     ensures own { IfOk result (λ made. IfSome made (λ v. AreBelow (length (places (story_tree tree.now))) (rows_from 0 v.items))) }
     ensures counts { IfOk result (λ made. IfSome made (λ v. AreCounts v.items)) }
+    ensures memory { let s = story_tree tree.now in let fits = RowCounts s (flag_of what) (least_of what) in OnErr result (FirstAsks fits fits rows.now) }
 {
     let mut slots = Vec::new(alloc);
     for row in rows {

@@ -1,11 +1,12 @@
 //! The flows that a save spells, in a story.
 
-ghost use Rattle.std.specs.Prelude.{◌≡◌, ◌&&◌, ◌++◌, ◌∷◌, [], IfOk, None, OnOk, Some, bytes_eq, is_none, if◌then◌else◌};
+ghost use Rattle.std.specs.Prelude.{◌≡◌, ◌&&◌, ◌++◌, ◌∷◌, [], IfOk, None, OnErr, OnOk, Some, bytes_eq, is_none, if◌then◌else◌};
 ghost use Rattle.ink_flows.specs.Words.{flow_of, rows_of};
 ghost use Rattle.ink_model.specs.Flows as rules;
 ghost use Rattle.ink_model.specs.Named.{at};
 ghost use Rattle.ink_model.specs.Save.Sound.{FlowSound};
 ghost use Rattle.ink_model.specs.Save.Unspelled.{aside_but};
+ghost use Rattle.ink_parts.specs.Asks.{FlowAsks, FlowsAsk};
 ghost use Rattle.ink_parts.specs.Building.{Builds};
 ghost use Rattle.ink_parts.specs.Gathered.{FlowsFit, gathered_as};
 ghost use Rattle.ink_tree.specs.Nodes.{story_tree};
@@ -45,15 +46,16 @@ impl Gathered {
 }
 
 /// The flows that a save spells, made in a story; none where one does not fit, or has a name that it may not have, or one that
-/// stands twice. The one error is a refused request for memory.
+/// stands twice. The one error is a refused request for memory, which is made once the first one may have its name, and asks.
 pub(crate) fn gather(
     alloc: Global,
     tree: &Tree,
     current: &str,
     flows: &[NamedFlow],
 ) -> Result<Option<Gathered>, AllocError>
-    ensures { let s = story_tree tree.now in
+    ensures gathers { let s = story_tree tree.now in
         IfOk result (λ made. Builds (gathered_as s) (λ _. FlowsFit s flows.now) (aside_but current.now flows.now, at current.now flows.now) made) }
+    ensures memory { OnErr result (FlowsAsk (story_tree tree.now) flows.now) }
 {
     let mut made = Gathered {
         rows: IndexMap::new(alloc),
@@ -101,13 +103,15 @@ fn join(
     Ok(())
 }
 
-/// What a flow has of its own, if it fits the story. The one error is a refused request for memory.
+/// What a flow has of its own, if it fits the story. The one error is a refused request for memory, which is made once the first
+/// value on the stack fits; where there is none, once the first choice fits, or asks for some; where there is none, by its threads.
 pub(crate) fn build_flow(
     alloc: Global,
     tree: &Tree,
     saved: &SavedFlow,
 ) -> Result<Option<Flow>, AllocError>
-    ensures { let s = story_tree tree.now in IfOk result (λ made. Builds (flow_of s) (FlowSound s) saved.now made) }
+    ensures builds { let s = story_tree tree.now in IfOk result (λ made. Builds (flow_of s) (FlowSound s) saved.now made) }
+    ensures memory { OnErr result (FlowAsks (story_tree tree.now) saved.now) }
 {
     let Some(stack) = build_stack(alloc, tree, saved.stack.as_slice())? else {
         return Ok(None);

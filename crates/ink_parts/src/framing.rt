@@ -3,8 +3,7 @@
 ghost use Rattle.std.specs.Prelude.{◌≡◌, is_some};
 ghost use Rattle.std.specs.List.{list_all};
 ghost use Rattle.ink_model.specs.Frames.{map_frame, map_thread};
-ghost use Rattle.ink_parts.specs.Building.{FrameAsks, FrameBuilds, ThreadBuilds};
-ghost use Rattle.ink_model.specs.Save.Sound.{AnyPlace};
+ghost use Rattle.ink_parts.specs.Building.{FrameAsks, FrameBuilds, ThreadAsks, ThreadBuilds};
 ghost use Rattle.ink_tree.specs.Nodes.{place_of};
 
 use crate::building::{Built, build_all};
@@ -53,7 +52,7 @@ impl Built for SavedThread {
 
     ghost fits = { λ s thread. ThreadBuilds s thread };
 
-    ghost asks = { λ s thread. AnyPlace s thread.previous };
+    ghost asks = { λ s thread. ThreadAsks s thread };
 
     fn build(&self, alloc: Global, tree: &Tree) -> Result<Option<Thread<Spot>>, AllocError> {
         let Some(previous) = any_spot(tree, &self.previous) else {

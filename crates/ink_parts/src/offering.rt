@@ -1,10 +1,10 @@
 //! Choices that a save spells, in a story.
 
-ghost use Rattle.std.specs.Prelude.{◌≡◌, IfOk, IsTrue};
+ghost use Rattle.std.specs.Prelude.{◌≡◌, IfOk, IsTrue, OnErr};
 ghost use Rattle.ink_model.specs.Bytes.{fits_text};
 ghost use Rattle.ink_model.specs.Configuration.{map_choice};
 ghost use Rattle.ink_model.specs.Frames.{map_thread};
-ghost use Rattle.ink_parts.specs.Building.{Builds, ChoiceAsks};
+ghost use Rattle.ink_parts.specs.Building.{Builds, ChoiceAsks, ThreadAsks};
 ghost use Rattle.ink_model.specs.Save.Sound.{ChoiceFits, ThreadStands};
 ghost use Rattle.ink_tree.specs.Nodes.{place_of, story_tree};
 
@@ -35,13 +35,15 @@ impl Built for Shared<Text> {
     }
 }
 
-/// What is made of a thread, where it is at a place of the story. The one error is a refused request for memory.
+/// What is made of a thread, where it is at a place of the story. The one error is a refused request for memory, which is
+/// made only where the thread asks for some.
 pub(crate) fn build_standing(
     alloc: Global,
     tree: &Tree,
     thread: &SavedThread,
 ) -> Result<Option<Thread<Spot>>, AllocError>
-    ensures { let s = story_tree tree.now in IfOk result (λ made. Builds (map_thread (place_of s)) (ThreadStands s) thread.now made) }
+    ensures builds { let s = story_tree tree.now in IfOk result (λ made. Builds (map_thread (place_of s)) (ThreadStands s) thread.now made) }
+    ensures memory { OnErr result (ThreadAsks (story_tree tree.now) thread.now) }
 {
     let Some(made) = thread.build(alloc, tree)? else {
         return Ok(None);

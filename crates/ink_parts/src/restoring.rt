@@ -10,6 +10,7 @@ ghost use Rattle.ink_model.specs.Save.Reads.{Rests, Stands};
 ghost use Rattle.ink_model.specs.Save.Sound.{SharedSound};
 ghost use Rattle.ink_model.specs.Save.Unspelled.{aside_but, game_of, game_spelled};
 ghost use Rattle.ink_model.specs.declared.limits.TheConstants.{MAX_COUNT};
+ghost use Rattle.ink_parts.specs.Asks.{FlowAsks, FlowsAsk, LayoutAsks, SharedAsks};
 ghost use Rattle.ink_parts.specs.Building.{Builds};
 ghost use Rattle.ink_parts.specs.Counted.{AreOwn};
 ghost use Rattle.ink_parts.specs.Gathered.{AllStand, flows_as, may_be_all, parts_of, with_rows};
@@ -44,7 +45,7 @@ pub struct Restored {
 }
 
 /// What a save spells in either layout, made in a story; none where it does not fit, or its current flow is not among its flows.
-/// The one error is a refused request for memory.
+/// The one error is a refused request for memory, which is made once a save's first flow, or its one flow, asks for some.
 pub fn restore(
     alloc: Global,
     tree: &Tree,
@@ -53,6 +54,7 @@ pub fn restore(
     requires { Rest (layout_as saved.now) }
     ensures restores { IfOk result (λ made. Restores (story_tree tree.now) (game_of (layout_as saved.now)) made) }
     ensures own { IfOk result (λ made. IfSome made (λ r. AreOwn (story_tree tree.now) r.shared.counts.rows)) }
+    ensures memory { OnErr result (LayoutAsks (story_tree tree.now) (layout_as saved.now)) }
 {
     match saved {
         SavedLayout::First(saved) => restore_alone(alloc, tree, saved),
@@ -60,11 +62,12 @@ pub fn restore(
     }
 }
 
-// What a save of layout 1 spells: one flow. The one error is a refused request for memory.
+// What a save of layout 1 spells: one flow. The one error is a refused request for memory, which is made once the flow asks.
 fn restore_alone(alloc: Global, tree: &Tree, saved: &Saved) -> Result<Option<Restored>, AllocError>
     requires { Rests saved.now }
     ensures builds { let s = story_tree tree.now in IfOk result (λ made. Builds (restored_as s) (Stands s) (alone saved.now) made) }
     ensures own { IfOk result (λ made. IfSome made (λ r. AreOwn (story_tree tree.now) r.shared.counts.rows)) }
+    ensures memory { OnErr result (FlowAsks (story_tree tree.now) saved.now.flow) }
 {
     let Some(flow) = build_flow(alloc, tree, &saved.flow)? else {
         return Ok(None);
@@ -80,7 +83,8 @@ fn restore_alone(alloc: Global, tree: &Tree, saved: &Saved) -> Result<Option<Res
     }))
 }
 
-// What a save of layout 2 spells. The one error is a refused request for memory.
+// What a save of layout 2 spells. The one error is a refused request for memory, which is made once its flows may be all, and the
+// first one asks.
 fn restore_game(
     alloc: Global,
     tree: &Tree,
@@ -89,7 +93,7 @@ fn restore_game(
     requires { AllByRecursion (λ r. unnumbered_flow r.1 ≡ r.1) saved.now.flows }
     ensures restores { IfOk result (λ made. Restores (story_tree tree.now) (game_spelled saved.now) made) }
     ensures own { IfOk result (λ made. IfSome made (λ r. AreOwn (story_tree tree.now) r.shared.counts.rows)) }
-    ensures memory { OnErr result (may_be_all saved.now.flows ≡ true) }
+    ensures memory { OnErr result ((may_be_all saved.now.flows ≡ true) × FlowsAsk (story_tree tree.now) saved.now.flows) }
 {
     let Some(flows) = restore_flows(alloc, tree, saved)? else {
         return Ok(None);
@@ -112,7 +116,7 @@ struct AllFlows {
 }
 
 // All flows of a save, if they fit the story, and the current one is among them. The one error is a refused request for memory,
-// which is made once they may be all.
+// which is made once they may be all, and the first one asks.
 fn restore_flows(
     alloc: Global,
     tree: &Tree,
@@ -123,7 +127,7 @@ fn restore_flows(
         let x = saved.now in
         IfOk result (λ made. Builds (flows_as s) (AllStand s) (at x.current x.flows, aside_but x.current x.flows) made) }
     ensures all { IfOk result (λ made. IfSome made (λ _. may_be_all saved.now.flows ≡ true)) }
-    ensures memory { OnErr result (may_be_all saved.now.flows ≡ true) }
+    ensures memory { OnErr result ((may_be_all saved.now.flows ≡ true) × FlowsAsk (story_tree tree.now) saved.now.flows) }
 {
     let flows = saved.flows.as_slice();
     if !may_be_all(flows) {
@@ -162,7 +166,7 @@ fn with_aside(alloc: Global, gathered: Gathered) -> Option<AllFlows>
 }
 
 // What the flows of a save share, if it fits the story. The one error is a refused request for memory, which is made once the turn
-// is within its limit.
+// is within its limit, and the first global fits; where there is none, once the counts ask.
 fn restore_shared(
     alloc: Global,
     tree: &Tree,
@@ -170,7 +174,7 @@ fn restore_shared(
 ) -> Result<Option<SharedParts>, AllocError>
     ensures builds { let s = story_tree tree.now in IfOk result (λ made. Builds (shared_as s) (SharedSound s) saved.now made) }
     ensures own { IfOk result (λ made. IfSome made (λ v. AreOwn (story_tree tree.now) v.counts.rows)) }
-    ensures memory { OnErr result (saved.now.turn ≤ MAX_COUNT) }
+    ensures memory { OnErr result (SharedAsks (story_tree tree.now) saved.now) }
 {
     let Some(turn) = turn_of(saved.turn) else {
         return Ok(None);

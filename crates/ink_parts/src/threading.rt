@@ -1,9 +1,9 @@
 //! All threads that a save spells, in a story.
 
-ghost use Rattle.std.specs.Prelude.{◌≡◌, ⊤};
+ghost use Rattle.std.specs.Prelude.{◌≡◌};
 ghost use Rattle.std.specs.List.{list_all};
 ghost use Rattle.ink_model.specs.Frames.{map_threads};
-ghost use Rattle.ink_parts.specs.Building.{flows, placed};
+ghost use Rattle.ink_parts.specs.Building.{ThreadsAsk, flows, placed};
 ghost use Rattle.ink_model.specs.Save.Sound.{ThreadsFit};
 ghost use Rattle.ink_tree.specs.Nodes.{place_of};
 
@@ -20,7 +20,7 @@ impl Built for SavedThreads {
 
     ghost fits = { λ s threads. ThreadsFit s threads };
 
-    ghost asks = { λ s threads. ⊤ };
+    ghost asks = { λ s threads. ThreadsAsk s threads };
 
     fn build(&self, alloc: Global, tree: &Tree) -> Result<Option<Threads<Spot>>, AllocError> {
         let Some(below) = build_all(alloc, tree, self.below.as_slice())? else {

@@ -11,6 +11,7 @@ use Rattle.ink_model.specs.Bytes.{onto, pieces, is_digit, is_dot, number_from}
 use Rattle.ink_model.specs.Path.{component, components, path_with, read_path}
 use Rattle.ink_model.specs.declared.place.Part.{Part}
 use Rattle.ink_model.specs.declared.place.Part.TheVariants.{Index, Name}
+use Rattle.ink_path.specs.Components.{behind_dot, is_relative}
 use Rattle.ink_path.specs.Laws.{index_of}
 
 -- ---- indexes
@@ -145,3 +146,12 @@ pub absolute : (cs : List ℕ) → ((rest : List ℕ) → cs ≢ 46 ∷ rest) �
 unfolding read_path
 absolute [] h = refl
 absolute (c ∷ cs) h = rw (ne_eqb c 46 (λ e. h cs (ap (λ d. d ∷ cs) e))) refl
+
+-- no dot stands in front of it
+pub not_relative : (cs : List ℕ) → ((rest : List ℕ) → cs ≢ 46 ∷ rest) → false ≡ is_relative cs
+not_relative [] h = refl
+not_relative (c ∷ cs) h = sym (ne_eqb c 46 (λ e. h cs (ap (λ d. d ∷ cs) e)))
+
+pub all_behind : (cs : List ℕ) → ((rest : List ℕ) → cs ≢ 46 ∷ rest) → cs ≡ behind_dot cs
+all_behind [] h = refl
+all_behind (c ∷ cs) h = rw (ne_eqb c 46 (λ e. h cs (ap (λ d. d ∷ cs) e))) refl

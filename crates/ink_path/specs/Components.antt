@@ -1,5 +1,5 @@
 -- The components of a path, as they stand in its text.
-use Rattle.std.specs.Prelude.{◌≡◌, ℕ, List, [], ◌∷◌, Bool, Option, Some, None}
+use Rattle.std.specs.Prelude.{◌≡◌, ℕ, List, [], ◌∷◌, Bool, false, if◌then◌else◌, Option, Some, None}
 use Rattle.std.specs.Borrow.{Bor}
 use Rattle.std.specs.Option.{option_map}
 use Rattle.ink_model.specs.Bytes.{pieces, is_dot}
@@ -18,6 +18,16 @@ part_of (Name name) = parts.Name name.now
 abbrev pub texts_of : Option (Bor (List ℕ)) → List (List ℕ)
 texts_of None = []
 texts_of (Some text) = pieces is_dot text.now
+
+-- whether a text spells a relative path: a dot stands in front
+abbrev pub is_relative : List ℕ → Bool
+is_relative [] = false
+is_relative (c ∷ cs) = is_dot c
+
+-- the text without that dot
+abbrev pub behind_dot : List ℕ → List ℕ
+behind_dot [] = []
+behind_dot (c ∷ cs) = if is_dot c then cs else c ∷ cs
 
 -- the path that texts spell
 abbrev pub path_of : Bool → List (List ℕ) → Option Path

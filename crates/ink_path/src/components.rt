@@ -4,7 +4,7 @@ ghost use Rattle.std.specs.Prelude.{◌≡◌, ◌≢◌, [], ◌∷◌, option_
 ghost use Rattle.std.specs.Bool.{OnTrue, OnFalse};
 ghost use Rattle.ink_model.specs.Bytes.{pieces, is_dot};
 ghost use Rattle.ink_model.specs.Path as rules;
-ghost use Rattle.ink_path.specs.Components.{TakesFirst, path_of, part_of};
+ghost use Rattle.ink_path.specs.Components.{TakesFirst, behind_dot, is_relative, part_of, path_of};
 
 use crate::path::{index_of, is_number, undotted};
 use std::marker::Model;
@@ -48,9 +48,12 @@ impl<'a> Model for Components<'a> {
 }
 
 impl<'a> Components<'a> {
-    /// Whether a text spells a relative path, and its components. Takes no memory.
+    /// Whether a text begins with a dot, as a relative path does, and its components: the texts between the dots that come then.
+    /// Takes no memory.
     pub fn of(text: &'a str) -> (bool, Components<'a>)
-        ensures { rules.read_path text.now ≡ path_of result.0 result.1 }
+        ensures reads { rules.read_path text.now ≡ path_of result.0 result.1 }
+        ensures relative { result.0 ≡ is_relative text.now }
+        ensures texts { result.1 ≡ pieces is_dot (behind_dot text.now) }
     {
         let (relative, rest) = undotted(text);
         (relative, Components { rest: Some(rest) })

@@ -6,6 +6,7 @@ ghost use Rattle.ink_model.specs.Bytes.{joined, pieces, is_digit, is_dot};
 ghost use Rattle.ink_model.specs.Grammar.{here};
 ghost use Rattle.ink_model.specs.Path as rules;
 ghost use Rattle.ink_model.specs.declared.fault.Cause.TheVariants.{BadPath, OutOfMemory};
+ghost use Rattle.ink_path.specs.Components.{behind_dot, is_relative};
 ghost use Rattle.ink_path.specs.Laws.{ReadsBack, dot_before, index_of};
 
 use ink_model::{Cause, Part, Path, ReadRefusal, Seq, Text};
@@ -49,7 +50,9 @@ pub fn print_path(alloc: Global, path: &Path) -> Result<Text, AllocError>
 // A dot in front makes a path relative; behind it stand the components.
 #[tactic(auto, unfolding(ink_model::specs::Path::read_path))]
 pub(crate) fn undotted(text: &str) -> (bool, &str)
-    ensures { rules.read_path text.now ≡ rules.path_with result.0 result.1.now }
+    ensures path { rules.read_path text.now ≡ rules.path_with result.0 result.1.now }
+    ensures relative { result.0 ≡ is_relative text.now }
+    ensures rest { result.1.now ≡ behind_dot text.now }
 {
     match text.strip_prefix('.') {
         Some(rest) => (true, rest),

@@ -1,10 +1,13 @@
-use Rattle.std.proofs.Common.{◌≡◌, ◌∙◌, ◌<◌, ◌≤◌, arith, length, subst, sym}
+use Rattle.std.proofs.Common.{◌≡◌, ◌∙◌, ◌<◌, ◌≤◌, arith, inl, length, subst, sym}
 use Rattle.ink_model.specs.Places.{places}
 use Rattle.ink_model.specs.Save.Sound.{RowCounts}
 use Rattle.ink_model.specs.declared.limits.TheConstants.{MAX_COUNT}
-use Rattle.ink_parts.specs.Counted.{flag_of, least_of, row_at}
+use Rattle.ink_parts.specs.Counted.{flag_of, least_of, row_at, rows_at}
 use Rattle.ink_parts.proofs.Numbering.{numbers_done, numbers_more, order_refused, slots_below}
 use Rattle.ink_tree.specs.Nodes.{story_tree}
+use Rattle.ink_parts.proofs.Asking.{first_at}
+use Rattle.ink_spelling.proofs.Asking.{or_else}
+use Rattle.ink_vars.specs.Slots.{rows_from}
 use Rattle.ink_parts.proofs.counting.build_rows.Goals as goal
 
 pub returns-then-number-len-clause-rows : goal.returns-then-number-len-clause-rows
@@ -33,3 +36,10 @@ returns-clause-rows c =
 
 pub returns-clause-own : goal.returns-clause-own
 returns-clause-own c = slots_below (length (places (story_tree c.args.tree.now))) c.loop-row.slots.items c.loop-row.invariant.few
+
+pub returns-in_err-put_last-clause-memory : goal.returns-in_err-put_last-clause-memory
+returns-in_err-put_last-clause-memory c =
+    let s = story_tree c.args.tree.now in
+    let fits = RowCounts s (flag_of c.args.what) (least_of c.args.what) in
+    or_else _ (first_at fits fits c.args.rows.now (rows_at s (rows_from 0 c.loop-row.slots.items)) c.loop-row.row-index c.row-item.result c.loop-row-test.true
+    c.loop-row.invariant.joined c.loop-row.invariant.each (inl (subst fits c.row-item.is c.in-Some.ensures.row.1)))
