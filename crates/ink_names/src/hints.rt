@@ -165,6 +165,7 @@ fn small(number: usize) -> u32
 }
 
 // The slot of a name, of so many.
+#[inline(always)]
 fn slot(name: &str, slots: usize) -> usize
     requires { 0 < slots }
     ensures slot { result ≡ slot name.now slots }

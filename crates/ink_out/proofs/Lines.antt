@@ -228,6 +228,25 @@ words_clean (c ∷ cs) n words is =
     let all = c ∷ cs in
     clean_is all ∙ ap (cleaned_on Nothing) (sym (append-nil all)) ∙ words.cleaned (omega (arith, is)) Nothing [] ∙ whole_words all n is
 
+-- ---- a newline at the end
+
+ended : (newline blank : Bool) (before : List ℕ) (c : ℕ) (xs ys zs : List ℕ) → cond newline (10 ∷ (xs ++ 10 ∷ [])) (cond blank (ys ++ 10 ∷ []) (before ++ c ∷ (zs ++ 10 ∷ []))) ≡ cond newline (10 ∷ xs) (cond blank ys (before ++ c ∷ zs)) ++ 10 ∷ []
+ended true blank before c xs ys zs = refl
+ended false true before c xs ys zs = refl
+ended false false before c xs ys zs = sym (append_assoc before (c ∷ zs) (10 ∷ []))
+
+cleaned_newline : (before : Before) (cs : List ℕ) → cleaned_on before (cs ++ 10 ∷ []) ≡ cleaned_on before cs ++ 10 ∷ []
+cleaned_newline before [] = refl
+cleaned_newline before (c ∷ cs) =
+    rw (cleaned_newline Nothing cs, cleaned_newline (gap before) cs, cleaned_newline Word cs)
+    (ended (is_newline c) (is_blank c) (space before) c (cleaned_on Nothing cs) (cleaned_on (gap before) cs) (cleaned_on Word cs))
+
+-- a text that is clean stays so with a newline behind it
+pub clean_newline : (cs : List ℕ) → clean cs ≡ cs → clean (cs ++ 10 ∷ []) ≡ cs ++ 10 ∷ []
+clean_newline cs same = clean_is (cs ++ 10 ∷ []) ∙ cleaned_newline Nothing cs ∙ ap (λ ds. ds ++ 10 ∷ []) (sym (clean_is cs) ∙ same)
+
+-- ---- where a text may be cut
+
 -- a text may be cut behind words
 pub words_boundary : (cs : List ℕ) (n : ℕ) → AreWords cs n → IsCharBoundary cs n
 words_boundary cs n words =

@@ -166,10 +166,29 @@ impl Section {
         ensures text { IfOk result (λ text. text ≡ clean (shown_text self.now)) }
         ensures memory { OnErr result (shows_more self.now ≡ true) }
     {
+        if let Some(text) = self.plain_line() {
+            return line_of(alloc, text);
+        }
         if !self.shows_more() {
             return Ok(Text::from_string(String::new(alloc)));
         }
         shown_text(alloc, self.marks.as_slice(), true)
+    }
+
+    // The text that stands alone with a newline behind it, where cleaning leaves it as it is: most lines are that.
+    #[inline(always)]
+    fn plain_line(&self) -> Option<&str>
+        ensures { IfSome result (λ text. (self.now ≡ kinds.Text text.now ∷ kinds.Newline ∷ []) × (clean text.now ≡ text.now)) }
+    {
+        if self.marks.len() != 2 {
+            return None;
+        }
+        match &self.marks[0] {
+            Mark::Text(text) if is_newline(&self.marks[1]) && is_clean(text.as_str()) => {
+                Some(text.as_str())
+            }
+            _ => None,
+        }
     }
 
     // Whether more than blanks is shown.
@@ -239,6 +258,24 @@ impl Section {
         self.state = State::new();
         self.enters.clear();
     }
+}
+
+#[inline(always)]
+fn is_newline(mark: &Mark) -> bool
+    ensures { result ≡ true → mark.now ≡ kinds.Newline }
+{
+    matches!(mark, Mark::Newline)
+}
+
+// A text with a newline behind it. The one error is a refused request for memory.
+#[inline(always)]
+fn line_of(alloc: Global, text: &str) -> Result<Text, AllocError>
+    ensures { IfOk result (λ line. line ≡ text.now ++ 10 ∷ []) }
+{
+    let mut line = String::with_capacity(alloc, text.len() + 1)?;
+    line.push_str(text)?;
+    line.push_str("\n")?;
+    Ok(Text::from_string(line))
 }
 
 fn has_filled_blank(marks: &[Mark]) -> bool

@@ -20,10 +20,12 @@ use std::alloc::Global;
 /// with `OutOfMemory` where memory was refused, which is asked for only where the text is not empty. No mark stands in the machine.
 ///
 /// The text is read without a tree of values, unless an object in it has names in another order than a save has.
+#[inline(never)]
 pub fn read_text(alloc: Global, story: &Story, text: &str) -> Result<Machine, SaveRefusal>
     ensures reads { ReadsText (story_tree story.now) text.now result }
     ensures mark { IfOk result (λ m. stood_of m ≡ unmarked) }
 {
+    // An empty text is refused without a request for memory.
     if text.is_empty() {
         return read_tree(alloc, story, text);
     }

@@ -155,6 +155,7 @@ impl Tree {
     }
 
     /// The node that a key leads to; none where nothing stands there.
+    #[inline(always)]
     pub(crate) fn child_by_name(&self, holder: NodeId, name: &str) -> Option<NodeId>
         ensures { Finds (story_tree self.now) (node_place (story_tree self.now) holder ++ Name name.now ∷ []) result }
     {
@@ -210,6 +211,7 @@ impl Tree {
     }
 
     /// Whether the node of a number stands one part down from a node.
+    #[inline(always)]
     pub(crate) fn is_child(&self, number: usize, holder: NodeId, key: Key<'_>) -> bool
         ensures yes { result ≡ true → Finds (story_tree self.now) (node_place (story_tree self.now) holder ++ key_part key.entry ∷ []) (Some (record { number = number })) }
         ensures no { result ≡ false → number < length (places (story_tree self.now))
@@ -239,6 +241,7 @@ impl Tree {
     }
 }
 
+#[inline(always)]
 fn is_part(part: Key<'_>, key: Key<'_>) -> bool
     ensures yes { result ≡ true → key_part part.entry ≡ key_part key.entry }
     ensures no { result ≡ false → key_part part.entry ≡ key_part key.entry → ⊥ }

@@ -3,7 +3,7 @@
 ghost use Rattle.std.specs.Prelude.{◌≡◌, option_map};
 ghost use Rattle.ink_model.specs.Path.{by_name, stepped, stepped_last, target, walked};
 ghost use Rattle.ink_path.specs.Components.{part_of};
-ghost use Rattle.ink_model.specs.declared.place.Part.TheVariants.{Index};
+ghost use Rattle.ink_model.specs.declared.place.Part.TheVariants.{Index, Name};
 
 use crate::spot::{NodeId, Spot};
 use crate::tree::Tree;
@@ -45,15 +45,27 @@ impl Tree {
     }
 
     // One component further.
+    #[inline(always)]
     pub(crate) fn step(&self, here: NodeId, component: Component<'_>) -> Option<NodeId>
         ensures { option_map (node_place (story_tree self.now)) result
             ≡ stepped (story_tree self.now) (node_place (story_tree self.now) here) (part_of component.entry) }
     {
         match component {
             Component::Index(index) => self.step_in(here, index),
-            Component::Name(name) if name == "^" => self.holder(here),
-            Component::Name(name) => self.step_by_name(here, name),
+            Component::Name(name) => self.step_named(here, name),
         }
+    }
+
+    // The same by a name.
+    #[inline(never)]
+    fn step_named(&self, here: NodeId, name: &str) -> Option<NodeId>
+        ensures { option_map (node_place (story_tree self.now)) result
+            ≡ stepped (story_tree self.now) (node_place (story_tree self.now) here) (Name name.now) }
+    {
+        if name == "^" {
+            return self.holder(here);
+        }
+        self.step_by_name(here, name)
     }
 
     fn step_in(&self, here: NodeId, index: u32) -> Option<NodeId>
@@ -83,8 +95,8 @@ impl Tree {
     {
         match component {
             Component::Index(index) => self.last_step_in(here, index),
-            Component::Name(_) => {
-                let holder = self.step(here, component)?;
+            Component::Name(name) => {
+                let holder = self.step_named(here, name)?;
                 Some(Spot {
                     holder,
                     index: None,

@@ -1,8 +1,12 @@
--- The number that a single digit writes.
-use Rattle.std.proofs.Common.{◌≡◌, ℕ, ◌+◌, ◌-◌, ◌<◌, ◌≤◌, refl, ap, sym, ◌∙◌, arith, List, [], ◌∷◌, length, get_or, zero, suc, Some}
-use Rattle.fast_float.specs.Text.{scan}
+-- The number that a single digit writes, and that which digits alone write.
+use Rattle.std.proofs.Common.{◌≡◌, ℕ, ◌+◌, ◌-◌, ◌^◌, ◌<◌, ◌≤◌, ◌==◌, refl, ap, sym, subst, ◌∙◌, arith, true, false, List, [], ◌∷◌, ◌++◌, length, get_or, zero, suc, Some, nat_lt, append-nil}
+use Rattle.std.proofs.lemmas.Bool.{lt-ltb, ne_eqb}
+use Rattle.std.proofs.lemmas.Str.Parse.{digit_from_value}
+use Rattle.std.specs.Str.Parse.{AllDigits, IsNumeral, digits_value, without_leading_plus}
+use Rattle.fast_float.specs.Text.{Parts, IsWellFormed, scan}
+use Rattle.fast_float.proofs.Writing.{scan-text_of}
 use Rattle.serde_json.specs.Data.{unsigned}
-use Rattle.serde_json.specs.Read.{number_of}
+use Rattle.serde_json.specs.Read.{number_of, number_from}
 
 digit_number : (n : ℕ) → n < 10 → number_of ((48 + n) ∷ []) ≡ Some (unsigned n)
 unfolding number_of scan
@@ -25,3 +29,39 @@ single_digit (d ∷ []) e low high =
     let is : 48 + n ≡ d = omega arith in
     ap (λ x. number_of (x ∷ [])) (sym is) ∙ digit_number n (omega arith)
 single_digit (d ∷ x ∷ xs) e low high = absurd (omega arith)
+
+-- ---- digits alone
+
+-- the numeral of a whole part alone
+abbrev whole_alone : List ℕ → Parts
+whole_alone ds = record { whole = ds; point = false; fraction = []; exponent_negative = false; exponent = []; len = length ds }
+
+well_formed : (ds : List ℕ) → AllDigits 10 ds → IsWellFormed (whole_alone ds)
+well_formed ds h = record { whole_digits = h; fraction_digits = tt; exponent_digits = tt; no_point = λ _. refl; no_exponent = λ _. refl; len_is = sym (ap length (append-nil ds)) }
+
+scanned : (ds : List ℕ) → AllDigits 10 ds → scan ds ≡ whole_alone ds
+scanned ds h = ap scan (sym (append-nil ds)) ∙ scan-text_of (whole_alone ds) (well_formed ds h)
+
+-- digits that write a number of 64 bits are read as it
+pub natural_number : (ds : List ℕ) → IsNumeral 10 ds → digits_value 10 ds < 2 ^ 64 → number_of ds ≡ Some (unsigned (digits_value 10 ds))
+unfolding number_of
+natural_number [] h small = absurd (omega (arith, h.0))
+natural_number (d ∷ ds) h small =
+    let digit = digit_from_value d h.1.0 in
+    let s = d ∷ ds in
+    let sign : (d == 45) ≡ false = ne_eqb d 45 (λ e. absurd (omega (arith, digit, e))) in
+    let read : number_of s ≡ number_from false (scan s) = rw sign refl in
+    let all : digits_value 10 (s ++ []) ≡ digits_value 10 s = ap (digits_value 10) (append-nil s) in
+    let fits : nat_lt (digits_value 10 (s ++ [])) (2 ^ 64) ≡ true = ap (λ n. nat_lt n (2 ^ 64)) all ∙ lt-ltb _ (2 ^ 64) small in
+    let some : nat_lt 0 (length s) ≡ true = lt-ltb 0 (length s) (omega arith) in
+    let number : number_from false (whole_alone s) ≡ Some (unsigned (digits_value 10 (s ++ []))) = rw (some, fits) refl in
+    read ∙ ap (number_from false) (scanned s h.1) ∙ number ∙ ap (λ n. Some (unsigned n)) all
+
+-- the same of a text that may begin with a plus, but does not
+pub natural_alone : (ds : List ℕ) → 48 ≤ get_or ds 0 0 → (n : ℕ) → IsNumeral 10 (without_leading_plus ds) × (digits_value 10 (without_leading_plus ds) < 2 ^ 64) → n ≡ digits_value 10 (without_leading_plus ds)
+    → number_of ds ≡ Some (unsigned n)
+natural_alone ds digit n h e =
+    let plus : (get_or ds 0 0 == 43) ≡ false = ne_eqb (get_or ds 0 0) 43 (λ e. absurd (omega (arith, digit, e))) in
+    let same : without_leading_plus ds ≡ ds = rw plus refl in
+    let p : IsNumeral 10 ds × (digits_value 10 ds < 2 ^ 64) = subst (λ xs. IsNumeral 10 xs × (digits_value 10 xs < 2 ^ 64)) same h in
+    natural_number ds p.0 p.1 ∙ ap (λ xs. Some (unsigned (digits_value 10 xs))) (sym same) ∙ ap (λ n. Some (unsigned n)) (sym e)

@@ -7,8 +7,8 @@ ghost use Rattle.json_tape.specs.Marks.{slot};
 /// How many slots there are.
 const SLOTS: usize = 32;
 
-/// By a few bytes of a name, whether a member has such a name. What an object is read for differs there, so that few names that it
-/// has not are looked for.
+/// Tells by a few bytes of a name that an object surely has no member of it: a hint, which may also say that it may have one where it
+/// has none.
 #[derive(Clone, Copy)]
 pub struct Marks {
     slots: [u8; SLOTS],

@@ -6,9 +6,9 @@ ghost use Rattle.serde_json.specs.Find.{as_u64, as_integer};
 ghost use Rattle.serde_json.specs.Read.{number_of, number_from, float_of};
 ghost use Rattle.json_tape.specs.Number.{num};
 
-use fast_float::Numeral;
+use fast_float::{Numeral, parse_u64};
 
-/// A number: an integer that fits 64 bits, or a float, which is finite.
+/// A number, as `parse` gives it: an integer that fits 64 bits, below nothing where it is `Negative`, or a float, which is finite.
 #[derive(Clone, Copy)]
 pub enum Number {
     Unsigned(u64),
@@ -24,11 +24,22 @@ impl Number {
     {
         match digit(text.as_bytes()) {
             Some(digit) => Some(Number::Unsigned(digit)),
+            None => Number::parse_long(text),
+        }
+    }
+
+    // The same of a text of any length; most are digits alone.
+    #[inline(never)]
+    fn parse_long(text: &str) -> Option<Number>
+        ensures { option_map num result ≡ number_of text.now }
+    {
+        match natural(text.as_bytes()) {
+            Some(natural) => Some(Number::Unsigned(natural)),
             None => Number::parse_any(text),
         }
     }
 
-    // The same of a text of any length.
+    // The same of a text of any form.
     #[inline(never)]
     fn parse_any(text: &str) -> Option<Number>
         ensures { option_map num result ≡ number_of text.now }
@@ -107,6 +118,21 @@ fn digit(bytes: &[u8]) -> Option<u64>
         return None;
     }
     Some((digit - b'0') as u64)
+}
+
+/// The number that digits alone are, where it fits 64 bits.
+#[inline(always)]
+fn natural(bytes: &[u8]) -> Option<u64>
+    ensures { IfSome result (λ n. number_of bytes.now ≡ Some (unsigned n)) }
+{
+    // A plus is no part of a number of JSON, but may stand before one elsewhere.
+    if bytes.is_empty() || bytes[0] < b'0' {
+        return None;
+    }
+    match parse_u64(bytes) {
+        Ok(natural) => Some(natural),
+        Err(_) => None,
+    }
 }
 
 fn has_minus(bytes: &[u8]) -> bool

@@ -36,8 +36,8 @@ pub struct OrderedMembers<'t, 'a> {
 impl<'t, 'a> Ordered<'t, 'a> {
     ghost use Rattle.json_tape.specs.Value.{json_data, items_at, members_at};
 
-    /// The same value, with its members in the order of their names, each once. None where there is an object, from where it stands on
-    /// to the end of its tape, of which the names do not rise.
+    /// The same value, with its members in the order of their names, each once. None where the names of some object do not rise, from
+    /// this value on to the end of its tape.
     pub fn of(value: Value<'t, 'a>) -> Option<Ordered<'t, 'a>>
         ensures { MatchOption result (objects_rise value.entry.element ≡ false) (λ o. o.value ≡ value.entry) }
     {

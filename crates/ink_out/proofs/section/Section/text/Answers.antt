@@ -1,5 +1,10 @@
-use Rattle.std.proofs.Common.{◌∙◌, sym, Result, Ok, Err, OnErr}
+use Rattle.std.proofs.Common.{◌≡◌, ◌∙◌, ap, sym, ℕ, List, [], ◌∷◌, ◌++◌, Result, Ok, Err, IfOk, OnErr}
+use Rattle.ink_model.specs.Clean.{clean}
+use Rattle.ink_model.specs.Shown.{shown_text}
+use Rattle.ink_model.specs.declared.mark.Mark.{Mark}
+use Rattle.ink_model.specs.declared.mark.Mark.TheVariants.{Text, Newline}
 use Rattle.ink_out.proofs.Blanks.{nothing_more}
+use Rattle.ink_out.proofs.Lines.{clean_newline}
 use Rattle.ink_out.proofs.section.Section.text.Goals as goal
 
 on_error : {A E P : Type 0} (r : Result A E) → P → OnErr r P
@@ -12,3 +17,17 @@ returns-then-not-shows_more-clause-text c =
 
 pub returns-clause-memory : goal.returns-clause-memory
 returns-clause-memory c = on_error c.shown_text.result (sym c.shows_more.ensures ∙ c.if-not-shows_more.false)
+
+-- ---- a text and a newline
+
+plain_shown : (ms : List Mark) (t : List ℕ) → ms ≡ Text t ∷ Newline ∷ [] → clean t ≡ t → clean (shown_text ms) ≡ t ++ 10 ∷ []
+plain_shown ms t is same = ap (λ marks. clean (shown_text marks)) is ∙ clean_newline t same
+
+line_shown : {E : Type 0} (r : Result (List ℕ) E) (line text : List ℕ) → IfOk r (λ one. one ≡ line) → text ≡ line → IfOk r (λ one. one ≡ text)
+line_shown (Ok one) line text is same = is ∙ sym same
+line_shown (Err e) line text is same = tt
+
+pub returns-in-Some-clause-text : goal.returns-in-Some-clause-text
+returns-in-Some-clause-text c =
+    let (is, same) = c.in-Some.ensures in
+    line_shown c.line_of.result (c.in-Some.text.now ++ 10 ∷ []) (clean (shown_text c.args.self.now)) c.line_of.ensures (plain_shown c.args.self.now c.in-Some.text.now is same)

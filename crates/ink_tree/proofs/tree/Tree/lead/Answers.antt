@@ -13,4 +13,4 @@ returns c =
       | then-relative w ↦ rw w.if-relative.true (ap (node_place s) w.start-is)
       | else-relative w ↦ rw w.if-relative.false (ap (node_place s) w.start-is ∙ root_place s)
     ] in
-    path_leads s (node_place s c.args.from) _ c.args.text.now c.of-relative.result.0 c.of-relative.result.1 c.follow.result c.of-relative.ensures start c.follow.ensures
+    path_leads s (node_place s c.args.from) _ c.args.text.now c.of-relative.result.0 c.of-relative.result.1 c.follow.result c.of-relative.ensures.reads start c.follow.ensures
