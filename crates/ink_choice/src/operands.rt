@@ -34,25 +34,15 @@ pub(crate) fn find_operands<'s>(stack: &'s EvalStack, flags: u8) -> Result<Opera
     ensures { let vs = reverse stack.now.items in
         MatchResult result (λ found. rules.operands flags vs ≡ Ok (operands_of vs found)) (λ f. rules.operands flags vs ≡ Err f) }
 {
-    match find_condition(stack, is_conditional(flags)) {
-        Ok((condition, depth)) => {
-            match find_words(stack, has_choice_only_text(flags), depth) {
-                Ok((choice_only, depth)) => {
-                    match find_words(stack, has_start_text(flags), depth) {
-                        Ok((start, end)) => Ok(Operands {
-                            condition,
-                            start,
-                            choice_only,
-                            end,
-                        }),
-                        Err(fault) => Err(fault),
-                    }
-                }
-                Err(fault) => Err(fault),
-            }
-        }
-        Err(fault) => Err(fault),
-    }
+    let (condition, depth) = find_condition(stack, is_conditional(flags))?;
+    let (choice_only, depth) = find_words(stack, has_choice_only_text(flags), depth)?;
+    let (start, end) = find_words(stack, has_start_text(flags), depth)?;
+    Ok(Operands {
+        condition,
+        start,
+        choice_only,
+        end,
+    })
 }
 
 // Whether the condition is true, where there is to be one, and the depth after it.

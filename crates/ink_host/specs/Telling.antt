@@ -1,5 +1,5 @@
 -- Telling watchers of changes (docs/HOST.md).
-use Rattle.std.specs.Prelude.{◌≡◌, ℕ, List, [], ◌∷◌, ◌++◌, Bool, true, false, bytes_eq, length, ◌||◌, if◌then◌else◌}
+use Rattle.std.specs.Prelude.{◌≡◌, ℕ, List, [], ◌∷◌, ◌++◌, Bool, true, false, bytes_eq, ◌||◌, if◌then◌else◌}
 use Rattle.ink_model.specs.Events.{after}
 use Rattle.ink_host.specs.declared.objects.Seen.{Seen}
 use Rattle.ink_model.specs.declared.host.Change.{Change}
@@ -77,19 +77,3 @@ rests state w = (state w).resting
 -- Between two states of the watchers there was one round, with these changes, and these answers of those that were told.
 abbrev pub IsRound : {W : Type 0} → (W → Watching) → ℕ → List Change → List Change → List Bool → Rows W → Rows W → Type 0
 IsRound state n cs told answers old new = each (λ m w. state w) new ≡ round n cs told answers (each (λ m w. state w) old)
-
--- what a round was of: its first stamp, the changes, and an answer for each
-pub record Round : Type 0 where
-  pub next : ℕ
-  pub changes : List Change
-  pub answers : List Bool
-  pub one_each : length answers ≡ length changes
-
--- rounds, one after another
-abbrev pub rounds : List Round → Rows Watching → Rows Watching
-rounds [] rows = rows
-rounds (r ∷ rs) rows = rounds rs (round r.next r.changes r.changes r.answers rows)
-
--- Between two states of the watchers there were these rounds, and nothing else.
-abbrev pub AreRounds : {W : Type 0} → (W → Watching) → List Round → Rows W → Rows W → Type 0
-AreRounds state rs old new = each (λ m w. state w) new ≡ rounds rs (each (λ m w. state w) old)

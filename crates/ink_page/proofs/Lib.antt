@@ -3,3 +3,4 @@ pub mod Lines
 pub mod Pages
 pub mod PageLines
 mod Writing
+mod Typing

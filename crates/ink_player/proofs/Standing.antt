@@ -1,5 +1,5 @@
 -- A player stands sound and at rest after each command: by the law of ink_sound that says so of commands, and of opening.
-use Rattle.std.proofs.Common.{◌≡◌, ◌∙◌, ◌||◌, ap, refl, subst, sym, inl, inr, ℕ, List, [], ◌∷◌, ◌++◌, Bool, true, false, bytes_eq, Option, None, Some, is_some, Result, Ok, Err, OnOk, OnErr}
+use Rattle.std.proofs.Common.{◌≡◌, ◌∙◌, ◌||◌, ap, refl, subst, sym, inl, inr, ℕ, List, [], ◌∷◌, ◌++◌, Bool, true, false, bytes_eq, Option, None, Some, is_some, Result, Ok, Err, is_ok, OnOk, OnErr}
 use Rattle.ink_model.specs.Answer.{Reply, Acts, Refuses, reply_of_landing}
 use Rattle.ink_model.specs.Choosing.{jump_place, jumped, open_choice}
 use Rattle.ink_model.specs.Command as command
@@ -9,6 +9,7 @@ use Rattle.ink_model.specs.Events.{Made, calls, later}
 use Rattle.ink_model.specs.Flows.{Aside, Game, alone, default_flow, has_room, in_flow, is_flow_name, one_flow, without_flow}
 use Rattle.ink_model.specs.FlowCommands.{DropsFlow, GoesToFlow}
 use Rattle.ink_model.specs.Host.{Bindings, Bound, nothing_bound, value_given}
+use Rattle.ink_model.specs.Opening.{opening}
 use Rattle.ink_model.specs.Run as run
 use Rattle.ink_model.specs.Save.Reads as rules
 use Rattle.ink_model.specs.Save.Sound.{AsideFits}
@@ -84,30 +85,31 @@ opened_alone s m e = ap (λ a. let g : Game = record { now = config_of s m; asid
 pub alone-fits : (s : StoryTree) (m : Machine) → aside_in m ≡ one_flow → AsideFits s (aside_of s (aside_in m))
 alone-fits s m e = subst (λ a. AsideFits s (aside_of s a)) (sym e) (one_fits s)
 
-module _ (s : StoryTree) (story : StoryFits s) where
-  -- ---- what is left between calls
+-- ---- what is left between calls
 
+module _ (s : StoryTree) (story : StoryFits s) (opens : is_ok (opening s) ≡ true) where
   -- a fault broke it
   pub stands-broken : (m : Machine) (es : List Event) (b : Option Fault) (f : Fault) → is_empty es ≡ true → b ≡ Some f → stood_of m ≡ unmarked → AsideFits s (aside_of s (aside_in m))
       → Stands s es b m
   stands-broken m es b f none e free aside =
-      record { taken = none; story = story; unmarked = free; fits = subst (λ x. ConditionFits s (condition_by x (config_of s m))) (sym e) tt; aside = aside }
+      record { taken = none; story = story; opens = opens; unmarked = free; fits = subst (λ x. ConditionFits s (condition_by x (config_of s m))) (sym e) tt; aside = aside }
 
   -- none did
   pub stands-free : (m : Machine) (es : List Event) (b : Option Fault) → is_empty es ≡ true → b ≡ None → stood_of m ≡ unmarked → ConditionFits s (Ready (config_of s m))
       → AsideFits s (aside_of s (aside_in m)) → Stands s es b m
   stands-free m es b none free mark fits aside =
-      record { taken = none; story = story; unmarked = mark; fits = subst (λ x. ConditionFits s (condition_by x (config_of s m))) (sym free) fits; aside = aside }
-
-  -- the same flows stand aside
-  pub aside-stays : (m n : Machine) → aside_in n ≡ aside_in m → AsideFits s (aside_of s (aside_in m)) → AsideFits s (aside_of s (aside_in n))
-  aside-stays m n e h = subst (λ a. AsideFits s (aside_of s a)) (sym e) h
+      record { taken = none; story = story; opens = opens; unmarked = mark; fits = subst (λ x. ConditionFits s (condition_by x (config_of s m))) (sym free) fits; aside = aside }
 
   -- watchers were told, all of them or not
   pub stands-told : (m : Machine) (es : List Event) (all : Bool) (b old : Option Fault) → is_empty es ≡ true → old ≡ None → b ≡ fault_told all old
       → stood_of m ≡ unmarked → ConditionFits s (Ready (config_of s m)) → AsideFits s (aside_of s (aside_in m)) → Stands s es b m
   stands-told m es true b old none free e mark fits aside = stands-free m es b none (e ∙ free) mark fits aside
   stands-told m es false b old none free e mark fits aside = stands-broken m es b OutOfMemory none e mark aside
+
+module _ (s : StoryTree) (story : StoryFits s) where
+  -- the same flows stand aside
+  pub aside-stays : (m n : Machine) → aside_in n ≡ aside_in m → AsideFits s (aside_of s (aside_in m)) → AsideFits s (aside_of s (aside_in n))
+  aside-stays m n e h = subst (λ a. AsideFits s (aside_of s a)) (sym e) h
 
   -- ---- commands, from where a player stands that is not broken
 

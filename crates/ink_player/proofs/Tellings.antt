@@ -88,10 +88,6 @@ done-told : (all : Bool) (reply : Reply) (es : List Event) → all_told reply �
 done-told true reply es h = h
 done-told false reply es h = refl
 
-pub other-fault : (f : Fault) (es : List Event) → f ≢ OutOfMemory → all_told (Breaks f es) ≡ None
-other-fault OutOfMemory es other = absurd (other refl)
-other-fault f es other = refl
-
 -- ---- commands over a state
 
 abbrev pub at_stamp : Condition → Aside → ℕ → State
@@ -198,12 +194,6 @@ module _ {P F O : Type 0} (turn_log : F → List Called) (state : O → Watching
 
   pub once-none : (a : DeskView P F O) → Untold a a
   once-none a = (grown-none a, (refl, refl))
-
-  pub once-quiet : (cs : List Change) (a b : DeskView P F O) (reply : Reply) → all_told reply ≡ None → b ≡ record a { events = [] } → DealtOnce turn_log state cs a [] reply b
-  once-quiet cs a b reply quiet is = (
-    grown-to a a b [] (grew-none turn_log (log_of state) a) is,
-    subst (λ o. TellsOnce state a.next cs o [] a.watchers b.watchers) (sym quiet) (refl, ap (λ d. states state d.watchers) is),
-  )
 
   pub run-none : (cs : List Change) (a : DeskView P F O) (r : Refusal) → DealtByRun turn_log state cs a [] (Refuses r) a
   run-none cs a r = record { grew = grown-none a; made = []; saw = []; events = refl; tells = inl (refl, refl) }

@@ -1,5 +1,5 @@
 -- What a player stands for, and what happens between it and the objects of its host.
-use Rattle.std.specs.Prelude.{◌≡◌, ◌≢◌, ◌⊎◌, ℕ, List, [], ◌∷◌, ◌++◌, Bool, true, false, Option, None, Some, Result, Ok, Err}
+use Rattle.std.specs.Prelude.{◌≡◌, ◌≢◌, ◌⊎◌, ℕ, List, [], ◌∷◌, ◌++◌, Bool, true, false, Option, None, Some, Result, Ok, Err, is_ok}
 use Rattle.ink_check.specs.Words.{story_tree}
 use Rattle.ink_check.specs.declared.story.Story.{Story}
 use Rattle.ink_host.specs.Desk.{DeskView, Grew, Rows, bound_by, each, watches}
@@ -12,6 +12,7 @@ use Rattle.ink_model.specs.Configuration.{Configuration}
 use Rattle.ink_model.specs.Events.{Made, calls, later}
 use Rattle.ink_model.specs.Flows.{Aside}
 use Rattle.ink_model.specs.Host.{Bindings, value_given}
+use Rattle.ink_model.specs.Opening.{opening}
 use Rattle.ink_model.specs.Save.Sound.{AsideFits}
 use Rattle.ink_model.specs.State.{State, Condition, Ready, Broken, globals_of}
 use Rattle.ink_model.specs.Store.{Values}
@@ -55,11 +56,12 @@ abbrev pub condition_by : Option Fault → Configuration → Condition
 condition_by None c = Ready c
 condition_by (Some f) c = Broken f c.shared.globals
 
--- A player between calls: every event was taken, its story is as the laws of saves ask, no mark stands in its machine, the flows
--- that are not current are sound and at rest, and so is where it stands, unless a fault broke it.
+-- A player between calls: every event was taken, its story is as the laws of saves ask and opens without a fault, no mark stands in
+-- its machine, the flows that are not current are sound and at rest, and so is where it stands, unless a fault broke it.
 pub record Stands (s : StoryTree) (events : List Event) (broken : Option Fault) (m : Machine) : Type 0 where
   pub taken : is_empty events ≡ true
   pub story : StoryFits s
+  pub opens : is_ok (opening s) ≡ true
   pub unmarked : stood_of m ≡ unmarked
   pub fits : ConditionFits s (condition_by broken (config_of s m))
   pub aside : AsideFits s (aside_of s (aside_in m))

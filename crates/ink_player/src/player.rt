@@ -44,6 +44,7 @@ use ink_model::{
 use ink_step::{DEFAULT_FLOW, Machine, Unopened, is_flow_name};
 use serde_json::Value as Json;
 use std::alloc::{AllocError, Global};
+use std::fmt;
 use std::marker::Model;
 
 /// A story that runs: where it stands, and the desk of the host's objects. Between calls every event was taken, and where it stands
@@ -90,6 +91,17 @@ pub struct OpenFault<P, F, O> {
     pub fault: Fault,
     pub story: Story,
     pub desk: Desk<P, F, O>,
+}
+
+/// `story fault: ` and the fault.
+impl<P, F, O> fmt::Display for OpenFault<P, F, O> {
+    ghost use Rattle.ink_player.specs.Printed.{start_text};
+
+    ghost output = { λ end. Some (start_text end.fault) };
+
+    fn fmt<W: fmt::Write>(&self, f: &mut fmt::Formatter<W>) -> fmt::Result {
+        write!(f, "story fault: {}", self.fault)
+    }
 }
 
 impl<P: PureFn, F: TurnFn, O: Watcher> Player<P, F, O> {
@@ -248,8 +260,8 @@ impl<P: PureFn, F: TurnFn, O: Watcher> Player<P, F, O> {
 
     /// A global's value. Of a broken player it is the one from before the step that faulted, or from behind the newline where a look
     /// past it was refused memory; after `OutOfMemory` at a command's end, or of a watcher, the one that the command left. Takes no
-    /// memory: a text, a target or a tag has one owner more. Refused with `NoSuchVariable` where there is no such global, and with
-    /// `OutOfMemory` where a text, a target or a tag has as many owners already as can be counted.
+    /// memory: a text, a target, a tag or a pointer's name has one owner more. Refused with `NoSuchVariable` where there is no such
+    /// global, and with `OutOfMemory` where what it shares has as many owners already as can be counted.
     pub fn get(&self, name: &str) -> Result<Value, Refusal>
         ensures { Get name.now (state_of self.now) (reply_of_value result) (state_of self.now) }
     {
@@ -377,6 +389,7 @@ impl<P: PureFn, F: TurnFn, O: Watcher> Player<P, F, O> {
     /// Does what `load` does with the JSON value that a text spells, such as one of `save_text`. Refused as `load` is; also with
     /// `BadSave` where the text is no JSON, and with `OutOfMemory` where memory was refused to read one that is not empty; nothing has
     /// changed then.
+    #[inline(never)]
     pub fn load_text(&mut self, text: &str) -> Result<Seq<Event>, Halt>
         ensures does { (es : List Happening) × LoadsText (story_of self.old) (bindings P.meaning (desk_of self.old)) es text.now (state_of self.old) (reply_of_events result) (state_of self.new)
             × DealtOnce F.log O.state (told_from (desk_of self.old) (state_of self.old) (globals_of (state_of self.new).condition)) (desk_of self.old) es (reply_of_events result) (desk_of self.new) }
@@ -393,10 +406,11 @@ impl<P: PureFn, F: TurnFn, O: Watcher> Player<P, F, O> {
     }
 
     /// Begins anew, as the story was opened, with one flow; a broken player too. Watchers are told of each global that has another value than
-    /// before, or was not there (docs/HOST.md, "Telling"). Refused with `OutOfMemory` alone, where the declarations run to a step
-    /// that asks for memory, or memory for telling was refused; nothing has changed then. A fault of the declarations breaks the
-    /// player, which keeps the globals as they stood before the step that faulted, and tells nobody. Where a watcher finds no
-    /// memory the story has begun anew, all others are told, and the player is broken by the fault `OutOfMemory`.
+    /// before, or was not there (docs/HOST.md, "Telling"). The declarations do not fault, since they did not when the story was opened.
+    /// Refused with `OutOfMemory` alone, where they run to a step that asks for memory, or memory for telling was refused; nothing
+    /// has changed then. Where a watcher finds no memory the story has begun anew, all others are told, and the player is broken by
+    /// the fault `OutOfMemory`.
+    #[inline(never)]
     pub fn restart(&mut self) -> Result<Seq<Event>, Halt>
         ensures does { (es : List Happening) × Restart (story_of self.old) (bindings P.meaning (desk_of self.old)) es (state_of self.old) (reply_of_events result) (state_of self.new)
             × DealtOnce F.log O.state (told_from (desk_of self.old) (state_of self.old) (globals_of (state_of self.new).condition)) (desk_of self.old) es (reply_of_events result) (desk_of self.new) }
@@ -406,13 +420,7 @@ impl<P: PureFn, F: TurnFn, O: Watcher> Player<P, F, O> {
     {
         match Machine::open(self.alloc, &self.story) {
             Ok(machine) => self.begin_anew(machine),
-            Err(Unopened { fault, globals }) => match fault {
-                Fault::OutOfMemory => Err(Halt::Refused(Refusal::OutOfMemory)),
-                _ => {
-                    self.machine = Machine::at_start(self.alloc, &self.story, globals);
-                    Err(break_by(&mut self.desk, &mut self.broken, fault))
-                }
-            },
+            Err(_) => Err(Halt::Refused(Refusal::OutOfMemory)),
         }
     }
 
@@ -439,6 +447,7 @@ impl<P: PureFn, F: TurnFn, O: Watcher> Player<P, F, O> {
     /// left as it is, and globals, counts and the turn are those of all. Refused with `Broken` after a fault, with `BadValue` where
     /// the name is empty, has a space or a newline, or is over a text's limit, with `TooManyFlows` where 100 are there, and with
     /// `OutOfMemory` where memory for a new one was refused; nothing has changed then.
+    #[inline(never)]
     pub fn flow(&mut self, name: &str) -> Result<(), Refusal>
         ensures does { GoesToFlow (story_of self.old) name.now (state_of self.old) (reply_of_landing result) (state_of self.new) }
         ensures story { story_of self.new ≡ story_of self.old }
@@ -462,6 +471,7 @@ impl<P: PureFn, F: TurnFn, O: Watcher> Player<P, F, O> {
     /// Takes the flow of a name away; all others stay as they are. Where it is the current one, the first becomes that. Takes no
     /// memory. Refused with `Broken` after a fault, with `NoSuchFlow` where there is none of that name, and with `DefaultFlow` where
     /// it is the first; nothing has changed then.
+    #[inline(never)]
     pub fn drop_flow(&mut self, name: &str) -> Result<(), Refusal>
         ensures does { DropsFlow (story_of self.old) name.now (state_of self.old) (reply_of_landing result) (state_of self.new) }
         ensures story { story_of self.new ≡ story_of self.old }

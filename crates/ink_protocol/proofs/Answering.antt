@@ -1,7 +1,10 @@
 -- The text of answers.
-use Rattle.std.proofs.Common.{◌≡◌, ◌∙◌, refl, sym, ap, Result, Ok, Err, IfOk, ℕ, ℤ, pos, negsuc, List, [], ◌∷◌, ◌++◌, map, append_assoc, codes, Bool, true, false}
+use Rattle.std.proofs.Common.{◌≡◌, ◌∙◌, refl, sym, ap, Result, Ok, Err, IfOk, ℕ, ℤ, pos, negsuc, ◌+◌, ◌-◌, List, [], ◌∷◌, ◌++◌, length, take, map, append_assoc, arith, codes, Bool, true, false}
+use Rattle.std.proofs.Math.Seq.{take-append_seam}
+use Rattle.std.proofs.lemmas.Grind.{flat_map-append}
+use Rattle.std.proofs.lemmas.List.{length-append}
 use Rattle.std.specs.Fmt.{signed_decimal}
-use Rattle.json.specs.Print.{print}
+use Rattle.json.specs.Print.{print, quoted, escape, escape_byte}
 use Rattle.json.specs.Written.{Written}
 use Rattle.serde_json.specs.Data.{Data, array, string}
 use Rattle.serde_json.specs.Written.{compact_text}
@@ -48,6 +51,19 @@ pub text_behind : (d : Data) (start end : Written) (before text : List ℕ) → 
     → text ≡ end.before ++ print end.tokens → text ≡ before ++ compact_text d
 text_behind d start end before text had none added is =
     is ∙ ap (λ b. b ++ print end.tokens) (added.before ∙ had) ∙ ap (λ t. before ++ t) (printed_tokens d start end (print end.tokens) none added refl)
+
+-- the text of a string and a newline: a newline in the place of the quote behind the string, and the quote again
+pub newline_behind : (before front all short line : List ℕ) (len : ℕ) → all ≡ before ++ quoted front → len ≡ length all → short ≡ take (len - 1) all → line ≡ short ++ codes "\\n\""
+    → line ≡ before ++ quoted (front ++ 10 ∷ [])
+unfolding escape_byte
+newline_behind before front all short line len written count cut ends =
+    let body : List ℕ = before ++ 34 ∷ escape front in
+    let whole : all ≡ body ++ 34 ∷ [] = written ∙ sym (append_assoc before (34 ∷ escape front) (34 ∷ [])) in
+    let same : length all ≡ length body + 1 = ap length whole ∙ length-append body (34 ∷ []) in
+    let shorter : len - 1 ≡ length body = omega (arith, count, same) in
+    let kept : short ≡ body = cut ∙ ap (λ n. take n all) shorter ∙ ap (λ l. take (length body) l) whole ∙ take-append_seam body (34 ∷ []) in
+    ends ∙ ap (λ l. l ++ codes "\\n\"") kept ∙ append_assoc before (34 ∷ escape front) (codes "\\n\"")
+    ∙ ap (λ e. before ++ 34 ∷ e) (sym (ap (λ e. e ++ 34 ∷ []) (flat_map-append escape_byte front (10 ∷ [])) ∙ append_assoc (escape front) (92 ∷ 110 ∷ []) (34 ∷ [])))
 
 abbrev quiet : List Shown → List ℕ → Bool → Bool → Passage
 quiet choices text loose more = record { text = text; tags = []; choices = choices; events = []; more = more; loose = loose }

@@ -195,8 +195,27 @@ fn list_behind<T: Listed>(
     Ok(out.into_inner())
 }
 
-// The same of a string.
+// The same of a string. One that ends in a newline, as each line of a story does, has its front written alone.
 fn string_behind(before: Vec<u8>, text: &str) -> Result<Vec<u8>, AllocError>
+    ensures { IfOk result (λ all. all.items ≡ before.items ++ compact_text (string text.now)) }
+{
+    match text.strip_suffix("\n") {
+        Some(front) => line_behind(before, front),
+        None => written_behind(before, text),
+    }
+}
+
+// The same of a string and a newline: the newline stands in the place of the quote behind the string.
+fn line_behind(before: Vec<u8>, front: &str) -> Result<Vec<u8>, AllocError>
+    ensures { IfOk result (λ all. all.items ≡ before.items ++ compact_text (string (front.now ++ codes "\n"))) }
+{
+    let mut all = written_behind(before, front)?;
+    all.truncate(all.len() - 1);
+    all.extend_from_slice(b"\\n\"")?;
+    Ok(all)
+}
+
+fn written_behind(before: Vec<u8>, text: &str) -> Result<Vec<u8>, AllocError>
     ensures { IfOk result (λ all. all.items ≡ before.items ++ compact_text (string text.now)) }
 {
     let mut out = Writer::new(before);

@@ -1,17 +1,14 @@
 //! The commands that lines spell (docs/PROTOCOL.md, "Command lines").
 
-ghost use Rattle.std.specs.Prelude.{◌≡◌, ◌≤◌, ◌<◌, ◌&&◌, is_none, length, true, IfOk, OnErr, Some, option_map, option_and_then};
-ghost use Rattle.std.specs.List.{list_all};
+ghost use Rattle.std.specs.Prelude.{◌≡◌, ◌&&◌, is_none, true, IfOk, OnErr, Some, option_map, option_and_then};
 ghost use Rattle.ink_model.specs.Command.{choose_command as choose_of, command_asks, command_of, command_word, drop_command as drop_of, flow_command as flow_of, get_command as get_of, jump_command as jump_of, line_asks, load_command as load_of, set_asks, set_command as set_of, visits_command as visits_of};
-ghost use Rattle.ink_model.specs.Bytes.{after as after_word, at_space as parts_at_space, is_digit as digit, is_filled, number_from};
+ghost use Rattle.ink_model.specs.Bytes.{at_space as parts_at_space, is_filled};
 ghost use Rattle.ink_protocol.specs.Commands.{command_by};
 
 use crate::given::given_of;
+use crate::word::{after, choice_number};
 use ink_model::Given;
 use std::alloc::{AllocError, Global};
-
-// The most digits of a choice's number.
-const MAX_DIGITS: usize = 9;
 
 /// A command of a line, with the name or the path where it stands in the line. The value of `Set` is none where the line has
 /// JSON of another kind than a value has, or no JSON.
@@ -32,8 +29,8 @@ pub enum LineCommand<'a> {
 }
 
 /// The command of a line, without its newline (docs/PROTOCOL.md, "Command lines"). A line that is no text, or no
-/// command, has none. The one error is a refused request for memory, which only `set` makes, where its value is a text, or is
-/// spelled another way than it is printed.
+/// command, has none. The one error is a refused request for memory, which only `set` makes, unless its value is a truth
+/// value, or an integer of 32 bits as it is printed.
 pub fn read_command(alloc: Global, line: &[u8]) -> Result<Option<LineCommand<'_>>, AllocError>
     ensures command { IfOk result (λ command. option_map command_by command ≡ command_of line.now) }
     ensures memory { OnErr result (line_asks line.now ≡ true) }
@@ -87,13 +84,6 @@ fn command_in(alloc: Global, text: &str) -> Result<Option<LineCommand<'_>>, Allo
     }
 }
 
-// What follows a word at a line's beginning.
-fn after<'a>(word: &str, text: &'a str) -> Option<&'a str>
-    ensures { option_map (λ rest. rest.now) result ≡ after_word word.now text.now }
-{
-    text.strip_prefix(word)
-}
-
 // What stands before the first space, and what stands after it.
 fn at_space(text: &str) -> Option<(&str, &str)>
     ensures { option_map (λ r. (r.0.now, r.1.now)) result ≡ parts_at_space text.now }
@@ -144,37 +134,11 @@ fn visits_command(path: &str) -> Option<LineCommand<'_>>
     Some(LineCommand::Visits { path })
 }
 
-// A number has 1 to 9 digits.
 fn choose_command(digits: &str) -> Option<LineCommand<'_>>
     ensures { option_map command_by result ≡ choose_of digits.now }
 {
-    if digits.is_empty() || digits.len() > MAX_DIGITS || !is_number(digits) {
-        return None;
-    }
-    let number = number_of(digits);
+    let number = choice_number(digits)?;
     Some(LineCommand::Choose { number })
-}
-
-fn is_number(text: &str) -> bool
-    ensures { result ≡ list_all digit text.now }
-{
-    text.as_bytes().iter().all(|byte| is_digit(*byte))
-}
-
-fn is_digit(byte: u8) -> bool
-    ensures { result ≡ digit byte }
-{
-    b'0' <= byte && byte <= b'9'
-}
-
-// The number that digits are.
-fn number_of(digits: &str) -> u32
-    requires filled { 0 < length digits.now }
-    requires few { length digits.now ≤ 9 }
-    requires digits { list_all digit digits.now ≡ true }
-    ensures { result ≡ number_from 0 digits.now }
-{
-    digits.parse::<u32>().unwrap()
 }
 
 fn jump_command(target: &str) -> Option<LineCommand<'_>>

@@ -10,6 +10,7 @@ mod lines;
 mod output;
 mod parse;
 mod watched;
+mod word;
 
 pub use answer::{Outcome, answer_text, fixed_answer, print_values};
 pub use command::{LineCommand, read_command};
@@ -18,3 +19,4 @@ pub use input::{Ahead, ReadFailed, Source};
 pub use lines::{Line, next_line};
 pub use output::{Sink, WriteFailed, write_answer};
 pub use watched::{Lent, Watched};
+pub use word::{after, choice_number};

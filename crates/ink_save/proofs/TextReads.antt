@@ -1,6 +1,5 @@
 -- What a text is read as.
-use Rattle.std.proofs.Common.{◌≡◌, ◌<◌, refl, inl, inr, ℕ, List, [], ◌∷◌, length, Bool, true, false, IsTrue, ◌↔◌, true≢false, arith, Option, None, Some, Result, Err}
-use Rattle.std.proofs.lemmas.Bool.{false≢true}
+use Rattle.std.proofs.Common.{◌≡◌, ◌<◌, refl, inl, inr, ℕ, List, [], ◌∷◌, length, true, arith, Option, None, Some, Result, Err}
 use Rattle.serde_json.specs.Data.{Data}
 use Rattle.serde_json.specs.Read.{read}
 use Rattle.ink_model.specs.Bytes.{is_filled}
@@ -19,11 +18,6 @@ spelled text o h = h
 filled : (text : List ℕ) → 0 < length text → is_filled text ≡ true
 filled [] some = absurd (omega (arith, some))
 filled (c ∷ cs) some = refl
-
--- what fails a test is not so
-pub fails_test : (b : Bool) (P : Type 0) → (IsTrue b ↔ P) → b ≡ false → P → ⊥
-fails_test true P h e p = absurd (true≢false e)
-fails_test false P h e p = absurd (false≢true (h.1 p))
 
 module _ (s : StoryTree) (text : List ℕ) where
   pub text-read : (j : Data) (r : Result Machine SaveRefusal) → read text ≡ Some j → ReadsAs s j r → ReadsText s text r

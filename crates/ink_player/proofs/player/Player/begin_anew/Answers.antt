@@ -29,5 +29,5 @@ pub invariant_of-self-2 : goal.invariant_of-self-2
 invariant_of-self-2 g c =
     let s = story_tree c.self.inside.story in
     let fits = game-as (story_of c.args.self.now) s c.args.machine (ap (λ q. story_of q) (sym c.self.view_is)) c.requires.fits in
-    stands-told s c.self.invariant.story c.args.machine c.end_telling.new.desk.events c.in-Ok.all c.end_telling.new.broken None (ap (λ d. is_empty d.events) c.end_telling.ensures.desk) refl c.end_telling.ensures.broken c.requires.unmarked
+    stands-told s c.self.invariant.story c.self.invariant.opens c.args.machine c.end_telling.new.desk.events c.in-Ok.all c.end_telling.new.broken None (ap (λ d. is_empty d.events) c.end_telling.ensures.desk) refl c.end_telling.ensures.broken c.requires.unmarked
     (fits.sound, fits.rests) fits.aside

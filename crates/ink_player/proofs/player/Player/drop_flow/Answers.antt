@@ -42,7 +42,7 @@ invariant_of-self g c =
     let kept = c.self.invariant in
     let fits = drops-stands s kept.story start (free-stands s kept.story c.self.inside.broken start c.in_default.is kept.fits) _ kept.aside c.args.name.now (game_of s c.drop_flow.new.self)
     (sym (c.has_flow.ensures s) ∙ c.if-not-has_flow.false) (sym c.eq.ensures ∙ c.if-eq.false) (c.drop_flow.ensures.game s) in
-    stands-free s kept.story c.drop_flow.new.self c.self.inside.desk.events c.self.inside.broken kept.taken c.in_default.is c.drop_flow.ensures.mark fits.0 fits.1
+    stands-free s kept.story kept.opens c.drop_flow.new.self c.self.inside.desk.events c.self.inside.broken kept.taken c.in_default.is c.drop_flow.ensures.mark fits.0 fits.1
 
 pub drop_flow-requires-clause-there : goal.drop_flow-requires-clause-there
 drop_flow-requires-clause-there g c = λ s. sym (c.has_flow.ensures s) ∙ c.if-not-has_flow.false

@@ -52,7 +52,7 @@ invariant_of-self g c =
     let kept = c.self.invariant in
     let fits = flow-stands s kept.story start (free-stands s kept.story c.self.inside.broken start c.in_default.is kept.fits) _ kept.aside c.args.name.now (game_of s c.flow.new.self) c.flow.result
     (sym c.is_flow_name.ensures ∙ c.if-not-is_flow_name.false) (sym (c.has_room.ensures s) ∙ c.if-not-has_room.false) c.flow.ensures.ok c.flow.ensures.err in
-    stands-free s kept.story c.flow.new.self c.self.inside.desk.events c.self.inside.broken kept.taken c.in_default.is c.flow.ensures.mark fits.0 fits.1
+    stands-free s kept.story kept.opens c.flow.new.self c.self.inside.desk.events c.self.inside.broken kept.taken c.in_default.is c.flow.ensures.mark fits.0 fits.1
 
 pub invariant_of-self-2 : goal.invariant_of-self-2
 invariant_of-self-2 g c =
@@ -61,7 +61,7 @@ invariant_of-self-2 g c =
     let kept = c.self.invariant in
     let fits = flow-stands s kept.story start (free-stands s kept.story c.self.inside.broken start c.in_default.is kept.fits) _ kept.aside c.args.name.now (game_of s c.flow.new.self) c.flow.result
     (sym c.is_flow_name.ensures ∙ c.if-not-is_flow_name.false) (sym (c.has_room.ensures s) ∙ c.if-not-has_room.false) c.flow.ensures.ok c.flow.ensures.err in
-    stands-free s kept.story c.flow.new.self c.self.inside.desk.events c.self.inside.broken kept.taken c.in_default.is c.flow.ensures.mark fits.0 fits.1
+    stands-free s kept.story kept.opens c.flow.new.self c.self.inside.desk.events c.self.inside.broken kept.taken c.in_default.is c.flow.ensures.mark fits.0 fits.1
 
 pub flow-requires-clause-room : goal.flow-requires-clause-room
 flow-requires-clause-room g c = sym (c.has_room.ensures (story_tree c.self.inside.story)) ∙ c.if-not-has_room.false

@@ -74,7 +74,7 @@ invariant_of-self-in-Ok-tell_changed g c =
     let before = config_of s p.machine in
     let stopped = stops g.F.TurnFn.log g.O.Watcher.state c.args.extent g.P.PureFn.meaning p c.run_to.new.machine c.run_to.new.desk runs.0 c.in_default.is (none-left p.desk.events kept.taken) goes c.in-Ok.ensures.aside runs.1 c.in-Ok.ensures.watchers
     c.in-Ok.passage runs.2 in
-    stands-told s kept.story c.run_to.new.machine c.end_run.new.desk.events c.in-Ok-tell_changed.all c.end_run.new.broken p.broken (ap (λ d. is_empty d.events) c.end_run.ensures.desk) c.in_default.is c.end_run.ensures.broken c.in-Ok.ensures.mark
+    stands-told s kept.story kept.opens c.run_to.new.machine c.end_run.new.desk.events c.in-Ok-tell_changed.all c.end_run.new.broken p.broken (ap (λ d. is_empty d.events) c.end_run.ensures.desk) c.in_default.is c.end_run.ensures.broken c.in-Ok.ensures.mark
     (run-stands s kept.story before (free-stands s kept.story p.broken before c.in_default.is kept.fits) c.args.extent (bound_by g.P.PureFn.meaning p.desk.functions) runs.0 stopped.0 (config_of s c.run_to.new.machine) goes stopped.1 stopped.3)
     (aside-stays s kept.story p.machine c.run_to.new.machine c.in-Ok.ensures.aside kept.aside)
 

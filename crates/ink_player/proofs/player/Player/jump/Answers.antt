@@ -40,7 +40,7 @@ invariant_of-self g c =
     let s = story_tree c.self.inside.story in
     let start = config_of s c.self.inside.machine in
     let kept = c.self.invariant in
-    stands-free s kept.story c.jump.new.self c.self.inside.desk.events c.self.inside.broken kept.taken c.in_default.is (c.jump.ensures.mark ∙ kept.unmarked)
+    stands-free s kept.story kept.opens c.jump.new.self c.self.inside.desk.events c.self.inside.broken kept.taken c.in_default.is (c.jump.ensures.mark ∙ kept.unmarked)
     (jump-stands s kept.story start (free-stands s kept.story c.self.inside.broken start c.in_default.is kept.fits) c.args.path.now (place_of s c.in-Ok.place) (config_of s c.jump.new.self) c.jump.result
     c.in-Ok.ensures c.jump.ensures.ok c.jump.ensures.err)
     (aside-stays s kept.story c.self.inside.machine c.jump.new.self c.jump.ensures.aside kept.aside)
@@ -50,7 +50,7 @@ invariant_of-self-2 g c =
     let s = story_tree c.self.inside.story in
     let start = config_of s c.self.inside.machine in
     let kept = c.self.invariant in
-    stands-free s kept.story c.jump.new.self c.self.inside.desk.events c.self.inside.broken kept.taken c.in_default.is (c.jump.ensures.mark ∙ kept.unmarked)
+    stands-free s kept.story kept.opens c.jump.new.self c.self.inside.desk.events c.self.inside.broken kept.taken c.in_default.is (c.jump.ensures.mark ∙ kept.unmarked)
     (jump-stands s kept.story start (free-stands s kept.story c.self.inside.broken start c.in_default.is kept.fits) c.args.path.now (place_of s c.in-Ok.place) (config_of s c.jump.new.self) c.jump.result
     c.in-Ok.ensures c.jump.ensures.ok c.jump.ensures.err)
     (aside-stays s kept.story c.self.inside.machine c.jump.new.self c.jump.ensures.aside kept.aside)

@@ -1,4 +1,4 @@
-use Rattle.std.proofs.Common.{ap}
+use Rattle.std.proofs.Common.{ap, is_ok}
 use Rattle.ink_check.specs.Words.{story_tree}
 use Rattle.ink_step.specs.Words.{config_of}
 use Rattle.ink_player.specs.Words.{is_empty}
@@ -10,6 +10,7 @@ pub invariant_of-result : goal.invariant_of-result
 invariant_of-result g c = record {
   taken = ap (λ d. is_empty d.events) c.start_anew.ensures;
   story = c.story_fits.ensures;
+  opens = ap (λ r. is_ok r) c.in-Ok.ensures.ok;
   unmarked = c.in-Ok.ensures.mark;
   fits = (opened_fits (story_tree c.args.story) c.story_fits.ensures (config_of (story_tree c.args.story) c.in-Ok.machine) c.in-Ok.ensures.ok).condition;
   aside = alone-fits (story_tree c.args.story) c.in-Ok.machine c.in-Ok.ensures.aside;

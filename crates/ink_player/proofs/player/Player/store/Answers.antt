@@ -53,7 +53,7 @@ invariant_of-self-2 g c =
     let free : c.self.inside.broken ≡ None = ap (λ x. x.broken) c.self.view_is ∙ c.requires.unbroken in
     let stored : config_of s new ≡ with_globals (store c.args.name.now (value_given given.0) before.shared.globals) before =
     on-ok c.set-stored.result _ (c.set-stored.ensures.found ∙ there) (c.set-stored.ensures.ok s) ∙ ap (λ v. with_globals (store c.args.name.now v before.shared.globals) before) given.2 in
-    stands-told s kept.story new c.end_telling.new.desk.events c.in-Ok.all c.end_telling.new.broken c.self.inside.broken (ap (λ d. is_empty d.events) c.end_telling.ensures.desk) free c.end_telling.ensures.broken
+    stands-told s kept.story kept.opens new c.end_telling.new.desk.events c.in-Ok.all c.end_telling.new.broken c.self.inside.broken (ap (λ d. is_empty d.events) c.end_telling.ensures.desk) free c.end_telling.ensures.broken
     (c.set-stored.ensures.mark ∙ kept.unmarked)
     (subst (λ x. ConditionFits s (Ready x)) (sym stored) (set-stands s kept.story before (free-stands s kept.story c.self.inside.broken before free kept.fits) c.args.name.now given.0 given.1 there))
     (aside-stays s kept.story c.self.inside.machine new c.set-stored.ensures.aside kept.aside)

@@ -2,7 +2,7 @@ use Rattle.std.proofs.Common.{sym, subst, refl}
 use Rattle.std.specs.Result.{IsOk}
 use Rattle.std.proofs.lemmas.Str.Parse.{parse_gives}
 use Rattle.ink_protocol.proofs.Numbers.{few_digits, numerals}
-use Rattle.ink_page.proofs.typed.number_of.Goals as goal
+use Rattle.ink_protocol.proofs.word.number_of.Goals as goal
 
 pub unwrap-requires : goal.unwrap-requires
 unwrap-requires c =

@@ -1,5 +1,5 @@
 use Rattle.ink_protocol.proofs.Commands.{stripped}
-use Rattle.ink_protocol.proofs.command.after.Goals as goal
+use Rattle.ink_protocol.proofs.word.after.Goals as goal
 
 pub returns : goal.returns
 returns c = stripped _ _ _ c.strip_prefix.ensures.cases
