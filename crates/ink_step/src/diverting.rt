@@ -127,7 +127,6 @@ fn landing_in(
 
 /// Where a value leads that was read from a variable, or popped: a target to the very place that it names, none where that is
 /// nowhere; another value leads nowhere.
-#[inline(always)]
 pub(crate) fn landing_by(story: &Story, value: &Value) -> Option<Landing>
     ensures { let s = story_tree story.now in option_map (landing_of s) result ≡ rules.landing_by s value.now }
 {
@@ -138,7 +137,6 @@ pub(crate) fn landing_by(story: &Story, value: &Value) -> Option<Landing>
 }
 
 /// Where a target leads: to the very place that its path names. It enters containers around only where that ends in an index.
-#[inline(always)]
 pub(crate) fn landing_on(story: &Story, path: &Path) -> Option<Landing>
     ensures { let s = story_tree story.now in option_map (landing_of s) result ≡ rules.landing_by s (Target path.now) }
 {

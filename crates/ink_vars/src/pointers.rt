@@ -24,7 +24,6 @@ pub(crate) fn named<'a, P: Copy>(
 }
 
 /// The value of a name in the frame of a number, which is 0 for the globals.
-#[inline(always)]
 pub(crate) fn held<'a, P: Copy>(
     globals: &'a Globals,
     threads: &'a Threads<P>,
