@@ -25,7 +25,7 @@ use std::alloc::Global;
 use std::process::ExitCode;
 
 /// The tables that are read where none are named.
-const TABLES: [&str; 11] = [
+const TABLES: [&str; 12] = [
     "operators.txt",
     "operators_large.txt",
     "output.txt",
@@ -35,6 +35,7 @@ const TABLES: [&str; 11] = [
     "stories.txt",
     "stories_large.txt",
     "twins.txt",
+    "twins_edges.txt",
     "twins_large.txt",
     "twins_random.txt",
 ];

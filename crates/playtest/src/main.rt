@@ -21,7 +21,7 @@ use std::alloc::Global;
 use std::process::ExitCode;
 
 /// The tables that are read where none are named.
-const TABLES: [&str; 27] = [
+const TABLES: [&str; 33] = [
     "boxes.txt",
     "players.txt",
     "players_flows.txt",
@@ -39,6 +39,12 @@ const TABLES: [&str; 27] = [
     "sessions_counts.txt",
     "sessions_counts_large.txt",
     "sessions_cut.txt",
+    "sessions_edges_flow.txt",
+    "sessions_edges_limits.txt",
+    "sessions_edges_more.txt",
+    "sessions_edges_reading.txt",
+    "sessions_edges_saves.txt",
+    "sessions_edges_values.txt",
     "sessions_flows.txt",
     "sessions_games.txt",
     "sessions_large.txt",
