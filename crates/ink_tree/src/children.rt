@@ -155,7 +155,13 @@ fn slot(container: usize, name: &str, slots: usize) -> usize {
         return 0;
     }
     let mut mixed = container;
-    for byte in name.as_bytes() {
+    let (words, others) = name.as_bytes().as_chunks::<4>();
+    for word in words {
+        mixed = mixed
+            .wrapping_mul(31)
+            .wrapping_add(u32::from_le_bytes(*word) as usize);
+    }
+    for byte in others {
         mixed = mixed.wrapping_mul(31).wrapping_add(*byte as usize);
     }
     (mixed.wrapping_mul(SPREAD) >> 32) & (slots - 1)

@@ -1,6 +1,6 @@
 //! Nodes by number and by place.
 
-ghost use Rattle.std.specs.Prelude.{◌≡◌, ◌<◌, ◌∷◌, [], ◌++◌, true, false, Some, option_map, reverse, length};
+ghost use Rattle.std.specs.Prelude.{◌≡◌, ◌<◌, ◌∷◌, [], ◌++◌, true, false, Some, IfSome, option_map, reverse, length};
 ghost use Rattle.ink_json.specs.Order.{key_part};
 ghost use Rattle.ink_model.specs.Path.{above};
 ghost use Rattle.ink_model.specs.Places.{places};
@@ -159,20 +159,38 @@ impl Tree {
     pub(crate) fn child_by_name(&self, holder: NodeId, name: &str) -> Option<NodeId>
         ensures { Finds (story_tree self.now) (node_place (story_tree self.now) holder ++ Name name.now ∷ []) result }
     {
+        match self.noted_child(holder, name) {
+            Some(node) => Some(node),
+            None => self.unnoted_child(holder, name),
+        }
+    }
+
+    /// The same where it is noted; none where it is not, or nothing stands there.
+    #[inline(always)]
+    pub(crate) fn noted_child(&self, holder: NodeId, name: &str) -> Option<NodeId>
+        ensures { IfSome result (λ node. Finds (story_tree self.now) (node_place (story_tree self.now) holder ++ Name name.now ∷ []) (Some node)) }
+    {
+        let number = self.children.noted(self.own(holder).number, name);
+        if self.is_child(number, holder, Key::Name(name)) {
+            Some(NodeId { number })
+        } else {
+            None
+        }
+    }
+
+    /// The same wherever it is, where it was found at no note.
+    #[inline(never)]
+    pub(crate) fn unnoted_child(&self, holder: NodeId, name: &str) -> Option<NodeId>
+        ensures { Finds (story_tree self.now) (node_place (story_tree self.now) holder ++ Name name.now ∷ []) result }
+    {
         let container = self.content_of(holder);
         if keys_of(container) == 0 {
             return None;
         }
-        let own = self.own(holder);
-        let number = self.children.noted(own.number, name);
-        if self.is_child(number, holder, Key::Name(name)) {
-            return Some(NodeId { number });
-        }
-        self.search(own, name)
+        self.search(self.own(holder), name)
     }
 
     // The same among the keys in their order.
-    #[inline(never)]
     fn search(&self, holder: NodeId, name: &str) -> Option<NodeId>
         ensures { Finds (story_tree self.now) (node_place (story_tree self.now) holder ++ Name name.now ∷ []) result }
     {

@@ -8,11 +8,11 @@ ghost use Rattle.ink_model.specs.declared.place.Part.TheVariants.{Index};
 ghost use Rattle.ink_tree.specs.Contents.{name_in};
 ghost use Rattle.ink_tree.specs.Names.{AreNamed, KeepsNames, MayKeepNames, MayShowNames};
 
-use crate::content::name_of;
+use crate::content::{name_of, size_of};
 use crate::names::{Listed, Names};
 use crate::spot::NodeId;
 use crate::tree::Tree;
-use ink_json::Nodes;
+use ink_json::{Key, Nodes};
 use std::alloc::{AllocError, Global};
 
 /// A list of at most so many contents is looked through each time.
@@ -61,9 +61,11 @@ impl Tree {
         ensures { IfOk result (KeepsNames (at (story_tree self.now) (node_place (story_tree self.now) holder))) }
     {
         let mut names = Names::none(self.alloc);
+        let mut number = self.own(holder).number.wrapping_add(1);
         for index in 0..self.width(holder) {
-            let own = self.name_at(holder, index);
+            let own = self.name_near(number, holder, index);
             names.add(self.alloc, own, index)?;
+            number = self.number_behind(number);
         }
         Ok(names)
     }
@@ -89,25 +91,37 @@ impl Tree {
         }
     }
 
-    // The index, looked for in the list itself.
+    // The index, looked for in the list itself, of which one content comes behind another.
     fn look_through(&self, here: NodeId, name: &str) -> Option<u32>
         ensures { result ≡ listed_index name.now (at (story_tree self.now) (node_place (story_tree self.now) here)) }
     {
+        let mut number = self.own(here).number.wrapping_add(1);
         for index in 0..self.width(here) {
-            if is_name(name, self.name_at(here, index)) {
+            if is_name(name, self.name_near(number, here, index)) {
                 return Some(index);
             }
+            number = self.number_behind(number);
         }
         None
     }
 
-    // The name that the content at an index gives itself.
-    fn name_at(&self, holder: NodeId, index: u32) -> Option<&str>
+    // The name that the content at an index gives itself, which is looked for at a number first.
+    #[inline(always)]
+    fn name_near(&self, number: usize, holder: NodeId, index: u32) -> Option<&str>
         ensures { option_map (λ n. n.now) result ≡ name_in (at (story_tree self.now) (node_place (story_tree self.now) holder ++ Index index ∷ [])) }
     {
-        match self.child_at(holder, index) {
+        match self.near(number, holder, Key::Index(index)) {
             Some(node) => self.own_name(node),
             None => None,
+        }
+    }
+
+    // The number behind those of a content and of all that is in it. Nothing rests on it: what is found there is looked at again.
+    #[inline(always)]
+    fn number_behind(&self, number: usize) -> usize {
+        match self.nodes().get(number) {
+            Some(node) => number.wrapping_add(size_of(node.content()) as usize),
+            None => number,
         }
     }
 

@@ -76,11 +76,24 @@ impl Tree {
     }
 
     // To the container given by key, or else to the first in the list that gives itself the name.
+    #[inline(always)]
     fn step_by_name(&self, here: NodeId, name: &str) -> Option<NodeId>
         ensures { option_map (node_place (story_tree self.now)) result
             ≡ by_name (story_tree self.now) (node_place (story_tree self.now) here) name.now }
     {
-        if let Some(node) = self.child_by_name(here, name) {
+        match self.noted_child(here, name) {
+            Some(node) => Some(node),
+            None => self.step_unnoted(here, name),
+        }
+    }
+
+    // The same where no key of the name is noted.
+    #[inline(never)]
+    fn step_unnoted(&self, here: NodeId, name: &str) -> Option<NodeId>
+        ensures { option_map (node_place (story_tree self.now)) result
+            ≡ by_name (story_tree self.now) (node_place (story_tree self.now) here) name.now }
+    {
+        if let Some(node) = self.unnoted_child(here, name) {
             return Some(node);
         }
         let index = self.listed_index(here, name)?;

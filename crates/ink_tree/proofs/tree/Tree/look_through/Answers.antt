@@ -10,15 +10,15 @@ loop-index-init c = let s = story_tree c.args.self.now in from_start c.args.name
 pub returns-then-is_name : goal.returns-then-is_name
 returns-then-is_name c =
     let s = story_tree c.args.self.now in
-    from_named s (node_place s c.args.here) c.args.name.now c.loop-index.index (omega (arith, c.width-index-end.ensures, c.loop-index-test.true)) (option_map (λ n. n.now) c.name_at.result)
-    c.name_at.ensures (sym c.is_name.ensures ∙ c.if-is_name.true)
+    from_named s (node_place s c.args.here) c.args.name.now c.loop-index.index (omega (arith, c.width-index-end.ensures, c.loop-index-test.true)) (option_map (λ n. n.now) c.name_near.result)
+    c.name_near.ensures (sym c.is_name.ensures ∙ c.if-is_name.true)
     ∙ c.loop-index.invariant
 
 pub loop-index-preserved : goal.loop-index-preserved
 loop-index-preserved c =
     let s = story_tree c.args.self.now in
-    from_other s (node_place s c.args.here) c.args.name.now c.loop-index.index (omega (arith, c.width-index-end.ensures, c.loop-index-test.true)) (option_map (λ n. n.now) c.name_at.result)
-    c.name_at.ensures (sym c.is_name.ensures ∙ c.if-is_name.false)
+    from_other s (node_place s c.args.here) c.args.name.now c.loop-index.index (omega (arith, c.width-index-end.ensures, c.loop-index-test.true)) (option_map (λ n. n.now) c.name_near.result)
+    c.name_near.ensures (sym c.is_name.ensures ∙ c.if-is_name.false)
     ∙ c.loop-index.invariant
 
 pub returns : goal.returns

@@ -13,7 +13,7 @@ pub loop-index-preserved : goal.loop-index-preserved
 loop-index-preserved c = λ name.
     let s = story_tree c.args.self.now in
     let l = c.loop-index in
-    names_next s (node_place s c.args.holder) name l.index (omega (arith, c.width-index-end.ensures, c.loop-index-test.true)) (option_map (λ n. n.now) c.name_at-own.result) c.name_at-own.ensures
+    names_next s (node_place s c.args.holder) name l.index (omega (arith, c.width-index-end.ensures, c.loop-index-test.true)) (option_map (λ n. n.now) c.name_near-own.result) c.name_near-own.ensures
     (named_at name l.names) (named_at name c.add.new.self) _ (l.invariant name) (c.in_ok-add.ensures name)
 
 pub returns : goal.returns

@@ -3,7 +3,7 @@ use Rattle.std.proofs.lemmas.Bool.Decides.{nat_tests}
 use Rattle.ink_tree.specs.Kept.{kept_keys}
 use Rattle.ink_tree.specs.Nodes.{story_tree, node_place}
 use Rattle.ink_tree.proofs.Contents.{no_keys_in}
-use Rattle.ink_tree.proofs.tree.Tree.child_by_name.Goals as goal
+use Rattle.ink_tree.proofs.tree.Tree.unnoted_child.Goals as goal
 
 pub returns-then-keys_of-eq0 : goal.returns-then-keys_of-eq0
 returns-then-keys_of-eq0 c =
