@@ -47,6 +47,11 @@ stored_in name (n ∷ ns) (v ∷ vs) h = by (bytes_eq name n) (further (names.nu
     by true on = refl
     by false on = on
 
+-- the value at the number of a name, which is the next one where there is no such name
+at_next : (o : Option ℕ) (vs : List Value) → slice_get vs (unwrap_or o (length vs)) ≡ at_number o vs
+at_next None vs = past vs (length vs) (omega arith)
+at_next (Some i) vs = refl
+
 next : (o : Option ℕ) (n : ℕ) → unwrap_or (option_map suc o) (suc n) ≡ suc (unwrap_or o n)
 next None n = refl
 next (Some i) n = refl
@@ -60,6 +65,10 @@ numbered_in name (n ∷ ns) (v ∷ vs) h = by (bytes_eq name n) (next (names.num
         → unwrap_or (if b then Some 0 else option_map suc (names.number_of ns name)) (suc (length ns)) ≡ (if b then 0 else suc (number_of name (rows_of ns vs)))
     by true on = refl
     by false on = on
+
+pub value_in : (name : List ℕ) (ns : List (List ℕ)) (vs : List Value) → length ns ≡ length vs → slice_get vs (number_of name (rows_of ns vs)) ≡ stored name (rows_of ns vs)
+value_in name ns vs h =
+    ap (slice_get vs) (sym (numbered_in name ns vs h) ∙ ap (unwrap_or (names.number_of ns name)) h) ∙ at_next (names.number_of ns name) vs ∙ stored_in name ns vs h
 
 pub as_many : (ns : List (List ℕ)) (vs : List Value) → length ns ≡ length vs → length ns ≡ length (rows_of ns vs)
 as_many [] vs h = refl

@@ -69,16 +69,17 @@ impl Changes {
         self.noted.clear();
     }
 
-    /// Notes what the global of a name is, which may have a number, where it was not noted since the moment; called before it is
-    /// put. After that there is a slot for each global, the new one too. The one error is a refused request for memory, which is made only
-    /// for the first note of a global, and leaves all as it was.
+    /// Notes what the global of a name is, whose number in order of declaration is given, where it was not noted since the moment; called
+    /// before it is put. After that there is a slot for each global, the new one too. The one error is a refused request for memory,
+    /// which is made only for the first note of a global, and leaves all as it was.
     pub(crate) fn note(
         &mut self,
         globals: &Table,
         name: &str,
-        number: Option<usize>,
+        place: usize,
     ) -> Result<(), AllocError>
         requires slots { length globals.now ≤ self.old.slots }
+        requires place { place ≡ number_of name.now globals.now }
         ensures ok { OnOk result (self.new.noted ≡ with_noted name.now globals.now self.old.noted) }
         ensures err { OnErr result (self.new.noted ≡ self.old.noted) }
         ensures memory { OnErr result (noted_at (number_of name.now globals.now) self.old.noted ≡ None) }
@@ -87,12 +88,11 @@ impl Changes {
         ensures more { self.old.slots ≤ self.new.slots }
         ensures slots { OnOk result ((value : Value) → length (store name.now value globals.now) ≤ self.new.slots) }
     {
-        let place = globals.number_at(name, number);
         if is_marked(&self.marked, place) {
             return Ok(());
         }
         self.make_slot(place)?;
-        let value = copied(self.alloc, globals.get_at(name, number))?;
+        let value = copied(self.alloc, globals.value_at(name, place))?;
         self.add(place, value);
         Ok(())
     }
@@ -126,7 +126,7 @@ impl Changes {
         Ok(())
     }
 
-    // As `put`, of a global that is not there.
+    // As `put`, of a global that is not there, so that it comes last.
     fn put_new(
         &mut self,
         globals: &mut Table,
@@ -142,8 +142,14 @@ impl Changes {
         ensures tracks { (start : Values) → Tracks start self.old.noted globals.old → Tracks start self.new.noted globals.new }
         ensures slots { length globals.new ≤ self.new.slots }
     {
-        self.note(globals, name, number)?;
-        globals.add_at(name, number, value)
+        let next = globals.len();
+        if is_marked(&self.marked, next) {
+            return globals.add_at(name, number, value);
+        }
+        self.make_slot(next)?;
+        globals.add_at(name, number, value)?;
+        self.add(next, None);
+        Ok(())
     }
 
     // Gives the global at an index a value, and notes what it was, which was not noted since the moment. Takes no memory.

@@ -171,8 +171,9 @@ impl Globals {
         ensures trail { TrailsOrKeeps global_back 1 self.old.rows self.old.trail self.new.rows self.new.trail result }
     {
         self.trail.ready(1)?;
-        match self.changes.note(&self.table, name, number) {
-            Ok(()) => put_noted(&mut self.table, &mut self.trail, name, number, value),
+        let index = self.table.number_at(name, number);
+        match self.changes.note(&self.table, name, index) {
+            Ok(()) => put_noted(&mut self.table, &mut self.trail, name, number, index, value),
             Err(error) => Err(error),
         }
     }

@@ -136,6 +136,14 @@ impl Table {
         }
     }
 
+    /// The value of the global of a name, by its number in order of declaration; none where there is no such global.
+    pub(crate) fn value_at(&self, name: &str, index: usize) -> Option<&Value>
+        requires index { index ≡ number_of name.now self.now }
+        ensures { option_map (λ value. value.now) result ≡ stored name.now self.now }
+    {
+        self.values.get(index)
+    }
+
     /// Gives a global that is there a value, without memory. Where there is none, the value is handed back.
     pub(crate) fn replace(&mut self, name: &str, value: Value) -> Result<(), Value>
         ensures found { is_ok result ≡ is_some (stored name.now self.old) }

@@ -29,15 +29,18 @@ pub enum CountPair {
     Turn(usize, Option<u32>),
 }
 
-/// Gives the global of a name, which may have a number, a value, and notes what it held. There has to be room for the pair.
+/// Gives the global of a name, which may have a number, a value, and notes what it held. Its number in order of declaration is given,
+/// and there has to be room for the pair.
 pub(crate) fn put_noted(
     table: &mut Table,
     trail: &mut Trail<GlobalPair>,
     name: &str,
     number: Option<usize>,
+    index: usize,
     value: Value,
 ) -> Result<(), AllocError>
     requires room { 1 ≤ spare trail.old }
+    requires index { index ≡ number_of name.now table.old }
     ensures ok { OnOk result (table.new ≡ store name.now value table.old) }
     ensures err { OnErr result (table.new ≡ table.old) }
     ensures memory { OnErr result (is_some (stored name.now table.old) ≡ false) }
@@ -45,7 +48,6 @@ pub(crate) fn put_noted(
     ensures covers { (noted : List Before) → is_some (noted_at (number_of name.now table.old) noted) ≡ true → AreNew (length table.old) noted
         → Covers noted (length table.old) (trail_of trail.old.undo) → Covers noted (length table.new) (trail_of trail.new.undo) }
 {
-    let index = table.number_at(name, number);
     if index < table.len() {
         change_noted(table, trail, index, value);
         Ok(())

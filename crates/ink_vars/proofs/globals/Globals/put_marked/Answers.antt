@@ -10,7 +10,7 @@ use Rattle.ink_vars.proofs.Noting.{either_way}
 use Rattle.ink_vars.proofs.globals.Globals.put_marked.Goals as goal
 
 pub note-requires : goal.note-requires
-note-requires c = record { slots = c.self.invariant.0.slots }
+note-requires c = record { slots = c.self.invariant.0.slots; place = c.number_at-index.ensures }
 
 -- the start stays
 stays : (c : goal.After-put_noted) → Tracks (as_they_were c.self.inside.changes.noted 0 c.self.inside.table) c.note.new.self.noted c.put_noted.new.table
