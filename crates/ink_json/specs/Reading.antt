@@ -1,15 +1,17 @@
 -- What reading functions return, beside the definition of the story that bytes spell.
-use Rattle.std.specs.Prelude.{◌≡◌, ℕ, List, [], ◌∷◌, length, Bool, true, false, not, ◌&&◌, nat_lt, bytes_eq, Option, option_map, is_some, if◌then◌else◌, Result, Ok, Err}
+use Rattle.std.specs.Prelude.{◌≡◌, ℕ, ◌+◌, ◌-◌, ◌*◌, ◌%◌, ◌^◌, drop, List, [], ◌∷◌, length, Bool, true, false, not, ◌&&◌, nat_lt, bytes_eq, Option, option_map, is_some, if◌then◌else◌, Result, Ok, Err}
 use Rattle.std.specs.Borrow.{Bor}
-use Rattle.std.specs.BTreeSet.{BTreeSet, contains_by}
+use Rattle.std.specs.BTreeSet.{contains_by}
 use Rattle.std.specs.Cmp.Lexicographic.{slice_cmp}
 use Rattle.std.specs.List.{list_any}
-use Rattle.std.specs.Ordering.{nat_cmp}
+use Rattle.std.specs.Ordering.{nat_cmp, ordering_then}
+use Rattle.std.specs.declared.cmp.Ordering.{Ordering}
 use Rattle.std.specs.Str.{is_utf8}
 use Rattle.serde_json.specs.Data.{Data}
 use Rattle.serde_json.specs.Find.{as_array}
 use Rattle.ink_model.specs.Bytes.{is_filled}
 use Rattle.ink_model.specs.Grammar.{here, under, unmarked, is_last, are_flags, is_name, member_of, name_key, name_of, own_of, flags_key, faults}
+use Rattle.ink_json.specs.declared.names.Given.{Given}
 use Rattle.ink_json.specs.declared.own.Label.{Label}
 use Rattle.ink_model.specs.declared.limits.TheConstants.{MAX_STORY}
 use Rattle.ink_model.specs.declared.fault.Cause.{Cause}
@@ -72,9 +74,22 @@ abbrev pub placed : {A : Type 0} → Result A Cause → Result A ReadRefusal
 placed (Ok a) = Ok a
 placed (Err c) = Err (here c)
 
--- a set has the names of a list
-abbrev pub Holds : BTreeSet (Bor (List ℕ)) → List (List ℕ) → Type 0
-Holds names taken = (q : List ℕ) → contains_by (λ k. slice_cmp nat_cmp q k.now) names ≡ list_any (λ n. bytes_eq q n) taken
+-- bytes behind a number, as a number of 64 bits
+abbrev pub number_before : ℕ → List ℕ → ℕ
+number_before n [] = n
+number_before n (b ∷ bs) = number_before (((n * 256) % 2 ^ 64 + b) % 2 ^ 64) bs
+
+-- the last eight bytes of a name, as a number
+abbrev pub ending : List ℕ → ℕ
+ending name = number_before 0 (drop (length name - 8) name)
+
+-- how names stand to one another, behind the numbers of their last bytes
+abbrev pub name_order : ℕ × Bor (List ℕ) → ℕ × Bor (List ℕ) → Ordering
+name_order a b = ordering_then (nat_cmp a.0 b.0) (slice_cmp nat_cmp a.1.now b.1.now)
+
+-- the names given are those of a list
+abbrev pub Holds : Given → List (List ℕ) → Type 0
+Holds given taken = (q : Bor (List ℕ)) → contains_by (name_order (ending q.now, q)) given.names ≡ list_any (λ n. bytes_eq q.now n) taken
 
 -- what content says of its own name: whether what it gives for one is a text, and the name
 abbrev pub IsLabel : Label → Data → Type 0

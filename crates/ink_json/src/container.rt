@@ -18,7 +18,7 @@ ghost use Rattle.ink_json.specs.Size.{Fits};
 use crate::error::{ReadFailure, at_index, at_name, refused};
 use crate::last::Last;
 use crate::leaf::{read_number, read_string};
-use crate::names::{give, is_misnamed};
+use crate::names::Given;
 use crate::nodes::Nodes;
 use crate::object::read_object_leaf;
 use crate::own::{copy_name, is_own, label_of, read_own};
@@ -26,7 +26,7 @@ use crate::texts::Texts;
 use ink_model::{Cause, Content, InkVersion, Leaf, MAX_NESTING};
 use json_tape::value::{Items, Kind, Value};
 use std::alloc::Global;
-use std::collections::{BTreeMap, BTreeSet};
+use std::collections::BTreeMap;
 
 /// What content is read in: a story of which version, and how deep.
 #[derive(Clone, Copy)]
@@ -64,7 +64,7 @@ pub(crate) struct Position<'k> {
 #[derive(Drop)]
 struct Elements<'t, 'a> {
     width: u32,
-    names: BTreeSet<&'a str>,
+    names: Given<'a>,
     last: Value<'t, 'a>,
 }
 
@@ -213,15 +213,13 @@ fn read_elements<'t, 'a>(
     ensures err { IfErr result (λ e. IsFirst e (faults_inside context.version context.nesting 0 [] (item (json_data first.entry) (items_left items.entry)))) }
 {
     let inside = context.inside();
-    let mut names = BTreeSet::new(alloc);
+    let mut names = Given::none(alloc);
     let mut here = first;
     let mut left = items;
     let mut index = 0;
     while let Some(next) = left.next() {
-        let label = label_of(&here);
-        let misnamed = is_misnamed(&names, label);
+        let misnamed = names.give(label_of(&here))?;
         read_element(alloc, texts, nodes, number, &here, index, inside, misnamed)?;
-        give(&mut names, label.name)?;
         here = next;
         index += 1;
     }
@@ -265,14 +263,14 @@ fn read_element(
 
 /// The containers by key, which the last element gives; how many they are.
 #[cycle(content)]
-fn read_last(
+fn read_last<'a>(
     alloc: Global,
     texts: &mut Texts,
     nodes: &mut Nodes,
     number: u32,
-    last: &Value<'_, '_>,
+    last: &Value<'_, 'a>,
     context: Context,
-    names: &BTreeSet<&str>,
+    names: &Given<'a>,
 ) -> Result<u32, ReadFailure>
     requires nests { context.nesting ≤ MAX_NESTING }
     requires room { length nodes.old + size (json_data last.now) < 2 ^ 31 }
@@ -285,14 +283,14 @@ fn read_last(
 
 /// The containers by key, in the order of the keys; how many they are.
 #[cycle(content)]
-fn read_keyed(
+fn read_keyed<'a>(
     alloc: Global,
     texts: &mut Texts,
     nodes: &mut Nodes,
     number: u32,
-    keys: &BTreeMap<&str, Value<'_, '_>>,
+    keys: &BTreeMap<&'a str, Value<'_, 'a>>,
     context: Context,
-    names: &BTreeSet<&str>,
+    names: &Given<'a>,
 ) -> Result<u32, ReadFailure>
     requires nests { context.nesting ≤ MAX_NESTING }
     requires room { length nodes.old + members_size (members_data keys.now.entries) < 2 ^ 31 }
@@ -304,7 +302,7 @@ fn read_keyed(
     for (key, value) in keys.iter() {
         let name = *key;
         if !is_own(name) {
-            let misnamed = names.contains(name);
+            let misnamed = names.has(name);
             read_named(alloc, texts, nodes, number, name, value, inside, misnamed)?;
             count += 1;
         }

@@ -1,39 +1,59 @@
 //! The names given in a container so far.
 
-ghost use Rattle.std.specs.Prelude.{◌≡◌, ℕ, List, OnOk, option_map};
+ghost use Rattle.std.specs.Prelude.{◌≡◌, ℕ, List, [], Some, IfOk, OnOk, option_map};
 ghost use Rattle.serde_json.specs.Data.{Data};
 ghost use Rattle.ink_model.specs.Grammar.{is_taken, with_name, is_misnamed};
-ghost use Rattle.ink_json.specs.Reading.{Holds, IsLabel};
+ghost use Rattle.ink_json.specs.Reading.{Holds, IsLabel, ending};
 
 use crate::own::Label;
-use std::alloc::AllocError;
+use std::alloc::{AllocError, Global};
 use std::collections::BTreeSet;
 
-/// Whether content of this label may not stand in a list by its name: it is no text, or was given before.
-pub(crate) fn is_misnamed(names: &BTreeSet<&str>, label: Label<'_>) -> bool
-    ensures { (taken : List (List ℕ)) → Holds names.now taken → (d : Data) → IsLabel label.entry d → result ≡ is_misnamed taken d }
-{
-    !label.sound || is_taken(names, label.name)
+/// The names given in a container so far. Each stands behind the number that its last bytes are, by which most are told apart.
+#[derive(Drop)]
+pub(crate) struct Given<'v> {
+    names: BTreeSet<(u64, &'v str)>,
 }
 
-fn is_taken(names: &BTreeSet<&str>, name: Option<&str>) -> bool
-    ensures { (taken : List (List ℕ)) → Holds names.now taken → result ≡ is_taken taken (option_map (λ n. n.now) name.entry) }
-{
-    match name {
-        Some(name) => names.contains(name),
-        None => false,
+impl<'v> Given<'v> {
+    /// None yet. Takes no memory.
+    pub(crate) fn none(alloc: Global) -> Given<'v>
+        ensures { Holds result [] }
+    {
+        Given {
+            names: BTreeSet::new(alloc),
+        }
+    }
+
+    /// Whether a name was given.
+    pub(crate) fn has(&self, name: &'v str) -> bool
+        ensures { (taken : List (List ℕ)) → Holds self.now taken → result ≡ is_taken taken (Some name.now) }
+    {
+        self.names.contains(&(ending(name), name))
+    }
+
+    /// Gives the name of content of this label, where it has one. Whether such content may not stand in a list by its name: it is no
+    /// text, or was given before.
+    pub(crate) fn give(&mut self, label: Label<'v>) -> Result<bool, AllocError>
+        ensures misnamed { IfOk result (λ misnamed. (taken : List (List ℕ)) → Holds self.old taken → (d : Data) → IsLabel label.entry d → misnamed ≡ is_misnamed taken d) }
+        ensures given { OnOk result ((taken : List (List ℕ)) → Holds self.old taken → Holds self.new (with_name taken (option_map (λ n. n.now) label.entry.name))) }
+    {
+        let Some(name) = label.name else {
+            return Ok(!label.sound);
+        };
+        let is_new = self.names.insert((ending(name), name))?;
+        Ok(!label.sound || !is_new)
     }
 }
 
-/// Adds a name, where there is one.
-pub(crate) fn give<'v>(
-    names: &mut BTreeSet<&'v str>,
-    name: Option<&'v str>,
-) -> Result<(), AllocError>
-    ensures { OnOk result ((taken : List (List ℕ)) → Holds names.old taken → Holds names.new (with_name taken (option_map (λ n. n.now) name.entry))) }
+/// The last eight bytes of a name, as a number.
+fn ending(name: &str) -> u64
+    ensures { result ≡ ending name.now }
 {
-    if let Some(name) = name {
-        names.insert(name)?;
+    let bytes = name.as_bytes();
+    let mut number: u64 = 0;
+    for byte in &bytes[bytes.len().saturating_sub(8)..] {
+        number = number.wrapping_mul(256).wrapping_add(*byte as u64);
     }
-    Ok(())
+    number
 }

@@ -33,6 +33,20 @@ name_put f own name i none =
           cond-false (bytes_eq own name) (Some i) (f name) other ∙ first_alone (f name) ∙ sym (rw also refl)
     ]
 
+-- what a name led to is put back
+pub name_put_back : (f g : List ℕ → Option ℕ) (own name : List ℕ) (i first : ℕ) → f own ≡ Some first → ((n : List ℕ) → g n ≡ update bytes_eq f own (Some i) n)
+    → update bytes_eq g own (Some first) name ≡ first_of (f name) (if bytes_eq name own then Some i else None)
+name_put_back f g own name i first there after =
+    elim (cases_Bool (bytes_eq own name)) [
+      | inl is ↦
+          let same : own ≡ name = (bytes_eq-Decides own name).0 is in
+          let kept : f name ≡ Some first = ap f (sym same) ∙ there in
+          cond-true (bytes_eq own name) (Some first) (g name) is ∙ sym (rw kept refl)
+      | inr other ↦
+          let also : bytes_eq name own ≡ false = search (rules, bytes_eq-Decides, other) in
+          cond-false (bytes_eq own name) (Some first) (g name) other ∙ after name ∙ cond-false (bytes_eq own name) (Some i) (f name) other ∙ first_alone (f name) ∙ sym (rw also refl)
+    ]
+
 pub none_named : (s : StoryTree) → AreNamed s []
 none_named s = λ i l e. absurd (none-some l e)
 

@@ -45,15 +45,15 @@ impl Names {
         }
     }
 
-    // With one name more, where it is new.
+    // With one name more, where it is new: what stood there already is put back.
     fn put(&mut self, alloc: Global, own: &str, index: u32) -> Result<(), AllocError>
         ensures { OnOk result ((name : List ℕ) → named_at name self.new ≡ first_of (named_at name self.old) (if bytes_eq name own.now then Some index else None)) }
     {
-        if self.indices.contains_key(own) {
-            return Ok(());
-        }
         let key = String::from_str(alloc, own)?;
-        self.indices.insert(key, index)?;
+        if let Some(first) = self.indices.insert(key, index)? {
+            let again = String::from_str(alloc, own)?;
+            self.indices.insert(again, first)?;
+        }
         Ok(())
     }
 

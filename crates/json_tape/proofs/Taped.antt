@@ -121,6 +121,16 @@ module _ (texts : Texts) (tags : List Tag) (numbers : List ℕ) (tag : Tag) (are
       nodes_more (texts ++ text ∷ []) _ tags numbers tag (length texts) (fits_longer (length texts) (length (texts ++ text ∷ [])) tags numbers (omega arith) are.fit)
       ∙ ap₂ (λ l x. l ++ x ∷ []) (nodes_stay texts text tags numbers are.fit) (last_node texts text tag some)
 
+  -- one that names a text which is there
+  pub again_pushed : (number : ℕ) → number < length texts → AreNodes texts (tags ++ tag ∷ []) (numbers ++ number ∷ [])
+  again_pushed number there = record {
+    fit = fits_more (length texts) tags numbers tag number are.fit (λ h. there);
+    few = omega (arith, are.few, length-append tags (tag ∷ []));
+  }
+
+  pub again_nodes : (number : ℕ) → nodes_of texts (tags ++ tag ∷ []) (numbers ++ number ∷ []) ≡ nodes_of texts tags numbers ++ node_of texts tag number ∷ []
+  again_nodes number = nodes_more texts (length texts) tags numbers tag number are.fit
+
 -- ---- a bracket that leads elsewhere
 
 led : (texts : Texts) (t : Tag) (m n : ℕ) → IsOpening (node_of texts t m) → (has_text t ≡ false) × (node_of texts t n ≡ leading_to n (node_of texts t m))

@@ -1,5 +1,5 @@
 -- The nodes that a tape keeps: of each a tag and a number, and the texts by themselves.
-use Rattle.std.specs.Prelude.{◌≡◌, ℕ, ◌<◌, ◌≤◌, List, [], ◌∷◌, length, get_or, Bool, true, false, Some, ⊤}
+use Rattle.std.specs.Prelude.{◌≡◌, ℕ, ◌<◌, ◌≤◌, List, [], ◌∷◌, ◌++◌, length, get_or, Bool, true, false, Some, ⊤}
 use Rattle.std.specs.Borrow.{Bor}
 use Rattle.json.specs.Token.{Token}
 use Rattle.json.specs.Json.{skip_value}
@@ -43,6 +43,10 @@ has_text Null = false
 -- the node of a tag whose text this is
 abbrev pub text_node : Tag → Bor (List ℕ) → Node
 text_node tag text = node_of (text ∷ []) tag 0
+
+-- with a number more, of this text
+abbrev pub HasNumber : List Node → List ℕ → List Node → Type 0
+HasNumber old text new = (number : Bor (List ℕ)) × (number.now ≡ text) × (new ≡ old ++ nodes.Number number ∷ [])
 
 -- ---- all nodes
 

@@ -1,6 +1,6 @@
 //! A whole text of JSON as one flat list, in few bytes for each token.
 
-ghost use Rattle.std.specs.Prelude.{◌≡◌, ◌<◌, ◌^◌, ◌+◌, ◌++◌, ◌∷◌, [], true, false, ℕ, List, length, drop, get_or, slice_set, Some, None, Err, IfOk, OnOk, IsSome, MatchOption};
+ghost use Rattle.std.specs.Prelude.{◌≡◌, ◌<◌, ◌^◌, ◌+◌, ◌++◌, ◌∷◌, [], true, false, ℕ, List, length, drop, get_or, slice_set, Some, None, Err, IfOk, IfSome, OnOk, IsSome, MatchOption};
 ghost use Rattle.json.specs.Token.{Token as SpecToken, begin_array, begin_object};
 ghost use Rattle.json.specs.Lex.{tokens};
 ghost use Rattle.json.specs.Json.{document, skip_value};
@@ -8,7 +8,7 @@ ghost use Rattle.json.specs.Reads.{token_of, opens, skip_items, skip_members};
 ghost use Rattle.json.specs.Tape.{node_token, LinkAt, Grown};
 ghost use Rattle.json.specs.Find.{HasValue};
 ghost use Rattle.json.specs.declared.tape.Node.TheVariants.{Null};
-ghost use Rattle.json_tape.specs.Tape.{node_of, has_text, text_node, IsOpening, leading_to, Moves};
+ghost use Rattle.json_tape.specs.Tape.{node_of, has_text, text_at, text_node, HasNumber, IsOpening, leading_to, Moves};
 
 use json::{Invalid, MAX_DEPTH, Node, Reader, Scratch, Token};
 use std::alloc::{AllocError, Global};
@@ -36,6 +36,8 @@ struct Entries<'a> {
     /// Of an opening bracket the place behind its closing one, and of a key, a string or a number which of the texts it is.
     numbers: Vec<u32>,
     texts: Vec<&'a str>,
+    /// Which of the texts each digit may be. Nothing rests on it: the text is looked at again.
+    digits: [u32; 10],
 }
 
 impl<'a> Model for Entries<'a> {
@@ -59,6 +61,7 @@ impl<'a> Entries<'a> {
             tags: Vec::new(alloc),
             numbers: Vec::new(alloc),
             texts: Vec::new(alloc),
+            digits: [0; 10],
         }
     }
 
@@ -98,6 +101,27 @@ impl<'a> Entries<'a> {
         Ok(())
     }
 
+    /// A number more. All numbers that are one digit name one text, so that each takes five bytes and no more.
+    #[inline(always)]
+    fn push_number(&mut self, text: &'a str) -> Result<(), AllocError>
+        requires { length self.old < 2 ^ 32 }
+        ensures { OnOk result (HasNumber self.old text.entry.now self.new) }
+    {
+        let Some(digit) = digit(text) else {
+            return self.push_text(Tag::Number, text);
+        };
+        let known = self.digits[digit];
+        if is_text(&self.texts, known, text) {
+            self.tags.reserve(1)?;
+            self.numbers.reserve(1)?;
+            self.tags.push_reserved(Tag::Number);
+            self.numbers.push_reserved(known);
+            return Ok(());
+        }
+        self.digits[digit] = self.texts.len() as u32;
+        self.push_text(Tag::Number, text)
+    }
+
     /// A closing bracket more. The opening one stands at a place, and now leads behind it.
     fn close(&mut self, at: usize, end: Tag) -> Result<(), AllocError>
         requires opening { IsOpening (get_or self.old at Null) }
@@ -117,6 +141,31 @@ impl<'a> Entries<'a> {
         ensures { result ≡ get_or self.now at Null }
     {
         node(&self.texts, self.tags[at], self.numbers[at])
+    }
+}
+
+/// The digit that a text is.
+#[inline(always)]
+fn digit(text: &str) -> Option<usize>
+    ensures { IfSome result (λ digit. digit < 10) }
+{
+    let bytes = text.as_bytes();
+    if bytes.len() != 1 {
+        return None;
+    }
+    let digit = bytes[0].wrapping_sub(b'0') as usize;
+    if digit < 10 { Some(digit) } else { None }
+}
+
+/// Whether the text of a number is this one.
+#[inline(always)]
+fn is_text(texts: &[&str], number: u32, text: &str) -> bool
+    ensures there { result ≡ true → number < length texts.now }
+    ensures same { result ≡ true → (text_at texts.now number).now ≡ text.now }
+{
+    match texts.get(number as usize) {
+        Some(there) => *there == text,
+        None => false,
     }
 }
 
@@ -206,7 +255,7 @@ fn leaf<'a>(nodes: &mut Entries<'a>, token: Token<'a>) -> Result<(), Stop>
 {
     match token {
         Token::String(text) => Ok(nodes.push_text(Tag::String, text)?),
-        Token::Number(text) => Ok(nodes.push_text(Tag::Number, text)?),
+        Token::Number(text) => Ok(nodes.push_number(text)?),
         Token::Bool(true) => Ok(nodes.push(Tag::True, 0)?),
         Token::Bool(false) => Ok(nodes.push(Tag::False, 0)?),
         Token::Null => Ok(nodes.push(Tag::Null, 0)?),

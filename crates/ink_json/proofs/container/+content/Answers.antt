@@ -1,17 +1,17 @@
-use Rattle.std.proofs.Common.{◌≡◌, ◌+◌, ◌++◌, true, false, cond, None, Ok, length, refl, ap, sym, subst, ◌∙◌, arith}
+use Rattle.std.proofs.Common.{◌≡◌, ◌+◌, ◌++◌, [], true, false, cond, None, Ok, length, refl, ap, sym, subst, ◌∙◌, arith}
 use Rattle.std.proofs.lemmas.List.{append-nil}
 use Rattle.std.proofs.lemmas.Result.{err_from_is_err_and}
 use Rattle.serde_json.specs.Data.{array, item}
 use Rattle.json_tape.specs.Size.{items_size, members_size}
 use Rattle.json_tape.specs.Value.{json_data, items_left, Entry, members_data}
 use Rattle.json_tape.proofs.Counts.{size_positive}
-use Rattle.ink_model.specs.Grammar.{with_name, name_of, name_in, flags_of, own_of, own_after, content, content_of, tree_of, faults_inside, faults_by, keyed_in, keyed_last, keyed_by, first}
+use Rattle.ink_model.specs.Grammar.{with_name, name_of, name_in, flags_of, own_of, own_after, content, content_of, tree_of, faults_inside, faults_keyed, faults_by, keyed_in, keyed_last, keyed_by, first}
 use Rattle.ink_model.specs.Tree.{container, count, key, tree}
 use Rattle.ink_model.specs.View.{count_keys}
 use Rattle.ink_model.specs.declared.content.Leaf.{Leaf}
 use Rattle.ink_json.specs.Listing.{Lists, nodes_from, nodes_by_key, nodes_inside}
-use Rattle.ink_json.specs.Reading.{is_whole}
-use Rattle.ink_json.proofs.Containers.{first_ok, keyed_takes, container_takes, container_stops, container_read, keyed_is, keyed_members, last_within, element_goes, element_stops, own_key_faults, key_stops, key_goes}
+use Rattle.ink_json.specs.Reading.{IsFirst, is_whole}
+use Rattle.ink_json.proofs.Containers.{first_ok, fails_first, keyed_takes, container_takes, container_stops, container_read, keyed_is, keyed_members, last_within, element_goes, element_stops, own_key_faults, key_stops, key_goes}
 use Rattle.ink_json.proofs.Growing.{container_listed, grown, inside_listed, keys_within, last_grown, next_key, opened_listed, own_key}
 use Rattle.ink_json.proofs.Listing.{by_key_more, from_more}
 use Rattle.ink_json.proofs.container.+content.Goals as goal
@@ -83,6 +83,15 @@ read_inside-read_last-requires t c =
     let within = last_grown c.args.context.version c.args.nodes.now c.read_elements.new.nodes _ (json_data c.args.first) (items_left c.args.items) (json_data c.in_ok-width.field-0.last) c.in_ok-width.ensures.nodes c.in_ok-width.ensures.last in
     (omega arith, (c.requires.nests, omega arith))
 
+pub read_inside-returns-in_err-keys-clause-err : goal.read_inside-returns-in_err-keys-clause-err
+read_inside-returns-in_err-keys-clause-err t c =
+    let names = c.in_ok-width.ensures.names in
+    let d = json_data c.in_ok-width.field-0.last in
+    let wrong = faults_keyed c.args.context.version c.args.context.nesting names.0 d in
+    let p = err_from_is_err_and c.from_residual-in_err-keys.result c.from_residual-in_err-keys.ensures.1 in
+    let e = c.in_err-keys.field-0.0 in
+    rw (p.1, p.2) (subst (IsFirst e) (append-nil wrong ∙ sym names.2) (fails_first e wrong [] (keyed_last c.args.context.version d) (c.in_err-keys.ensures names.0 names.1)))
+
 pub read_inside-returns-clause-keys : goal.read_inside-returns-clause-keys
 read_inside-returns-clause-keys t c =
     let names = c.in_ok-width.ensures.names in
@@ -106,8 +115,8 @@ read_elements-returns-in_err-read_element-clause-err t c =
     let l = c.loop-next in
     let names = l.invariant.names in
     let same = names.2 ∙ ap (λ ds. faults_inside c.args.context.version c.args.context.nesting l.index names.0 (item (json_data l.here) ds)) c.in-Some.ensures.value in
-    let p = err_from_is_err_and c.from_residual.result c.from_residual.ensures.1 in
-    let fails = rw (c.is_misnamed-misnamed.ensures names.0 names.1 (json_data l.here) c.label_of-label.ensures, c.inside-inside.ensures.version, c.inside-inside.ensures.nesting) at c.in_err-read_element.ensures in
+    let p = err_from_is_err_and c.from_residual-in_err-read_element.result c.from_residual-in_err-read_element.ensures.1 in
+    let fails = rw (c.in_ok-misnamed.ensures.misnamed names.0 names.1 (json_data l.here) c.label_of.ensures, c.inside-inside.ensures.version, c.inside-inside.ensures.nesting) at c.in_err-read_element.ensures in
     rw (p.1, p.2) (element_stops c.args.context.version c.args.context.nesting l.index (json_data l.here) (json_data c.in-Some.next) (items_left c.next.new.self) names.0 _ same c.in_err-read_element.field-0.0 fails)
 
 pub read_elements-loop-next-preserved : goal.read_elements-loop-next-preserved
@@ -118,7 +127,7 @@ read_elements-loop-next-preserved t c =
     let next = json_data c.in-Some.next in
     let left = items_left c.next.new.self in
     let names = l.invariant.names in
-    let read = rw (c.is_misnamed-misnamed.ensures names.0 names.1 here c.label_of-label.ensures, c.inside-inside.ensures.version, c.inside-inside.ensures.nesting) at c.in_ok-read_element.ensures in
+    let read = rw (c.in_ok-misnamed.ensures.misnamed names.0 names.1 here c.label_of.ensures, c.inside-inside.ensures.version, c.inside-inside.ensures.nesting) at c.in_ok-read_element.ensures in
     let same = names.2 ∙ ap (λ ds. faults_inside c.args.context.version c.args.context.nesting l.index names.0 (item here ds)) e in
     let goes = element_goes c.args.context.version c.args.context.nesting l.index here next left names.0 _ same read.0 read.1 in
     let now = l.nodes in
@@ -128,7 +137,7 @@ read_elements-loop-next-preserved t c =
           (ap (λ u. now ++ nodes_from (length now) c.args.number l.index (tree u (content_of c.args.context.version (item next left)))) (sym goes.1)
           ∙ ap (λ ds. now ++ nodes_from (length now) c.args.number l.index (content_of c.args.context.version (item here ds))) (sym e) ∙ listed) read.2;
       wide = omega (arith, l.invariant.wide, ap (λ ds. count (content_of c.args.context.version (item here ds))) e);
-      names = (with_name names.0 (name_of here), rw c.label_of-label.ensures.1 at (c.in_ok-give.ensures names.0 names.1), goes.0);
+      names = (with_name names.0 (name_of here), rw c.label_of.ensures.1 at (c.in_ok-misnamed.ensures.given names.0 names.1), goes.0);
       last = l.invariant.last ∙ ap (own_after here) e;
       within = omega (arith, l.invariant.within, ap items_size e, size_positive here);
       room = omega (arith, l.invariant.room, ap items_size e, grown c.args.context.version now c.read_element.new.nodes _ _ _ true here read.0 read.2 goes.1);
@@ -152,8 +161,8 @@ read_keyed-returns-in_err-read_named t c = λ taken held.
     let all = c.loop-key.invariant.faults taken held ∙ ap (λ es. faults_by c.args.context.version c.args.context.nesting taken (members_data es)) c.in-Some.ensures.steps in
     let p = err_from_is_err_and c.from_residual.result c.from_residual.ensures.1 in
     let fails = rw (c.inside-inside.ensures.version, c.inside-inside.ensures.nesting) at c.in_err-read_named.ensures in
-    rw (p.1, p.2) (key_stops c.args.context.version c.args.context.nesting (c.in-Some.key.now, c.in-Some.value.now) c.next.new.self c.in-Some.key.now.now c.contains-misnamed.result refl (sym c.if-not-is_own.ensures)
-    c.in_err-read_named.field-0.0 (keyed_by c.args.context.version (members_data c.args.keys.now.entries)) taken _ (c.contains-misnamed.ensures ∙ held c.in-Some.key.now.now) all fails)
+    rw (p.1, p.2) (key_stops c.args.context.version c.args.context.nesting (c.in-Some.key.now, c.in-Some.value.now) c.next.new.self c.in-Some.key.now.now c.has-misnamed.result refl (sym c.if-not-is_own.ensures)
+    c.in_err-read_named.field-0.0 (keyed_by c.args.context.version (members_data c.args.keys.now.entries)) taken _ (c.has-misnamed.ensures taken held) all fails)
 
 pub read_keyed-overflow_add-count : goal.read_keyed-overflow_add-count
 read_keyed-overflow_add-count t c =
@@ -199,8 +208,8 @@ read_keyed-loop-key-preserved-then-not-is_own t c =
       listed = by_key_more now c.read_named.new.nodes _ c.args.number name read.0 (keyed_by c.args.context.version (members_data rest))
           (ap (λ ks. now ++ nodes_by_key (length now) c.args.number ks) (sym next) ∙ listed) read.2;
       many = omega (arith, l.invariant.many, ap count_keys next);
-      faults = λ taken held. key_goes c.args.context.version c.args.context.nesting e rest name c.contains-misnamed.result refl own read.0 read.1
-          taken _ (c.contains-misnamed.ensures ∙ held name) (l.invariant.faults taken held ∙ ap (λ es. faults_by c.args.context.version c.args.context.nesting taken (members_data es)) steps);
+      faults = λ taken held. key_goes c.args.context.version c.args.context.nesting e rest name c.has-misnamed.result refl own read.0 read.1
+          taken _ (c.has-misnamed.ensures taken held) (l.invariant.faults taken held ∙ ap (λ es. faults_by c.args.context.version c.args.context.nesting taken (members_data es)) steps);
       room = omega (arith, l.invariant.room, spent, grown c.args.context.version now c.read_named.new.nodes _ _ _ false (json_data e.1) read.0 read.2 tree);
     }
 

@@ -1,5 +1,6 @@
 use Rattle.std.proofs.Common.{◌≡◌, ◌∷◌, true, false, sym, ap, ◌∙◌, subst, arith}
 use Rattle.json.specs.Reads.{token_of}
+use Rattle.json.specs.Token.{Token}
 use Rattle.json.specs.declared.token.Token.TheVariants as tokens
 use Rattle.json.specs.declared.tape.Node.TheVariants.{String, Number, Bool, Null}
 use Rattle.json.proofs.Grammar.{left, value_is}
@@ -13,11 +14,13 @@ returns-in_ok-push_text-in-String-clause-ok c depth rest =
     subst (λ k. Moves depth c.args.nodes.now (token_of k ∷ rest) new rest) (sym c.in-String.is)
     (moved (String c.in-String.text) c.args.nodes.now new depth rest c.in_ok-push_text-in-String.ensures (ap left (value_is depth _)) (λ all i. tt))
 
-pub returns-in_ok-push_text-in-Number-clause-ok : goal.returns-in_ok-push_text-in-Number-clause-ok
-returns-in_ok-push_text-in-Number-clause-ok c depth rest =
-    let new = c.push_text-in-Number.new.self in
+pub returns-in_ok-push_number-in-Number-clause-ok : goal.returns-in_ok-push_number-in-Number-clause-ok
+returns-in_ok-push_number-in-Number-clause-ok c depth rest =
+    let new = c.push_number.new.self in
+    let pushed = c.in_ok-push_number-in-Number.ensures in
     subst (λ k. Moves depth c.args.nodes.now (token_of k ∷ rest) new rest) (sym c.in-Number.is)
-    (moved (Number c.in-Number.text) c.args.nodes.now new depth rest c.in_ok-push_text-in-Number.ensures (ap left (value_is depth _)) (λ all i. tt))
+    (subst (λ text. Moves depth c.args.nodes.now (Token.number text ∷ rest) new rest) pushed.1
+    (moved (Number pushed.0) c.args.nodes.now new depth rest pushed.2 (ap left (value_is depth _)) (λ all i. tt)))
 
 pub returns-in_ok-push-in-Bool-true-clause-ok : goal.returns-in_ok-push-in-Bool-true-clause-ok
 returns-in_ok-push-in-Bool-true-clause-ok c depth rest =
