@@ -1,5 +1,5 @@
 -- What each change of frames and threads puts back.
-use Rattle.std.proofs.Common.{◌≡◌, ◌∙◌, ◌≤◌, ◌+◌, ◌-◌, MatchOption, arith, drop, get_or, length, option_to_list, ℕ, List, [], ◌∷◌, ◌++◌, Bool, true, false, Option, Some, None, Result, Ok, Err, ap, append_assoc, if◌then◌else◌, is_some, nat_eq, nat_lt, refl, reverse, subst, sym}
+use Rattle.std.proofs.Common.{◌≡◌, ◌∙◌, ◌≤◌, ◌<◌, ◌+◌, ◌-◌, MatchOption, arith, drop, get_or, length, option_to_list, ℕ, List, [], ◌∷◌, ◌++◌, Bool, true, false, Option, Some, None, Result, Ok, Err, ap, append_assoc, if◌then◌else◌, is_some, nat_eq, nat_lt, refl, reverse, subst, suc, sym}
 use Rattle.std.proofs.Math.Seq.{get_or-append_seam}
 use Rattle.std.proofs.lemmas.List.{length-append, length-reverse, reverse-append, reverse-reverse}
 use Rattle.ink_model.specs.Frames.{FrameOf, ThreadOf, ThreadsOf, gone, mode_in, on_top, put_in}
@@ -10,13 +10,13 @@ use Rattle.ink_model.specs.declared.frame.FrameKind.{FrameKind}
 use Rattle.ink_model.specs.declared.limits.TheConstants.{MAX_FRAMES, MAX_THREADS}
 use Rattle.ink_trail.proofs.Undoing.{none-stood, spare-notes, spare-trails, stood-kept, stood-none, stood-notes, stood-trails}
 use Rattle.ink_trail.specs.Undo.{KeepsTrail, Notes, Trails, undone}
-use Rattle.ink_stack.specs.Cells.{number_back, previous_back, unpopped, unpushed}
+use Rattle.ink_stack.specs.Cells.{number_back, ungone, unpopped, unpushed}
 use Rattle.ink_stack.specs.Running.{RunningView, threads_in}
 use Rattle.ink_stack.specs.Threads.{ThreadsView}
 use Rattle.ink_stack.specs.Undo.{HasGone, HasMode, threads_back, threads_spare, threads_stood}
 use Rattle.ink_stack.specs.Words.{Changes, Grows}
 use Rattle.ink_stack.specs.declared.undo.ThreadsPair.{ThreadsPair}
-use Rattle.ink_stack.specs.declared.undo.ThreadsPair.TheVariants.{Placed, Previous, Evaluating, Numbered, Fresh, Temp, FramePushed, FramePopped, ThreadPushed, ThreadPopped, Replaced}
+use Rattle.ink_stack.specs.declared.undo.ThreadsPair.TheVariants.{Placed, Gone, Evaluating, Numbered, Fresh, Temp, FramePushed, FramePopped, ThreadPushed, ThreadPopped, Replaced}
 
 -- a list without its last item, seen from its end
 pub popped-drop : {X : Type 0} (xs rest : List X) (o : Option X) (n m : ℕ) → xs ≡ rest ++ option_to_list o → MatchOption o ((n ≡ 0) × (m ≡ 0)) (λ x. m + 1 ≡ n) → n ≡ length xs
@@ -25,28 +25,14 @@ popped-drop xs rest (Some x) n m is cases len = sym (ap (λ ys. drop 1 (reverse 
 popped-drop xs [] None n m is cases len = sym (ap (λ ys. drop 1 (reverse ys)) is)
 popped-drop xs (y ∷ ys) None n m is cases len = absurd (omega (arith, cases.0, len, ap length is, length-append (y ∷ ys) []))
 
--- the last two
-last_two : {X : Type 0} (xs rest : List X) (a b d : X) → reverse xs ≡ a ∷ b ∷ rest → (get_or xs (length xs - 1) d ≡ a) × (get_or xs (length xs - 2) d ≡ b)
-last_two xs rest a b d is =
+-- an item of a list, seen from its end
+from_end : {X : Type 0} (xs es rest : List X) (a d : X) → reverse xs ≡ es ++ a ∷ rest → get_or xs (length xs - suc (length es)) d ≡ a
+from_end xs es rest a d is =
     let front = reverse rest in
-    let ys = front ++ b ∷ a ∷ [] in
-    let turned : reverse ys ≡ a ∷ b ∷ rest = reverse-append front (b ∷ a ∷ []) ∙ ap (λ zs. a ∷ b ∷ zs) (reverse-reverse rest) in
-    let same : xs ≡ ys = sym (reverse-reverse xs) ∙ ap reverse (is ∙ sym turned) ∙ reverse-reverse ys in
-    let len : length xs ≡ length front + 2 = ap length same ∙ length-append front (b ∷ a ∷ []) in
-    let one : length xs - 1 ≡ length (front ++ b ∷ []) = omega (arith, len, length-append front (b ∷ [])) in
-    let two : length xs - 2 ≡ length front = omega (arith, len) in (
-      ap (λ n. get_or xs n d) one ∙ ap (λ zs. get_or zs (length (front ++ b ∷ [])) d) (same ∙ sym (append_assoc front (b ∷ []) (a ∷ []))) ∙ get_or-append_seam (front ++ b ∷ []) a [] d,
-      ap (λ n. get_or xs n d) two ∙ ap (λ zs. get_or zs (length front) d) same ∙ get_or-append_seam front b (a ∷ []) d,
-    )
-
--- the third from the end
-third_last : {X : Type 0} (xs rest : List X) (a b c d : X) → reverse xs ≡ a ∷ b ∷ c ∷ rest → get_or xs (length xs - 3) d ≡ c
-third_last xs rest a b c d is =
-    let ys = reverse rest ++ c ∷ b ∷ a ∷ [] in
-    let turned : reverse ys ≡ a ∷ b ∷ c ∷ rest = reverse-append (reverse rest) (c ∷ b ∷ a ∷ []) ∙ ap (λ zs. a ∷ b ∷ c ∷ zs) (reverse-reverse rest) in
-    let same : xs ≡ ys = sym (reverse-reverse xs) ∙ ap reverse (is ∙ sym turned) ∙ reverse-reverse ys in
-    let at : length xs - 3 ≡ length (reverse rest) = omega (arith, ap length same ∙ length-append (reverse rest) (c ∷ b ∷ a ∷ [])) in
-    ap (λ n. get_or xs n d) at ∙ ap (λ zs. get_or zs (length (reverse rest)) d) same ∙ get_or-append_seam (reverse rest) c (b ∷ a ∷ []) d
+    let same : xs ≡ front ++ a ∷ reverse es =
+    sym (reverse-reverse xs) ∙ ap reverse is ∙ reverse-append es (a ∷ rest) ∙ ap (λ zs. zs ++ reverse es) (reverse-append (a ∷ []) rest) ∙ append_assoc front (a ∷ []) (reverse es) in
+    let at : length xs - suc (length es) ≡ length front = omega (arith, ap length same ∙ length-append front (a ∷ reverse es), length-reverse es) in
+    ap (λ n. get_or xs n d) at ∙ ap (λ zs. get_or zs (length front) d) same ∙ get_or-append_seam front a (reverse es) d
 
 module _ {P : Type 0} where
   -- ---- fields of the top frame
@@ -60,32 +46,14 @@ module _ {P : Type 0} where
   pub numbered-back : (ts : ThreadsOf P) (n : ℕ) (o : Option ℕ) → o ≡ ts.thread.frame.enter → threads_back (Numbered o) (on_top (number_in n) ts) ≡ ts
   numbered-back ts n o is = ap (λ x. on_top (number_back x) ts) is
 
-  -- flow goes: the previous place comes first, and then the place
-  abbrev pub going : ThreadsOf P → ThreadsOf P
-  going ts = on_top (previous_back ts.thread.frame.place) ts
-
-  pub went-back : (ts : ThreadsOf P) (p : Option P) → p ≡ ts.thread.previous → threads_back (Previous p) (going ts) ≡ ts
-  went-back ts p is = ap (λ x. on_top (previous_back x) ts) is
-
-  pub gone-back : (ts : ThreadsOf P) (p q : Option P) → q ≡ ts.thread.frame.place → threads_back (Placed q) (on_top (gone p) ts) ≡ going ts
-  gone-back ts p q is = ap (λ x. on_top (put_in x) (on_top (previous_back ts.thread.frame.place) ts)) is
+  pub gone-back : (ts : ThreadsOf P) (p q r : Option P) → q ≡ ts.thread.frame.place → r ≡ ts.thread.previous → threads_back (Gone q r) (on_top (gone p) ts) ≡ ts
+  gone-back ts p q r place previous = ap (λ x. on_top (ungone x r) ts) place ∙ ap (λ x. on_top (ungone ts.thread.frame.place x) ts) previous
 
   -- what was noted last
-  pub gone-is : (es : List (ThreadsPair P)) → HasGone es → (p : Option P) × (q : Option P) × (rest : List (ThreadsPair P)) × (es ≡ Placed p ∷ Previous q ∷ rest)
+  pub gone-is : (es : List (ThreadsPair P)) → HasGone es → (p : Option P) × (q : Option P) × (rest : List (ThreadsPair P)) × (es ≡ Gone p q ∷ rest)
   gone-is [] h = absurd h
-  gone-is (Placed p ∷ []) h = absurd h
-  gone-is (Placed p ∷ (Previous q ∷ es)) h = (p, q, es, refl)
-  gone-is (Placed p ∷ (Placed _ ∷ es)) h = absurd h
-  gone-is (Placed p ∷ (Evaluating _ ∷ es)) h = absurd h
-  gone-is (Placed p ∷ (Numbered _ ∷ es)) h = absurd h
-  gone-is (Placed p ∷ (Fresh _ ∷ es)) h = absurd h
-  gone-is (Placed p ∷ (Temp _ _ _ ∷ es)) h = absurd h
-  gone-is (Placed p ∷ (FramePushed ∷ es)) h = absurd h
-  gone-is (Placed p ∷ (FramePopped _ ∷ es)) h = absurd h
-  gone-is (Placed p ∷ (ThreadPushed ∷ es)) h = absurd h
-  gone-is (Placed p ∷ (ThreadPopped _ ∷ es)) h = absurd h
-  gone-is (Placed p ∷ (Replaced _ _ ∷ es)) h = absurd h
-  gone-is (Previous _ ∷ es) h = absurd h
+  gone-is (Gone p q ∷ es) h = (p, q, es, refl)
+  gone-is (Placed _ ∷ es) h = absurd h
   gone-is (Evaluating _ ∷ es) h = absurd h
   gone-is (Numbered _ ∷ es) h = absurd h
   gone-is (Fresh _ ∷ es) h = absurd h
@@ -96,49 +64,33 @@ module _ {P : Type 0} where
   gone-is (ThreadPopped _ ∷ es) h = absurd h
   gone-is (Replaced _ _ ∷ es) h = absurd h
 
-  -- both places are put back already
-  -- the places were noted last
-  pub gone-at : (ps : List (ThreadsPair P)) (d e : ThreadsPair P) (p q : Option P) → 2 ≤ length ps → get_or ps (length ps - 1) d ≡ Placed p → get_or ps (length ps - 2) e ≡ Previous q
-      → HasGone (reverse ps)
-  gone-at ps d e p q some went left = by (reverse ps) refl
+  -- that flow went was noted last
+  pub gone-at : (ps : List (ThreadsPair P)) (d : ThreadsPair P) (p q : Option P) → 0 < length ps → get_or ps (length ps - 1) d ≡ Gone p q → HasGone (reverse ps)
+  gone-at ps d p q some went = by (reverse ps) refl
     where
       by : (es : List (ThreadsPair P)) → reverse ps ≡ es → HasGone (reverse ps)
       by [] is = absurd (omega (arith, some, ap length is, length-reverse ps))
-      by (a ∷ []) is = absurd (omega (arith, some, ap length is, length-reverse ps))
-      by (a ∷ b ∷ rest) is =
-          let first : a ≡ Placed p = sym (last_two ps rest a b d is).0 ∙ went in
-          let second : b ≡ Previous q = sym (last_two ps rest a b e is).1 ∙ left in
-          subst HasGone (sym (is ∙ ap (λ x. x ∷ b ∷ rest) first ∙ ap (λ x. Placed p ∷ x ∷ rest) second)) tt
+      by (a ∷ rest) is = subst HasGone (sym (is ∙ ap (λ x. x ∷ rest) (sym (from_end ps [] rest a d is) ∙ went))) tt
 
+  -- both places are put back already
   pub gone-noted : (p : Option P) (es : List (ThreadsPair P)) (ts : ThreadsOf P) → HasGone es → undone threads_back es (on_top (gone p) ts) ≡ undone threads_back es ts
   gone-noted p es ts h = rw (gone-is es h).3 refl
 
-  pub mode-is : (es : List (ThreadsPair P)) → HasMode es → (p : Option P) × (q : Option P) × (b : Bool) × (rest : List (ThreadsPair P)) × (es ≡ Placed p ∷ Previous q ∷ Evaluating b ∷ rest)
+  pub mode-is : (es : List (ThreadsPair P)) → HasMode es → (p : Option P) × (q : Option P) × (b : Bool) × (rest : List (ThreadsPair P)) × (es ≡ Gone p q ∷ Evaluating b ∷ rest)
   mode-is [] h = absurd h
-  mode-is (Placed p ∷ []) h = absurd h
-  mode-is (Placed p ∷ (Previous q ∷ [])) h = absurd h
-  mode-is (Placed p ∷ (Previous q ∷ (Evaluating b ∷ es))) h = (p, q, b, es, refl)
-  mode-is (Placed p ∷ (Previous q ∷ (Placed _ ∷ es))) h = absurd h
-  mode-is (Placed p ∷ (Previous q ∷ (Previous _ ∷ es))) h = absurd h
-  mode-is (Placed p ∷ (Previous q ∷ (Numbered _ ∷ es))) h = absurd h
-  mode-is (Placed p ∷ (Previous q ∷ (Fresh _ ∷ es))) h = absurd h
-  mode-is (Placed p ∷ (Previous q ∷ (Temp _ _ _ ∷ es))) h = absurd h
-  mode-is (Placed p ∷ (Previous q ∷ (FramePushed ∷ es))) h = absurd h
-  mode-is (Placed p ∷ (Previous q ∷ (FramePopped _ ∷ es))) h = absurd h
-  mode-is (Placed p ∷ (Previous q ∷ (ThreadPushed ∷ es))) h = absurd h
-  mode-is (Placed p ∷ (Previous q ∷ (ThreadPopped _ ∷ es))) h = absurd h
-  mode-is (Placed p ∷ (Previous q ∷ (Replaced _ _ ∷ es))) h = absurd h
-  mode-is (Placed p ∷ (Placed _ ∷ es)) h = absurd h
-  mode-is (Placed p ∷ (Evaluating _ ∷ es)) h = absurd h
-  mode-is (Placed p ∷ (Numbered _ ∷ es)) h = absurd h
-  mode-is (Placed p ∷ (Fresh _ ∷ es)) h = absurd h
-  mode-is (Placed p ∷ (Temp _ _ _ ∷ es)) h = absurd h
-  mode-is (Placed p ∷ (FramePushed ∷ es)) h = absurd h
-  mode-is (Placed p ∷ (FramePopped _ ∷ es)) h = absurd h
-  mode-is (Placed p ∷ (ThreadPushed ∷ es)) h = absurd h
-  mode-is (Placed p ∷ (ThreadPopped _ ∷ es)) h = absurd h
-  mode-is (Placed p ∷ (Replaced _ _ ∷ es)) h = absurd h
-  mode-is (Previous _ ∷ es) h = absurd h
+  mode-is (Gone p q ∷ []) h = absurd h
+  mode-is (Gone p q ∷ (Evaluating b ∷ es)) h = (p, q, b, es, refl)
+  mode-is (Gone p q ∷ (Placed _ ∷ es)) h = absurd h
+  mode-is (Gone p q ∷ (Numbered _ ∷ es)) h = absurd h
+  mode-is (Gone p q ∷ (Fresh _ ∷ es)) h = absurd h
+  mode-is (Gone p q ∷ (Temp _ _ _ ∷ es)) h = absurd h
+  mode-is (Gone p q ∷ (FramePushed ∷ es)) h = absurd h
+  mode-is (Gone p q ∷ (FramePopped _ ∷ es)) h = absurd h
+  mode-is (Gone p q ∷ (ThreadPushed ∷ es)) h = absurd h
+  mode-is (Gone p q ∷ (ThreadPopped _ ∷ es)) h = absurd h
+  mode-is (Gone p q ∷ (Replaced _ _ ∷ es)) h = absurd h
+  mode-is (Gone p q ∷ (Gone _ _ ∷ es)) h = absurd h
+  mode-is (Placed _ ∷ es) h = absurd h
   mode-is (Evaluating _ ∷ es) h = absurd h
   mode-is (Numbered _ ∷ es) h = absurd h
   mode-is (Fresh _ ∷ es) h = absurd h
@@ -149,15 +101,15 @@ module _ {P : Type 0} where
   mode-is (ThreadPopped _ ∷ es) h = absurd h
   mode-is (Replaced _ _ ∷ es) h = absurd h
 
-  -- the mode was noted before the places
-  pub mode-at : (ps : List (ThreadsPair P)) (d : ThreadsPair P) (b : Bool) → 3 ≤ length ps → HasGone (reverse ps) → get_or ps (length ps - 3) d ≡ Evaluating b → HasMode (reverse ps)
+  -- the mode was noted before that
+  pub mode-at : (ps : List (ThreadsPair P)) (d : ThreadsPair P) (b : Bool) → 2 ≤ length ps → HasGone (reverse ps) → get_or ps (length ps - 2) d ≡ Evaluating b → HasMode (reverse ps)
   mode-at ps d b some went is = by (gone-is (reverse ps) went)
     where
-      by : ((p : Option P) × (q : Option P) × (rest : List (ThreadsPair P)) × (reverse ps ≡ Placed p ∷ Previous q ∷ rest)) → HasMode (reverse ps)
+      by : ((p : Option P) × (q : Option P) × (rest : List (ThreadsPair P)) × (reverse ps ≡ Gone p q ∷ rest)) → HasMode (reverse ps)
       by (p, q, [], e) = absurd (omega (arith, some, ap length e, length-reverse ps))
       by (p, q, c ∷ rest, e) =
-          let mode : c ≡ Evaluating b = sym (third_last ps rest (Placed p) (Previous q) c d e) ∙ is in
-          subst HasMode (sym e) (subst (λ x. HasMode (Placed p ∷ Previous q ∷ x ∷ rest)) (sym mode) tt)
+          let mode : c ≡ Evaluating b = sym (from_end ps (Gone p q ∷ []) rest c d e) ∙ is in
+          subst HasMode (sym (e ∙ ap (λ x. Gone p q ∷ x ∷ rest) mode)) tt
 
   -- the mode is put back already
   pub mode-noted : (b : Bool) (es : List (ThreadsPair P)) (ts : ThreadsOf P) → HasMode es → undone threads_back es (on_top (mode_in b) ts) ≡ undone threads_back es ts

@@ -2,17 +2,17 @@
 use Rattle.std.proofs.Common.{◌≡◌, ◌∙◌, ◌≤◌, ℕ, List, [], ◌∷◌, ◌++◌, Bool, false, Option, Some, None, ap, arith, is_some, length, refl, subst, sym}
 use Rattle.std.proofs.lemmas.List.{length-append, length-reverse}
 use Rattle.ink_model.specs.Bases.{BaseFirst}
-use Rattle.ink_model.specs.Frames.{ThreadOf, ThreadsOf, gone, mode_in, on_top, put_in}
+use Rattle.ink_model.specs.Frames.{ThreadOf, ThreadsOf, gone, mode_in, on_top}
 use Rattle.ink_trail.proofs.Staying.{stays-more, stays-now, stays-with}
 use Rattle.ink_trail.specs.Undo.{Undo, trail_of, with_count, with_pair}
 use Rattle.ink_stack.proofs.Backs.{gone-is, mode-is}
 use Rattle.ink_stack.proofs.Bases.{base_same}
-use Rattle.ink_stack.specs.Cells.{Within, previous_back}
+use Rattle.ink_stack.specs.Cells.{Within, ungone}
 use Rattle.ink_stack.specs.Frames.{FitsIn, MoreRoom, Room}
 use Rattle.ink_stack.specs.Running.{RunningView, threads_in}
 use Rattle.ink_stack.specs.Undo.{HasGone, HasMode, Held, More, Rooms, StaysHeld, rooms_of, threads_back}
 use Rattle.ink_stack.specs.declared.undo.ThreadsPair.{ThreadsPair}
-use Rattle.ink_stack.specs.declared.undo.ThreadsPair.TheVariants.{Placed, Previous, Evaluating, Numbered, Fresh, Temp, FramePushed, FramePopped, ThreadPushed, ThreadPopped, Replaced}
+use Rattle.ink_stack.specs.declared.undo.ThreadsPair.TheVariants.{Placed, Gone, Evaluating, Numbered, Fresh, Temp, FramePushed, FramePopped, ThreadPushed, ThreadPopped, Replaced}
 
 pub room-refl : (r : Room) → MoreRoom r r
 room-refl r = record { frames = omega arith; temps = omega arith }
@@ -53,7 +53,7 @@ module _ {P : Type 0} where
 
   rooms-more : (e : ThreadsPair P) (r s : Rooms) → More r s → More (rooms_of e r) (rooms_of e s)
   rooms-more (Placed p) r s h = h
-  rooms-more (Previous p) r s h = h
+  rooms-more (Gone p q) r s h = h
   rooms-more (Evaluating b) r s h = h
   rooms-more (Numbered n) r s h = h
   rooms-more (Fresh n) r s h = h
@@ -118,10 +118,9 @@ module _ {P : Type 0} where
   held-further n p None ts r went h = absurd went
   held-further n p (Some u) ts r went h =
       let last = gone-is u.trail went in
-      let held : StaysHeld r (Placed last.0 ∷ Previous last.1 ∷ last.2) ts = subst (λ es. StaysHeld r es ts) last.3 h in
+      let held : StaysHeld r (Gone last.0 last.1 ∷ last.2) ts = subst (λ es. StaysHeld r es ts) last.3 h in
       let first : Held r (on_top (gone p) ts) = as_before ts.thread (gone p ts.thread) ts.below r refl refl held.0 in
-      let second : Held r (threads_back (Placed last.0) (on_top (gone p) ts)) = as_before ts.thread (put_in last.0 (gone p ts.thread)) ts.below r refl refl held.0 in
-      subst (λ es. StaysHeld r es (on_top (gone p) ts)) (sym last.3) (first, (second, held.1.1))
+      subst (λ es. StaysHeld r es (on_top (gone p) ts)) (sym last.3) (first, held.1)
 
   -- the mode changes again
   pub held-again : (n : ℕ) (b : Bool) (u : Option (Undo (ThreadsPair P))) (ts : ThreadsOf P) (r : Rooms) → HasMode (trail_of u) → StaysHeld r (trail_of u) ts
@@ -129,9 +128,8 @@ module _ {P : Type 0} where
   held-again n b None ts r mode h = absurd mode
   held-again n b (Some u) ts r mode h =
       let last = mode-is u.trail mode in
-      let held : StaysHeld r (Placed last.0 ∷ Previous last.1 ∷ Evaluating last.2 ∷ last.3) ts = subst (λ es. StaysHeld r es ts) last.4 h in
+      let held : StaysHeld r (Gone last.0 last.1 ∷ Evaluating last.2 ∷ last.3) ts = subst (λ es. StaysHeld r es ts) last.4 h in
       let now = mode_in b ts.thread in
       let first : Held r (on_top (mode_in b) ts) = as_before ts.thread now ts.below r refl refl held.0 in
-      let second : Held r (threads_back (Placed last.0) (on_top (mode_in b) ts)) = as_before ts.thread (put_in last.0 now) ts.below r refl refl held.0 in
-      let third : Held r (threads_back (Previous last.1) (threads_back (Placed last.0) (on_top (mode_in b) ts))) = as_before ts.thread (previous_back last.1 (put_in last.0 now)) ts.below r refl refl held.0 in
-      subst (λ es. StaysHeld r es (on_top (mode_in b) ts)) (sym last.4) (first, (second, (third, held.1.1.1)))
+      let second : Held r (threads_back (Gone last.0 last.1) (on_top (mode_in b) ts)) = as_before ts.thread (ungone last.0 last.1 now) ts.below r refl refl held.0 in
+      subst (λ es. StaysHeld r es (on_top (mode_in b) ts)) (sym last.4) (first, (second, held.1.1))

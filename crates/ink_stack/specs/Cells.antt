@@ -41,8 +41,9 @@ module _ {P : Type 0} where
   abbrev pub with_frame : (FrameOf P → FrameOf P) → ℕ → ThreadOf P → ThreadOf P
   with_frame change n t = if nat_eq n (frame_count t) then record t { frame = change t.frame } else record t { below = changed change n t.below }
 
-  abbrev pub previous_back : Option P → ThreadOf P → ThreadOf P
-  previous_back p t = record t { previous = p }
+  -- flow left the place p, and q was the previous one
+  abbrev pub ungone : Option P → Option P → ThreadOf P → ThreadOf P
+  ungone p q t = record t { frame = record t.frame { place = p }; previous = q }
 
   abbrev pub number_back : Option ℕ → ThreadOf P → ThreadOf P
   number_back n t = record t { frame = record t.frame { enter = n } }

@@ -4,12 +4,12 @@ use Rattle.ink_model.specs.Frames.{ThreadsOf, mode_in, on_top, put_in}
 use Rattle.ink_model.specs.declared.limits.TheConstants.{MAX_THREADS}
 use Rattle.ink_trail.specs.Stays.{Stays}
 use Rattle.ink_trail.specs.Undo.{spare, stood_at}
-use Rattle.ink_stack.specs.Cells.{Within, number_back, previous_back, temp_back, unpopped, unpushed, with_frame, with_fresh}
+use Rattle.ink_stack.specs.Cells.{Within, number_back, temp_back, ungone, unpopped, unpushed, with_frame, with_fresh}
 use Rattle.ink_stack.specs.Frames.{MoreRoom, Room}
 use Rattle.ink_stack.specs.Running.{threads_in}
 use Rattle.ink_stack.specs.Threads.{ThreadsView}
 use Rattle.ink_stack.specs.declared.undo.ThreadsPair.{ThreadsPair}
-use Rattle.ink_stack.specs.declared.undo.ThreadsPair.TheVariants.{Placed, Previous, Evaluating, Numbered, Fresh, Temp, FramePushed, FramePopped, ThreadPushed, ThreadPopped, Replaced}
+use Rattle.ink_stack.specs.declared.undo.ThreadsPair.TheVariants.{Placed, Gone, Evaluating, Numbered, Fresh, Temp, FramePushed, FramePopped, ThreadPushed, ThreadPopped, Replaced}
 
 -- the room for frames below the top one, and how many threads below the top one fit without memory
 pub record Rooms : Type 0 where
@@ -25,7 +25,7 @@ module _ {P : Type 0} where
   -- the threads before a change
   abbrev pub threads_back : ThreadsPair P → ThreadsOf P → ThreadsOf P
   threads_back (Placed p) ts = on_top (put_in p) ts
-  threads_back (Previous p) ts = on_top (previous_back p) ts
+  threads_back (Gone p q) ts = on_top (ungone p q) ts
   threads_back (Evaluating b) ts = on_top (mode_in b) ts
   threads_back (Numbered n) ts = on_top (number_back n) ts
   threads_back (Fresh n) ts = on_top (with_frame (with_fresh true) n) ts
@@ -36,14 +36,14 @@ module _ {P : Type 0} where
   threads_back (ThreadPopped t) ts = record { thread = t.thread; below = ts.thread ∷ ts.below }
   threads_back (Replaced t below) ts = threads_in t below.items
 
-  -- what was noted last is the places that flow left
+  -- what was noted last is that flow went
   abbrev pub HasGone : List (ThreadsPair P) → Type 0
-  HasGone (Placed p ∷ Previous q ∷ es) = ⊤
+  HasGone (Gone p q ∷ es) = ⊤
   HasGone es = ⊥
 
-  -- what was noted last is the mode, and then the places that flow left
+  -- what was noted last is the mode, and then that flow went
   abbrev pub HasMode : List (ThreadsPair P) → Type 0
-  HasMode (Placed p ∷ Previous q ∷ Evaluating b ∷ es) = ⊤
+  HasMode (Gone p q ∷ Evaluating b ∷ es) = ⊤
   HasMode es = ⊥
 
   -- ---- what a mark keeps

@@ -7,7 +7,7 @@ ghost use Rattle.ink_model.specs.Frames.{base_frame, fresh_depth, frame_numbered
 ghost use Rattle.ink_model.specs.declared.limits.TheConstants.{MAX_FRAMES};
 ghost use Rattle.ink_model.specs.Threads.{frame_count, number_in, popped, pushed, stale, stale_run, staled, temp_in, with_temp};
 ghost use Rattle.ink_stack.specs.Calls.{frame_kind};
-ghost use Rattle.ink_stack.specs.Cells.{Within, holds_of, number_back, previous_back, temp_back, unpopped, unpushed, with_frame, with_fresh};
+ghost use Rattle.ink_stack.specs.Cells.{Within, holds_of, number_back, temp_back, ungone, unpopped, unpushed, with_frame, with_fresh};
 ghost use Rattle.ink_stack.specs.Frames.{MoreRoom};
 ghost use Rattle.ink_stack.specs.Quiet.{is_quiet};
 ghost use Rattle.ink_stack.specs.Temps.{text_of};
@@ -316,9 +316,11 @@ impl<P: Copy> Running<P> {
         self.below.end_one(number - 1, depth)
     }
 
-    pub(crate) fn put_previous_back(&mut self, previous: Option<P>)
-        ensures { self.new ≡ record self.old { thread = previous_back previous self.old.thread } }
+    // Flow is where it was before it went.
+    pub(crate) fn ungo(&mut self, place: Option<P>, previous: Option<P>)
+        ensures { self.new ≡ record self.old { thread = ungone place previous self.old.thread } }
     {
+        self.frame.put(place);
         self.previous = previous;
     }
 

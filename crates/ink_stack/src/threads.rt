@@ -132,8 +132,7 @@ impl<P: Copy> Threads<P> {
     {
         let previous = self.running.previous();
         let left = self.running.place();
-        self.trail.note(ThreadsPair::Previous(previous), 1);
-        self.trail.note(ThreadsPair::Placed(left), 1);
+        self.trail.note(ThreadsPair::Gone(left, previous), 2);
         self.running.go(place);
     }
 

@@ -19,8 +19,8 @@ use std::mem;
 pub enum ThreadsPair<P> {
     /// The place.
     Placed(Option<P>),
-    /// The previous place.
-    Previous(Option<P>),
+    /// Flow went: the place that it left, and the previous one.
+    Gone(Option<P>, Option<P>),
     /// Whether the frame was in evaluation mode.
     Evaluating(bool),
     /// The number of the frame's mark.
@@ -42,14 +42,11 @@ pub enum ThreadsPair<P> {
 pub(crate) fn has_gone<P>(pairs: &[ThreadsPair<P>]) -> bool
     ensures { result ≡ true → HasGone (reverse pairs.now) }
 {
-    if pairs.len() < 2 {
+    if pairs.is_empty() {
         return false;
     }
     match pairs[pairs.len() - 1] {
-        ThreadsPair::Placed(_) => match pairs[pairs.len() - 2] {
-            ThreadsPair::Previous(_) => true,
-            _ => false,
-        },
+        ThreadsPair::Gone(_, _) => true,
         _ => false,
     }
 }
@@ -59,10 +56,10 @@ pub(crate) fn has_gone<P>(pairs: &[ThreadsPair<P>]) -> bool
 pub(crate) fn has_mode<P>(pairs: &[ThreadsPair<P>]) -> bool
     ensures { result ≡ true → HasMode (reverse pairs.now) }
 {
-    if pairs.len() < 3 || !has_gone(pairs) {
+    if pairs.len() < 2 || !has_gone(pairs) {
         return false;
     }
-    match pairs[pairs.len() - 3] {
+    match pairs[pairs.len() - 2] {
         ThreadsPair::Evaluating(_) => true,
         _ => false,
     }
@@ -155,6 +152,7 @@ pub(crate) fn put_back<P: Copy>(
     count
 }
 
+#[inline(always)]
 fn put_one_back<P: Copy>(running: &mut Running<P>, below: &mut Vec<Thread<P>>, pair: ThreadsPair<P>)
     requires { Held (rooms_of pair (record { frames = running.old.room; threads = vec_capacity below.old })) (threads_back pair (threads_in running.old below.old.items)) }
     ensures threads { threads_in running.new below.new.items ≡ threads_back pair (threads_in running.old below.old.items) }
@@ -162,7 +160,7 @@ fn put_one_back<P: Copy>(running: &mut Running<P>, below: &mut Vec<Thread<P>>, p
 {
     match pair {
         ThreadsPair::Placed(place) => running.put(place),
-        ThreadsPair::Previous(place) => running.put_previous_back(place),
+        ThreadsPair::Gone(place, previous) => running.ungo(place, previous),
         ThreadsPair::Evaluating(evaluating) => running.set_mode(evaluating),
         ThreadsPair::Numbered(number) => running.put_number_back(number),
         ThreadsPair::Fresh(number) => running.freshen(number),

@@ -169,23 +169,9 @@ impl<E: Drop> Trail<E> {
         ensures spare { spare self.old ≤ spare self.new + 1 }
     {
         if self.marked {
-            self.note_marked(pair, cells);
+            self.pairs.push_reserved(pair);
+            self.writes = self.writes.saturating_add(cells);
         }
-    }
-
-    #[tactic(auto, unfolding(crate::specs::Undo::spare))]
-    #[cold]
-    #[inline(never)]
-    fn note_marked(&mut self, pair: E, cells: u64)
-        requires cells { 0 < cells }
-        requires marked { is_some self.old.undo ≡ true }
-        requires room { 0 < self.old.room }
-        ensures undo { self.new.undo ≡ with_pair pair cells self.old.undo }
-        ensures room { self.old.room ≤ self.new.room + 1 }
-        ensures spare { spare self.old ≤ spare self.new + 1 }
-    {
-        self.pairs.push_reserved(pair);
-        self.writes = self.writes.saturating_add(cells);
     }
 
     /// The same, and makes room for the pair before. The one error is a refused request for memory, which is made only where a
@@ -220,7 +206,7 @@ impl<E: Drop> Trail<E> {
         ensures lacks { OnErr result (spare self.old < 1) }
     {
         self.make_room(1)?;
-        self.note_marked(pair, cells);
+        self.note(pair, cells);
         Ok(())
     }
 

@@ -1,6 +1,9 @@
-use Rattle.std.proofs.Common.{arith}
+use Rattle.std.proofs.Common.{◌∙◌, arith, sym}
+use Rattle.std.proofs.lemmas.Bool.{eqb-false}
 use Rattle.ink_stack.proofs.Backs.{gone-at}
 use Rattle.ink_stack.proofs.undo.has_gone.Goals as goal
 
-pub returns-in-Previous : goal.returns-in-Previous
-returns-in-Previous g c = λ _. gone-at c.args.pairs.now _ _ c.in-Placed.field-0 c.in-Previous.field-0 (omega (arith, c.if-pairs-lt2.false)) c.in-Placed.is c.in-Previous.is
+pub returns-in-Gone : goal.returns-in-Gone
+returns-in-Gone g c =
+    let some = eqb-false _ 0 (sym c.is_empty.ensures ∙ c.if-is_empty.false) in
+    λ _. gone-at c.args.pairs.now _ c.in-Gone.field-0 c.in-Gone.field-1 (omega (arith, some)) c.in-Gone.is

@@ -10,11 +10,11 @@ returns-in-Placed-clause-threads g c = rw c.in-Placed.is (ap (λ v. threads_in v
 pub returns-in-Placed-clause-room : goal.returns-in-Placed-clause-room
 returns-in-Placed-clause-room g c = rw c.in-Placed.is (record { frames = room-same _ _ (ap (λ v. v.room) c.put.ensures); threads = omega arith })
 
-pub returns-in-Previous-clause-threads : goal.returns-in-Previous-clause-threads
-returns-in-Previous-clause-threads g c = rw c.in-Previous.is (ap (λ v. threads_in v c.args.below.now.items) c.put_previous_back.ensures)
+pub returns-in-Gone-clause-threads : goal.returns-in-Gone-clause-threads
+returns-in-Gone-clause-threads g c = rw c.in-Gone.is (ap (λ v. threads_in v c.args.below.now.items) c.ungo.ensures)
 
-pub returns-in-Previous-clause-room : goal.returns-in-Previous-clause-room
-returns-in-Previous-clause-room g c = rw c.in-Previous.is (record { frames = room-same _ _ (ap (λ v. v.room) c.put_previous_back.ensures); threads = omega arith })
+pub returns-in-Gone-clause-room : goal.returns-in-Gone-clause-room
+returns-in-Gone-clause-room g c = rw c.in-Gone.is (record { frames = room-same _ _ (ap (λ v. v.room) c.ungo.ensures); threads = omega arith })
 
 pub returns-in-Evaluating-clause-threads : goal.returns-in-Evaluating-clause-threads
 returns-in-Evaluating-clause-threads g c = rw c.in-Evaluating.is (ap (λ v. threads_in v c.args.below.now.items) c.set_mode.ensures)
