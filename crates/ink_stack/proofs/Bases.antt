@@ -48,7 +48,7 @@ module _ {P : Type 0} where
   base_unnumbered k [] h = h
   base_unnumbered k (f ∷ fs) h = (h.0, base_unnumbered f.kind fs h.1)
 
-  -- a temporary has nothing to do with a frame's kind, and with freshness
+  -- a temporary has nothing to do with a frame's kind, freshness and depth
   pub kind_along : {U E : Type 0} (r : Result U E) (name : List ℕ) (v : Value) (f g : FrameOf P) → OnOk r (g ≡ with_row_in name v f) → OnErr r (g ≡ f) → g.kind ≡ f.kind
   kind_along (Ok u) name v f g made kept = ap (λ h. h.kind) made
   kind_along (Err e) name v f g made kept = ap (λ h. h.kind) kept
@@ -56,6 +56,10 @@ module _ {P : Type 0} where
   pub fresh_along : {U E : Type 0} (r : Result U E) (name : List ℕ) (v : Value) (f g : FrameOf P) → OnOk r (g ≡ with_row_in name v f) → OnErr r (g ≡ f) → g.fresh ≡ f.fresh
   fresh_along (Ok u) name v f g made kept = ap (λ h. h.fresh) made
   fresh_along (Err e) name v f g made kept = ap (λ h. h.fresh) kept
+
+  pub depth_along : {U E : Type 0} (r : Result U E) (name : List ℕ) (v : Value) (f g : FrameOf P) → OnOk r (g ≡ with_row_in name v f) → OnErr r (g ≡ f) → g.depth ≡ f.depth
+  depth_along (Ok u) name v f g made kept = ap (λ h. h.depth) made
+  depth_along (Err e) name v f g made kept = ap (λ h. h.depth) kept
 
   -- what becomes of the top thread becomes of the threads
   pub top_changes : {U : Type 0} (r : Result (ThreadOf P) Fault) (ts : ThreadsOf P) (new : ThreadOf P) (x : Result U Fault) → Changes r ts.thread new x

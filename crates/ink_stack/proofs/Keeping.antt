@@ -1,12 +1,12 @@
 -- What a thread keeps in mind of the frames below its top one, as frames come and go. In a list the nearest is the last.
-use Rattle.std.proofs.Common.{◌≡◌, ◌∙◌, List, [], ◌∷◌, ◌++◌, Bool, true, false, not, ◌&&◌, ap, is_some, refl, reverse, subst, sym}
+use Rattle.std.proofs.Common.{◌≡◌, ◌∙◌, ◌≤◌, ℕ, List, [], ◌∷◌, ◌++◌, Bool, true, false, not, ◌&&◌, Option, Some, None, IfSome, IsSomeAnd, ap, is_some, reverse, subst, sym}
 use Rattle.std.proofs.lemmas.List.{reverse-append}
 use Rattle.ink_model.specs.Bases.{BaseFirst}
 use Rattle.ink_model.specs.Frames.{FrameOf, is_function}
 use Rattle.ink_model.specs.declared.frame.FrameKind.{FrameKind}
-use Rattle.ink_stack.specs.Quiet.{is_quiet, is_unnumbered}
+use Rattle.ink_stack.specs.Quiet.{Covers, IsQuiet, is_unnumbered}
 use Rattle.ink_stack.proofs.Bases.{base_popped, base_same}
-use Rattle.ink_stack.proofs.Quietness.{first_other, first_quiet}
+use Rattle.ink_stack.proofs.Quietness.{quiet_weaker}
 
 second : (a b : Bool) → (not a && b) ≡ true → b ≡ true
 second false b h = h
@@ -15,13 +15,14 @@ second true b h = absurd (cc)
 module _ {P : Type 0} where
   -- ---- a frame more
 
-  pub quiet_more : (f : FrameOf P) (items : List (FrameOf P)) (q : Bool) → (q ≡ true → is_quiet (reverse items) ≡ true) → (is_function f.kind ≡ true → (f.fresh ≡ false) × (q ≡ true))
-      → is_quiet (reverse (items ++ f ∷ [])) ≡ true
-  quiet_more f items q h k = ap is_quiet (reverse-append items (f ∷ [])) ∙ by (is_function f.kind) refl
+  pub quiet_more : (f : FrameOf P) (items : List (FrameOf P)) (old new : Option ℕ) → IfSome old (λ n. IsQuiet n (reverse items)) → Covers old f new
+      → IfSome new (λ n. IsQuiet n (reverse (items ++ f ∷ [])))
+  quiet_more f items old None quiet covers = tt
+  quiet_more f items old (Some n) quiet covers = subst (λ fs. IsQuiet n fs) (sym (reverse-append items (f ∷ []))) (λ function. let c = covers function in (c.0, by old quiet c.1))
     where
-      by : (b : Bool) → is_function f.kind ≡ b → is_quiet (f ∷ reverse items) ≡ true
-      by true e = first_quiet f (reverse items) e ∙ ap (λ b. not b && is_quiet (reverse items)) (k e).0 ∙ h (k e).1
-      by false e = first_other f (reverse items) e
+      by : (old : Option ℕ) → IfSome old (λ m. IsQuiet m (reverse items)) → IsSomeAnd old (λ m. m ≤ n) → IsQuiet n (reverse items)
+      by None quiet least = absurd least
+      by (Some m) quiet least = quiet_weaker m n (reverse items) least quiet
 
   pub unnumbered_more : (f : FrameOf P) (items : List (FrameOf P)) (n : Bool) → (n ≡ false → is_unnumbered (reverse items) ≡ true) → (n ≡ false) × (is_some f.enter ≡ false)
       → is_unnumbered (reverse (items ++ f ∷ [])) ≡ true
@@ -37,10 +38,12 @@ module _ {P : Type 0} where
   whole : (f : FrameOf P) (rest items : List (FrameOf P)) → items ≡ rest ++ f ∷ [] → reverse items ≡ f ∷ reverse rest
   whole f rest items is = ap reverse is ∙ reverse-append rest (f ∷ [])
 
-  pub quiet_fewer : (f : FrameOf P) (rest items : List (FrameOf P)) (q : Bool) → items ≡ rest ++ f ∷ [] → (q ≡ true → is_quiet (reverse items) ≡ true)
-      → (is_function f.kind ≡ true) × (q ≡ true) → is_quiet (reverse rest) ≡ true
-  quiet_fewer f rest items q is h k =
-      second f.fresh (is_quiet (reverse rest)) (sym (first_quiet f (reverse rest) k.0) ∙ sym (ap is_quiet (whole f rest items is)) ∙ h k.1)
+  pub quiet_fewer : (f : FrameOf P) (rest items : List (FrameOf P)) (old new : Option ℕ) → items ≡ rest ++ f ∷ [] → IfSome old (λ n. IsQuiet n (reverse items))
+      → IfSome new (λ n. (is_function f.kind ≡ true) × (old ≡ Some n)) → IfSome new (λ n. IsQuiet n (reverse rest))
+  quiet_fewer f rest items old None is h k = tt
+  quiet_fewer f rest items old (Some n) is h k =
+      let all : IsQuiet n (reverse items) = subst (λ q. IfSome q (λ m. IsQuiet m (reverse items))) k.1 h in
+      (subst (λ fs. IsQuiet n fs) (whole f rest items is) all k.0).1
 
   pub unnumbered_fewer : (f : FrameOf P) (rest items : List (FrameOf P)) (n : Bool) → items ≡ rest ++ f ∷ [] → (n ≡ false → is_unnumbered (reverse items) ≡ true)
       → n ≡ false → is_unnumbered (reverse rest) ≡ true

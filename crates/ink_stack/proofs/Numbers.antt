@@ -1,5 +1,5 @@
 -- Frames by their number, over a list whose last item is the top one.
-use Rattle.std.proofs.Common.{◌≡◌, ◌∙◌, ◌<◌, ◌≤◌, ◌+◌, ◌-◌, ℕ, List, [], ◌∷◌, ◌++◌, true, false, Option, Some, None, option_and_then, Result, Ok, Err, OnOk, OnErr, add-one, ap, append_assoc, arith, drop, get_or, if◌then◌else◌, length, length-append, nat_eq, not, ◌&&◌, refl, reverse, set, sym, take}
+use Rattle.std.proofs.Common.{◌≡◌, ◌∙◌, ◌<◌, ◌≤◌, ◌+◌, ◌-◌, ℕ, List, [], ◌∷◌, ◌++◌, true, false, Option, Some, None, option_and_then, Result, Ok, Err, IfSome, OnOk, OnErr, add-one, ap, append_assoc, arith, drop, get_or, length, length-append, nat_eq, refl, reverse, set, subst, sym, take}
 use Rattle.std.proofs.lemmas.Bool.Decides.{nat_tests}
 use Rattle.std.proofs.lemmas.List.{drop_more, get_or-set_same, length-reverse, length-take-le, reverse-append, set-get_or, set_split, take-append-drop}
 use Rattle.std.proofs.lemmas.Result.{on_err_weaker, on_ok_weaker}
@@ -7,7 +7,7 @@ use Rattle.ink_model.specs.Frames.{FrameOf, ThreadOf, frame_numbered, is_functio
 use Rattle.ink_model.specs.Rows.{name_order, row}
 use Rattle.ink_model.specs.Threads.{changed, temp_in, with_row_in, with_temp}
 use Rattle.ink_model.specs.declared.value.Value.{Value}
-use Rattle.ink_stack.specs.Quiet.{is_quiet}
+use Rattle.ink_stack.specs.Quiet.{IsQuiet}
 
 pub same_number : (n : ℕ) → nat_eq n n ≡ true
 same_number n = grind (arith, nat_tests)
@@ -76,19 +76,21 @@ module _ {P : Type 0} where
   none_zero (f ∷ fs) = rw (other_number 0 (length fs + 1) (omega arith)) (none_zero fs)
 
   -- freshness where a frame of the same kind stands in the place of another
-  quiet_around : (above : List (FrameOf P)) (f g : FrameOf P) (below : List (FrameOf P)) → g.kind ≡ f.kind → g.fresh ≡ f.fresh
-      → is_quiet (above ++ g ∷ below) ≡ is_quiet (above ++ f ∷ below)
-  quiet_around [] f g below kind fresh =
-      ap (λ k. if is_function k then not g.fresh && is_quiet below else true) kind ∙ ap (λ b. if is_function f.kind then not b && is_quiet below else true) fresh
-  quiet_around (a ∷ above) f g below kind fresh = ap (λ b. if is_function a.kind then not a.fresh && b else true) (quiet_around above f g below kind fresh)
+  quiet_around : (n : ℕ) (above : List (FrameOf P)) (f g : FrameOf P) (below : List (FrameOf P)) → g.kind ≡ f.kind → g.fresh ≡ f.fresh → g.depth ≡ f.depth
+      → IsQuiet n (above ++ f ∷ below) → IsQuiet n (above ++ g ∷ below)
+  quiet_around n [] f g below kind fresh depth quiet = λ function.
+      let q = quiet (ap is_function (sym kind) ∙ function) in (λ is. omega (arith, depth, q.0 (sym fresh ∙ is)), q.1)
+  quiet_around n (a ∷ above) f g below kind fresh depth quiet = λ function. let q = quiet function in (q.0, quiet_around n above f g below kind fresh depth q.1)
 
-  pub quiet_set : (fs : List (FrameOf P)) (n : ℕ) (d g : FrameOf P) → 0 < n → n ≤ length fs → g.kind ≡ (get_or fs (n - 1) d).kind → g.fresh ≡ (get_or fs (n - 1) d).fresh
-      → is_quiet (reverse (set fs (n - 1) g)) ≡ is_quiet (reverse fs)
-  quiet_set fs n d g above within kind fresh =
+  pub quiet_set : (fs : List (FrameOf P)) (n : ℕ) (d g : FrameOf P) (quiet : Option ℕ) → 0 < n → n ≤ length fs
+      → g.kind ≡ (get_or fs (n - 1) d).kind → g.fresh ≡ (get_or fs (n - 1) d).fresh → g.depth ≡ (get_or fs (n - 1) d).depth
+      → IfSome quiet (λ m. IsQuiet m (reverse fs)) → IfSome quiet (λ m. IsQuiet m (reverse (set fs (n - 1) g)))
+  quiet_set fs n d g None above within kind fresh depth quiet = tt
+  quiet_set fs n d g (Some m) above within kind fresh depth quiet =
       let inside : n - 1 < length fs = omega arith in
-      ap is_quiet (split_set fs (n - 1) g inside)
-      ∙ quiet_around (reverse (drop (n - 1 + 1) fs)) (get_or fs (n - 1) d) g (reverse (take (n - 1) fs)) kind fresh
-      ∙ sym (ap is_quiet (split_at fs (n - 1) d inside))
+      subst (λ gs. IsQuiet m gs) (sym (split_set fs (n - 1) g inside))
+      (quiet_around m (reverse (drop (n - 1 + 1) fs)) (get_or fs (n - 1) d) g (reverse (take (n - 1) fs)) kind fresh depth
+      (subst (λ gs. IsQuiet m gs) (split_at fs (n - 1) d inside) quiet))
 
   -- a frame of a number, below another one
   pub numbered_below : (f : FrameOf P) (fs : List (FrameOf P)) (n : ℕ) (d : FrameOf P) → 0 < n → n ≤ length fs

@@ -1,76 +1,77 @@
--- Function frames of which none is fresh.
-use Rattle.std.proofs.Common.{◌≡◌, ◌∙◌, ℕ, ◌+◌, ◌<◌, List, [], ◌∷◌, ◌++◌, Bool, true, false, not, ◌&&◌, ap, append_assoc, drop, get_or, if◌then◌else◌, length, map, nat_eq, refl, reverse, set, sym, take}
+-- Function frames of which each fresh one was pushed where fewer sections were open.
+use Rattle.std.proofs.Common.{◌≡◌, ◌∙◌, ℕ, ◌+◌, ◌≤◌, ◌<◌, List, [], ◌∷◌, ◌++◌, Bool, true, false, Option, Some, None, IfSome, ap, append_assoc, arith, drop, get_or, length, map, nat_eq, refl, reverse, set, subst, sym, take}
+use Rattle.std.proofs.lemmas.Bool.Decides.{nat_tests}
 use Rattle.std.proofs.lemmas.List.{append-nil, drop-set, reverse-append, take-append-drop, take_more}
-use Rattle.std.proofs.Math.Bool.{and-true, and_assoc}
 use Rattle.ink_model.specs.Frames.{FrameOf, is_function, unnumbered_frame}
 use Rattle.ink_model.specs.Threads.{stale, stale_run}
 use Rattle.ink_stack.proofs.Runs.{first_stale, first_stays}
-use Rattle.ink_stack.specs.Quiet.{is_quiet}
-
-neither : (a b : Bool) → (not a && b) ≡ true → (a ≡ false) × (b ≡ true)
-neither false b h = (refl, h)
-neither true b h = absurd (cc)
+use Rattle.ink_stack.specs.Quiet.{Covers, IsQuiet}
 
 module _ {P : Type 0} where
-  -- a frame that comes first
-  pub first_quiet : (f : FrameOf P) (fs : List (FrameOf P)) → is_function f.kind ≡ true → is_quiet (f ∷ fs) ≡ (not f.fresh && is_quiet fs)
-  first_quiet f fs h = rw h refl
+  -- a frame of another kind comes first
+  first_other : (n : ℕ) (f : FrameOf P) (fs : List (FrameOf P)) → is_function f.kind ≡ false → IsQuiet n (f ∷ fs)
+  first_other n f fs other = λ function. absurd cc
 
-  pub first_other : (f : FrameOf P) (fs : List (FrameOf P)) → is_function f.kind ≡ false → is_quiet (f ∷ fs) ≡ true
-  first_other f fs h = rw h refl
+  -- the same by a number that is not below
+  pub quiet_weaker : (m n : ℕ) (fs : List (FrameOf P)) → m ≤ n → IsQuiet m fs → IsQuiet n fs
+  quiet_weaker m n [] h quiet = tt
+  quiet_weaker m n (f ∷ fs) h quiet = λ function. let q = quiet function in (λ fresh. omega (arith, h, q.0 fresh), quiet_weaker m n fs h q.1)
 
-  stale_same : (d : ℕ) (f : FrameOf P) → f.fresh ≡ false → stale d f ≡ f
-  stale_same d f h = elim (nat_eq f.depth d) as (λ b. (if b then record f { fresh = false } else f) ≡ f) [
-    | true ↦ ap (λ b. record f { fresh = b }) (sym h)
-    | false ↦ refl
-  ]
+  stale_same : (d : ℕ) (f : FrameOf P) → (f.fresh ≡ true → f.depth < d) → stale d f ≡ f
+  stale_same d f h = by f.fresh (nat_eq f.depth d) refl refl
+    where
+      by : (fresh here : Bool) → f.fresh ≡ fresh → nat_eq f.depth d ≡ here → stale d f ≡ f
+      by fresh false is at = rw at refl
+      by false true is at = rw at (ap (λ b. record f { fresh = b }) (sym is))
+      by true true is at = let h' = h is in absurd (grind (arith, nat_tests))
 
-  stale_kind : (d : ℕ) (f : FrameOf P) → is_function (stale d f).kind ≡ is_function f.kind
-  stale_kind d f = elim (nat_eq f.depth d) as (λ b. is_function (if b then record f { fresh = false } else f).kind ≡ is_function f.kind) [
-    | true ↦ refl
-    | false ↦ refl
-  ]
+  -- a text where so many sections are open leaves them as they are
+  pub quiet_run : (d : ℕ) (fs : List (FrameOf P)) → IsQuiet d fs → stale_run d fs ≡ fs
+  quiet_run d [] quiet = refl
+  quiet_run d (f ∷ fs) quiet = by (is_function f.kind) refl (λ q. quiet_run d fs q)
+    where
+      by : (b : Bool) → is_function f.kind ≡ b → (IsQuiet d fs → stale_run d fs ≡ fs) → stale_run d (f ∷ fs) ≡ f ∷ fs
+      by true is below =
+          let q = quiet is in
+          first_stale d f fs is ∙ ap (λ g. g ∷ stale_run d fs) (stale_same d f q.0) ∙ ap (λ gs. f ∷ gs) (below q.1)
+      by false is below = first_stays d f fs is
 
-  quiet_first : (d : ℕ) (f : FrameOf P) (fs : List (FrameOf P)) (b : Bool) → is_function f.kind ≡ b → is_quiet (f ∷ fs) ≡ true
-      → (is_quiet fs ≡ true → stale_run d fs ≡ fs) → stale_run d (f ∷ fs) ≡ f ∷ fs
-  quiet_first d f fs true e h below =
-      let s = neither f.fresh (is_quiet fs) (sym (first_quiet f fs e) ∙ h) in
-      first_stale d f fs e ∙ ap (λ g. g ∷ stale_run d fs) (stale_same d f s.0) ∙ ap (λ gs. f ∷ gs) (below s.1)
-  quiet_first d f fs false e h below = first_stays d f fs e
+  all_unnumbered : (n : ℕ) (fs : List (FrameOf P)) → IsQuiet n fs → IsQuiet n (map unnumbered_frame fs)
+  all_unnumbered n [] quiet = tt
+  all_unnumbered n (f ∷ fs) quiet = λ function. let q = quiet function in (q.0, all_unnumbered n fs q.1)
 
-  -- they are left as they are
-  pub quiet_run : (d : ℕ) (fs : List (FrameOf P)) → is_quiet fs ≡ true → stale_run d fs ≡ fs
-  quiet_run d [] h = refl
-  quiet_run d (f ∷ fs) h = quiet_first d f fs (is_function f.kind) refl h (quiet_run d fs)
-
-  pub quiet_unnumbered : (fs : List (FrameOf P)) → is_quiet (map unnumbered_frame fs) ≡ is_quiet fs
-  quiet_unnumbered [] = refl
-  quiet_unnumbered (f ∷ fs) = ap (λ b. if is_function f.kind then not f.fresh && b else true) (quiet_unnumbered fs)
+  pub quiet_unnumbered : (quiet : Option ℕ) (fs : List (FrameOf P)) → IfSome quiet (λ n. IsQuiet n fs) → IfSome quiet (λ n. IsQuiet n (map unnumbered_frame fs))
+  quiet_unnumbered None fs h = tt
+  quiet_unnumbered (Some n) fs h = all_unnumbered n fs h
 
   -- so far as a walk from the end has come
-  abbrev pub QuietSoFar : ℕ → List (FrameOf P) → Bool → Type 0
-  QuietSoFar n fs quiet = (more : List (FrameOf P)) → is_quiet (reverse (drop n fs) ++ more) ≡ (quiet && is_quiet more)
+  abbrev pub QuietSoFar : ℕ → List (FrameOf P) → Option ℕ → Type 0
+  QuietSoFar i fs quiet = IfSome quiet (λ n. (m : ℕ) (more : List (FrameOf P)) → n ≤ m → IsQuiet m more → IsQuiet m (reverse (drop i fs) ++ more))
 
-  pub quiet_step : (depth : ℕ) (fs : List (FrameOf P)) (i n : ℕ) (f g : FrameOf P) (quiet : Bool) → n ≡ i + 1 → i < length fs
-      → is_function f.kind ≡ true → g ≡ stale depth f → QuietSoFar n fs quiet → QuietSoFar i (set fs i g) (quiet && not g.fresh)
-  quiet_step depth fs i n f g quiet is h function made before = λ more.
-      ap (λ gs. is_quiet (reverse gs ++ more)) (drop-set fs i g h)
-      ∙ ap (λ gs. is_quiet (gs ++ more)) (reverse-append (g ∷ []) (drop (i + 1) fs))
-      ∙ ap is_quiet (append_assoc (reverse (drop (i + 1) fs)) (g ∷ []) more)
-      ∙ ap (λ m. is_quiet (reverse (drop m fs) ++ g ∷ more)) (sym is)
-      ∙ before (g ∷ more)
-      ∙ ap (λ b. quiet && b) (first_quiet g more (ap (λ a. is_function a.kind) made ∙ stale_kind depth f ∙ function))
-      ∙ sym (and_assoc quiet (not g.fresh) (is_quiet more))
+  pub quiet_step : (fs : List (FrameOf P)) (i n : ℕ) (g : FrameOf P) (old new : Option ℕ) → n ≡ i + 1 → i < length fs → is_function g.kind ≡ true → Covers old g new
+      → QuietSoFar n fs old → QuietSoFar i (set fs i g) new
+  quiet_step fs i n g old None is h function covers before = tt
+  quiet_step fs i n g None (Some b) is h function covers before = absurd (covers function).1
+  quiet_step fs i n g (Some a) (Some b) is h function covers before = λ m more within quiet.
+      let c = covers function in
+      let whole : reverse (drop i (set fs i g)) ++ more ≡ reverse (drop n fs) ++ g ∷ more =
+      ap (λ gs. reverse gs ++ more) (drop-set fs i g h)
+      ∙ ap (λ gs. gs ++ more) (reverse-append (g ∷ []) (drop (i + 1) fs))
+      ∙ append_assoc (reverse (drop (i + 1) fs)) (g ∷ []) more
+      ∙ ap (λ k. reverse (drop k fs) ++ g ∷ more) (sym is) in
+      subst (λ gs. IsQuiet m gs) (sym whole)
+      (before m (g ∷ more) (omega (arith, c.1, within)) (λ also. (λ fresh. omega (arith, c.0 fresh, within), quiet)))
 
-  pub quiet_stop : (fs : List (FrameOf P)) (i n : ℕ) (d : FrameOf P) (quiet : Bool) → n ≡ i + 1 → i < length fs → is_function (get_or fs i d).kind ≡ false
-      → QuietSoFar n fs quiet → quiet ≡ is_quiet (reverse fs)
-  quiet_stop fs i n d quiet is h other before =
-      sym (ap is_quiet (ap reverse (sym (take-append-drop n fs)) ∙ reverse-append (take n fs) (drop n fs))
-      ∙ before (reverse (take n fs))
-      ∙ ap (λ m. quiet && is_quiet (reverse (take m fs))) is
-      ∙ ap (λ gs. quiet && is_quiet gs) (ap reverse (take_more fs i d h) ∙ reverse-append (take i fs) (get_or fs i d ∷ []))
-      ∙ ap (λ b. quiet && b) (first_other (get_or fs i d) (reverse (take i fs)) other)
-      ∙ and-true quiet)
+  pub quiet_stop : (fs : List (FrameOf P)) (i n : ℕ) (d : FrameOf P) (quiet : Option ℕ) → n ≡ i + 1 → i < length fs → is_function (get_or fs i d).kind ≡ false
+      → QuietSoFar n fs quiet → IfSome quiet (λ m. IsQuiet m (reverse fs))
+  quiet_stop fs i n d None is h other before = tt
+  quiet_stop fs i n d (Some m) is h other before =
+      let rest : reverse (take n fs) ≡ get_or fs i d ∷ reverse (take i fs) =
+      ap (λ k. reverse (take k fs)) is ∙ ap reverse (take_more fs i d h) ∙ reverse-append (take i fs) (get_or fs i d ∷ []) in
+      let whole : reverse fs ≡ reverse (drop n fs) ++ get_or fs i d ∷ reverse (take i fs) =
+      ap reverse (sym (take-append-drop n fs)) ∙ reverse-append (take n fs) (drop n fs) ∙ ap (λ gs. reverse (drop n fs) ++ gs) rest in
+      subst (λ gs. IsQuiet m gs) (sym whole) (before m (get_or fs i d ∷ reverse (take i fs)) (omega arith) (first_other m (get_or fs i d) (reverse (take i fs)) other))
 
-  pub quiet_end : (fs : List (FrameOf P)) (quiet : Bool) → QuietSoFar 0 fs quiet → quiet ≡ is_quiet (reverse fs)
-  quiet_end fs quiet before = sym (ap is_quiet (sym (append-nil (reverse fs))) ∙ before [] ∙ and-true quiet)
+  pub quiet_end : (fs : List (FrameOf P)) (quiet : Option ℕ) → QuietSoFar 0 fs quiet → IfSome quiet (λ m. IsQuiet m (reverse fs))
+  quiet_end fs None before = tt
+  quiet_end fs (Some m) before = subst (λ gs. IsQuiet m gs) (append-nil (reverse fs)) (before m [] (omega arith) tt)

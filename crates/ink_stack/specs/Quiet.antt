@@ -1,11 +1,15 @@
 -- What a thread keeps in mind of the frames below its top one.
-use Rattle.std.specs.Prelude.{List, [], ◌∷◌, Bool, true, not, ◌&&◌, if◌then◌else◌, is_some}
+use Rattle.std.specs.Prelude.{◌≡◌, ◌≤◌, ◌<◌, ⊤, ℕ, List, [], ◌∷◌, Bool, true, not, ◌&&◌, is_some, Option, IfSome, IsSomeAnd}
 use Rattle.ink_model.specs.Frames.{FrameOf, is_function}
 
--- of the function frames that come first none is fresh
-abbrev pub is_quiet : {P : Type 0} → List (FrameOf P) → Bool
-is_quiet [] = true
-is_quiet (f ∷ fs) = if is_function f.kind then not f.fresh && is_quiet fs else true
+-- of the function frames that come first each fresh one was pushed where fewer sections were open
+abbrev pub IsQuiet : {P : Type 0} → ℕ → List (FrameOf P) → Type 0
+IsQuiet n [] = ⊤
+IsQuiet n (f ∷ fs) = is_function f.kind ≡ true → (f.fresh ≡ true → f.depth < n) × IsQuiet n fs
+
+-- a number, where there is one, that holds with a function frame nearest: it is not below the one that holds without it
+abbrev pub Covers : {P : Type 0} → Option ℕ → FrameOf P → Option ℕ → Type 0
+Covers old f new = IfSome new (λ n. is_function f.kind ≡ true → (f.fresh ≡ true → f.depth < n) × IsSomeAnd old (λ m. m ≤ n))
 
 -- none has the number of its Enter
 abbrev pub is_unnumbered : {P : Type 0} → List (FrameOf P) → Bool

@@ -1,6 +1,6 @@
 //! Frames.
 
-ghost use Rattle.std.specs.Prelude.{◌≡◌, ◌≢◌, [], None, true, option_map, IfOk, OnOk, OnErr};
+ghost use Rattle.std.specs.Prelude.{◌≡◌, ◌≢◌, ◌<◌, ◌≤◌, [], None, true, option_map, IfOk, IfSome, IsSomeAnd, OnOk, OnErr};
 ghost use Rattle.std.specs.Bool.{OnTrue, OnFalse};
 ghost use Rattle.ink_model.specs.Frames.{fresh_depth, is_function};
 ghost use Rattle.ink_model.specs.Rows.{name_order, row};
@@ -8,6 +8,7 @@ ghost use Rattle.ink_model.specs.Threads.{new_frame, same_kind, stale, with_row_
 ghost use Rattle.ink_stack.specs.Calls.{frame_kind};
 ghost use Rattle.ink_stack.specs.Cells.{temp_back, with_fresh};
 ghost use Rattle.ink_stack.specs.Frames.{frame_with, is_bare};
+ghost use Rattle.ink_stack.specs.Quiet.{Covers};
 ghost use Rattle.ink_stack.specs.Temps.{text_of};
 ghost use Rattle.ink_model.specs.Store.{Values};
 
@@ -67,6 +68,30 @@ impl<P> Header<P> {
         }
         false
     }
+
+    /// The number of sections that holds with this frame nearest, by the one that holds below it: where so many are open, or more, a
+    /// text ends no freshness. None where there is none.
+    pub(crate) fn quiet_above(&self, quiet: Option<usize>) -> Option<usize>
+        ensures { (rows : Values) → Covers quiet (frame_with self.now rows) result }
+    {
+        if !self.is_function() {
+            return Some(0);
+        }
+        if !self.fresh {
+            return quiet;
+        }
+        above(quiet, self.depth)
+    }
+}
+
+/// A number that is above a depth, and not below a bound; none where there is no bound, or no such number.
+fn above(bound: Option<usize>, depth: usize) -> Option<usize>
+    ensures above { IfSome result (λ n. depth < n) }
+    ensures least { IfSome result (λ n. IsSomeAnd bound (λ m. m ≤ n)) }
+{
+    let bound = bound?;
+    let next = depth.checked_add(1)?;
+    Some(next.max(bound))
 }
 
 /// A frame: its header, and its temporaries. A contract sees it as one record.
@@ -206,6 +231,13 @@ impl<P: Copy> Frame<P> {
         ensures { result ≡ is_function self.now.kind }
     {
         self.header.is_function()
+    }
+
+    /// The same number as by its header.
+    pub(crate) fn quiet_above(&self, quiet: Option<usize>) -> Option<usize>
+        ensures { Covers quiet self.now result }
+    {
+        self.header.quiet_above(quiet)
     }
 
     pub(crate) fn put(&mut self, place: Option<P>)

@@ -7,6 +7,7 @@ ghost use Rattle.ink_model.specs.Rows.{name_order, row};
 ghost use Rattle.ink_model.specs.Threads.{stale, with_row_in};
 ghost use Rattle.ink_stack.specs.Cells.{temp_back, with_fresh};
 ghost use Rattle.ink_stack.specs.Frames.{FitsIn, MoreRoom, unnumbered};
+ghost use Rattle.ink_stack.specs.Quiet.{Covers};
 ghost use Rattle.ink_stack.specs.Temps.{text_of};
 
 use crate::frame::{Frame, Header};
@@ -98,12 +99,12 @@ impl<P: Copy> Frames<P> {
         self.headers[index].is_function()
     }
 
-    /// Whether it is fresh.
-    pub(crate) fn is_fresh(&self, index: usize) -> bool
+    /// The number of sections that holds with the frame at an index nearest, by the one that holds below it.
+    pub(crate) fn quiet_above(&self, index: usize, quiet: Option<usize>) -> Option<usize>
         requires { index < length self.now.items }
-        ensures { (d : FrameOf P) → result ≡ (get_or self.now.items index d).fresh }
+        ensures { (d : FrameOf P) → Covers quiet (get_or self.now.items index d) result }
     {
-        self.headers[index].fresh
+        self.headers[index].quiet_above(quiet)
     }
 
     /// The value of a temporary of the frame at an index, none where it has none of that name. Takes no memory.

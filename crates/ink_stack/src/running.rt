@@ -1,6 +1,6 @@
 //! The thread that runs.
 
-ghost use Rattle.std.specs.Prelude.{◌≡◌, ◌≢◌, ◌⊎◌, [], ◌∷◌, ◌<◌, ◌≤◌, None, true, option_map, reverse, IfOk, OnOk, OnErr};
+ghost use Rattle.std.specs.Prelude.{◌≡◌, ◌≢◌, ◌⊎◌, [], ◌∷◌, ◌<◌, ◌≤◌, None, Some, true, option_map, reverse, IfOk, IfSome, OnOk, OnErr};
 ghost use Rattle.std.specs.Bool.{OnTrue, OnFalse};
 ghost use Rattle.ink_model.specs.Bases.{BaseFirst};
 ghost use Rattle.ink_model.specs.Frames.{base_frame, fresh_depth, frame_numbered, gone, is_function, mode_in, put_in, unnumbered_thread};
@@ -9,7 +9,7 @@ ghost use Rattle.ink_model.specs.Threads.{frame_count, number_in, popped, pushed
 ghost use Rattle.ink_stack.specs.Calls.{frame_kind};
 ghost use Rattle.ink_stack.specs.Cells.{Within, holds_of, number_back, temp_back, ungone, unpopped, unpushed, with_frame, with_fresh};
 ghost use Rattle.ink_stack.specs.Frames.{MoreRoom};
-ghost use Rattle.ink_stack.specs.Quiet.{is_quiet};
+ghost use Rattle.ink_stack.specs.Quiet.{IsQuiet};
 ghost use Rattle.ink_stack.specs.Temps.{text_of};
 ghost use Rattle.ink_stack.specs.Words.{Changes, Grows};
 
@@ -25,14 +25,14 @@ use std::mem;
 /// which flow last moved in it. A contract sees the thread, its frames below the top one with the nearest first, and the room
 /// for such frames without memory.
 ///
-/// `quiet` says that of the function frames that are nearest below the top one none is fresh, so that a text need not look at
-/// them. `numbered` says whether a frame below the top one may have the number of its mark, so that the end of a line need not
-/// look at them where none has one.
+/// Of the function frames that are nearest below the top one each fresh one was pushed where fewer than `quiet` sections were open,
+/// so that a text where so many are open, or more, need not look at them; none where that is not known. `numbered` says whether a
+/// frame below the top one may have the number of its mark, so that the end of a line need not look at them where none has one.
 pub struct Running<P> {
     pub(crate) frame: Frame<P>,
     pub(crate) below: Frames<P>,
     pub(crate) previous: Option<P>,
-    pub(crate) quiet: bool,
+    pub(crate) quiet: Option<usize>,
     pub(crate) numbered: bool,
     pub(crate) alloc: Global,
 }
@@ -51,10 +51,10 @@ impl<P: Drop> Drop for Running<P> {
 }
 
 impl<P> Model for Running<P> {
-    ghost use Rattle.std.specs.Prelude.{◌≡◌, reverse, ◌<◌, length, false, true};
+    ghost use Rattle.std.specs.Prelude.{◌≡◌, reverse, ◌<◌, length, false, true, IfSome};
     ghost use Rattle.ink_model.specs.Bases.{BaseFirst};
     ghost use Rattle.ink_model.specs.declared.limits.TheConstants.{MAX_FRAMES};
-    ghost use Rattle.ink_stack.specs.Quiet.{is_quiet, is_unnumbered};
+    ghost use Rattle.ink_stack.specs.Quiet.{IsQuiet, is_unnumbered};
     ghost use Rattle.ink_stack.specs.Running.{RunningView};
 
     ghost Value = { RunningView P };
@@ -64,7 +64,7 @@ impl<P> Model for Running<P> {
       room = t.below.room;
     } };
 
-    ghost invariant = { λ t. (length t.below.items < MAX_FRAMES) × (t.quiet ≡ true → is_quiet (reverse t.below.items) ≡ true)
+    ghost invariant = { λ t. (length t.below.items < MAX_FRAMES) × IfSome t.quiet (λ n. IsQuiet n (reverse t.below.items))
         × BaseFirst t.frame.kind (reverse t.below.items) × (t.numbered ≡ false → is_unnumbered (reverse t.below.items) ≡ true) };
 }
 
@@ -77,7 +77,7 @@ impl<P: Copy> Running<P> {
             frame: Frame::new(alloc, FrameKind::Base, place, 0),
             below: Frames::new(alloc),
             previous: None,
-            quiet: true,
+            quiet: Some(0),
             numbered: false,
             alloc,
         }
@@ -191,8 +191,9 @@ impl<P: Copy> Running<P> {
     pub(crate) fn end_freshness(&mut self, depth: usize)
         ensures { self.new ≡ record self.old { thread = staled depth self.old.thread } }
     {
+        let quiet = self.is_quiet(depth);
         self.frame.end_freshness(depth);
-        if !self.quiet {
+        if !quiet {
             self.quiet = end_freshness_of(&mut self.below, depth);
         }
     }
@@ -209,7 +210,7 @@ impl<P: Copy> Running<P> {
         };
         let frame = Frame::new(self.alloc, kind.frame_kind(), self.frame.place(), depth);
         let caller = mem::replace(&mut self.frame, frame);
-        self.quiet = !caller.is_function() || !caller.is_fresh() && self.quiet;
+        self.quiet = caller.quiet_above(self.quiet);
         self.numbered = self.numbered || caller.number().is_some();
         self.below.push_reserved(caller);
         Ok(())
@@ -229,7 +230,7 @@ impl<P: Copy> Running<P> {
         }
         match self.below.pop() {
             Some(caller) => {
-                self.quiet = caller.is_function() && self.quiet;
+                self.quiet = quiet_below(&caller, self.quiet);
                 Ok(mem::replace(&mut self.frame, caller))
             }
             None => Err(Fault::BadPop),
@@ -280,11 +281,16 @@ impl<P: Copy> Running<P> {
         self.below.within();
     }
 
-    // Whether it is known of the function frames nearest below the top one that none is fresh.
-    pub(crate) fn is_quiet(&self) -> bool
-        ensures { OnTrue result (is_quiet self.now.thread.below ≡ true) }
+    // Whether it is known of the function frames nearest below the top one that each fresh one was pushed where fewer sections
+    // were open.
+    #[inline(always)]
+    pub(crate) fn is_quiet(&self, depth: usize) -> bool
+        ensures { OnTrue result (IsQuiet depth self.now.thread.below) }
     {
-        self.quiet
+        match self.quiet {
+            Some(bound) => bound <= depth,
+            None => false,
+        }
     }
 
     // Whether the frame of a number is a function.
@@ -312,7 +318,7 @@ impl<P: Copy> Running<P> {
         if number == self.below.len() + 1 {
             return self.frame.end_one(depth);
         }
-        self.quiet = false;
+        self.quiet = None;
         self.below.end_one(number - 1, depth)
     }
 
@@ -339,7 +345,7 @@ impl<P: Copy> Running<P> {
             return;
         }
         if 0 < number && number <= self.below.len() {
-            self.quiet = false;
+            self.quiet = None;
             self.below.freshen(number - 1);
         }
     }
@@ -362,7 +368,7 @@ impl<P: Copy> Running<P> {
         ensures { self.new ≡ record self.old { thread = unpushed self.old.thread } }
     {
         if let Some(under) = self.below.pop() {
-            self.quiet = under.is_function() && self.quiet;
+            self.quiet = quiet_below(&under, self.quiet);
             self.frame = under;
         }
     }
@@ -373,20 +379,21 @@ impl<P: Copy> Running<P> {
         ensures { self.new ≡ record self.old { thread = unpopped frame self.old.thread } }
     {
         let under = mem::replace(&mut self.frame, frame);
-        self.quiet = !under.is_function() || !under.is_fresh() && self.quiet;
+        self.quiet = under.quiet_above(self.quiet);
         self.numbered = self.numbered || under.number().is_some();
         self.below.push_reserved(under);
     }
 }
 
 /// A text is written where so many sections are open: of the function frames that come last here, those that were pushed
-/// there are fresh no more. Whether none of them is fresh then.
-fn end_freshness_of<P: Copy>(frames: &mut Frames<P>, depth: usize) -> bool
+/// there are fresh no more. Answers a number of sections, where there is one: those that are fresh then were pushed where fewer were
+/// open.
+fn end_freshness_of<P: Copy>(frames: &mut Frames<P>, depth: usize) -> Option<usize>
     ensures run { reverse frames.new.items ≡ stale_run depth (reverse frames.old.items) }
-    ensures quiet { result ≡ is_quiet (reverse frames.new.items) }
+    ensures quiet { IfSome result (λ n. IsQuiet n (reverse frames.new.items)) }
     ensures room { frames.new.room ≡ frames.old.room }
 {
-    let mut quiet = true;
+    let mut quiet = Some(0);
     let mut count = frames.len();
     while count > 0 {
         count -= 1;
@@ -394,7 +401,17 @@ fn end_freshness_of<P: Copy>(frames: &mut Frames<P>, depth: usize) -> bool
             return quiet;
         }
         let _was = frames.end_one(count, depth);
-        quiet &= !frames.is_fresh(count);
+        quiet = frames.quiet_above(count, quiet);
     }
     quiet
+}
+
+/// The number of sections that holds below a frame, by the one that holds with it.
+fn quiet_below<P: Copy>(nearest: &Frame<P>, quiet: Option<usize>) -> Option<usize>
+    ensures { IfSome result (λ n. (is_function nearest.now.kind ≡ true) × (quiet ≡ Some n)) }
+{
+    if nearest.is_function() {
+        return quiet;
+    }
+    None
 }

@@ -116,7 +116,7 @@ impl<P: Copy> Thread<P> {
             frame,
             below,
             previous,
-            quiet: false,
+            quiet: None,
             numbered: true,
             alloc,
         };

@@ -82,11 +82,11 @@ pub(crate) fn end_freshness<P: Copy>(
 {
     let top = running.frames();
     end_one(running, below, trail, top, depth);
-    if running.is_quiet() {
+    if running.is_quiet(depth) {
         return;
     }
     end_run(running, below, trail, depth);
-    // Nothing is left to end; that none is fresh is kept in mind where it is so.
+    // Nothing is left to end; how far what is fresh still reaches is kept in mind.
     running.end_freshness(depth);
 }
 

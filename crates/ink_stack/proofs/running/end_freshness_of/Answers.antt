@@ -1,11 +1,12 @@
-use Rattle.std.proofs.Common.{◌≡◌, ◌∙◌, ◌-◌, ◌+◌, ◌<◌, ◌++◌, true, false, ap, arith, get_or, length, length-set, refl, reverse, set, sym}
+use Rattle.std.proofs.Common.{◌≡◌, ◌∙◌, ◌-◌, ◌+◌, ◌<◌, ◌++◌, true, false, ap, arith, get_or, length, length-set, refl, reverse, set, subst, sym}
 use Rattle.std.proofs.lemmas.List.{drop_all, get_or-set_same}
 use Rattle.ink_model.specs.Frames.{is_function}
 use Rattle.ink_model.specs.Threads.{stale}
+use Rattle.ink_stack.proofs.Bases.{stale_kind}
 use Rattle.ink_stack.proofs.Numbers.{some_frame}
 use Rattle.ink_stack.proofs.Quietness.{quiet_end, quiet_step, quiet_stop}
 use Rattle.ink_stack.proofs.Runs.{run_at, run_end, run_start, run_step, run_stop}
-use Rattle.ink_stack.specs.Quiet.{is_quiet}
+use Rattle.ink_stack.specs.Quiet.{Covers, IsQuiet}
 use Rattle.ink_stack.proofs.running.end_freshness_of.Goals as goal
 
 pub loop-count-init : goal.loop-count-init
@@ -14,7 +15,7 @@ loop-count-init g c =
     record {
       within = omega arith;
       run = ap (λ n. run_at c.args.depth n fs) c.len-count.ensures ∙ run_start c.args.depth fs;
-      quiet = λ more. ap (λ gs. is_quiet (reverse gs ++ more)) (drop_all c.len-count.result fs (omega arith));
+      quiet = λ m more within quiet. subst (λ gs. IsQuiet m (reverse gs ++ more)) (sym (drop_all c.len-count.result fs (omega arith))) quiet;
       room = refl;
     }
 
@@ -64,18 +65,17 @@ loop-count-preserved g c =
     let count : n ≡ n - 1 + 1 = omega arith in
     let g = stale depth (get_or fs (n - 1) d) in
     let items : c.end_one-was.new.self.items ≡ set fs (n - 1) g = c.end_one-was.ensures.items d in
-    let fresh : c.is_fresh.result ≡ g.fresh = c.is_fresh.ensures d ∙ ap (λ gs. (get_or gs (n - 1) d).fresh) items ∙ ap (λ f. f.fresh) (get_or-set_same fs (n - 1) g d inside) in
+    let kept : is_function g.kind ≡ true = ap is_function (stale_kind depth (get_or fs (n - 1) d)) ∙ function in
+    let covers = subst (λ f. Covers c.loop-count.quiet f c.quiet_above-quiet.result) (ap (λ gs. get_or gs (n - 1) d) items ∙ get_or-set_same fs (n - 1) g d inside) (c.quiet_above-quiet.ensures d) in
     record {
       within = rw items (rw length-set (omega arith));
       run = ap (λ gs. run_at depth (n - 1) gs) items ∙ run_step depth fs (n - 1) n d g count inside function refl ∙ c.loop-count.invariant.run;
-      quiet =
-          rw (items, fresh)
-          (quiet_step depth fs (n - 1) n (get_or fs (n - 1) d) g c.loop-count.quiet count inside function refl c.loop-count.invariant.quiet);
+      quiet = rw items (quiet_step fs (n - 1) n g c.loop-count.quiet c.quiet_above-quiet.result count inside kept covers c.loop-count.invariant.quiet);
       room = c.end_one-was.ensures.room ∙ c.loop-count.invariant.room;
     }
 
-pub is_fresh-requires : goal.is_fresh-requires
-is_fresh-requires g c =
+pub quiet_above-quiet-requires : goal.quiet_above-quiet-requires
+quiet_above-quiet-requires g c =
     let fs = c.loop-count.frames.items in
     let n = c.loop-count.count in
     let d = some_frame fs (omega arith) in

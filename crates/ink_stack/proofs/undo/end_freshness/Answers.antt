@@ -1,9 +1,9 @@
-use Rattle.std.proofs.Common.{◌≡◌, ◌∙◌, ◌+◌, true, ap, arith, length, subst, sym, vec_capacity}
+use Rattle.std.proofs.Common.{◌≡◌, ◌∙◌, ◌+◌, ap, arith, length, subst, sym, vec_capacity}
 use Rattle.std.proofs.lemmas.Bool.{OnTrue_at}
 use Rattle.ink_model.specs.Threads.{frame_count, stale, stale_run, staled}
 use Rattle.ink_trail.proofs.Undoing.{trails-more, trails-trails}
 use Rattle.ink_trail.specs.Undo.{Trails, trail_of}
-use Rattle.ink_stack.specs.Quiet.{is_quiet}
+use Rattle.ink_stack.specs.Quiet.{IsQuiet}
 use Rattle.ink_stack.specs.Running.{RunningView, threads_in}
 use Rattle.ink_stack.specs.Undo.{StaysHeld, threads_back}
 use Rattle.ink_stack.proofs.Framing.{framed_top}
@@ -38,7 +38,7 @@ returns-then-is_quiet-clause-running g c =
     let d = c.args.depth in
     let t = c.args.running.now.thread in
     let e = top g (goal.at.returns-then-is_quiet-clause-running g c).After-end_one in
-    let quiet : is_quiet t.below ≡ true = ap (λ v. is_quiet v.thread.below) (sym e) ∙ OnTrue_at c.if-is_quiet.true c.is_quiet.ensures in
+    let quiet = subst (λ (v : RunningView g.row.P.Denot). IsQuiet d v.thread.below) e (OnTrue_at c.if-is_quiet.true c.is_quiet.ensures) in
     e ∙ ap (λ fs. record c.args.running.now { thread = record t { frame = stale d t.frame; below = fs } }) (sym (quiet_run d t.below quiet))
 
 pub returns-clause-running : goal.returns-clause-running

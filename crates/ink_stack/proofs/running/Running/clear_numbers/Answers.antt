@@ -22,7 +22,7 @@ invariant_of-self g c =
     let old = c.self.inside.below.items in
     rw c.clear_numbers.ensures.items (
       rw length-map c.self.invariant.0,
-      λ quiet. rw (← map-reverse unnumbered_frame old, quiet_unnumbered (reverse old)) (c.self.invariant.1 quiet),
+      rw (← map-reverse unnumbered_frame old) (quiet_unnumbered c.self.inside.quiet (reverse old) c.self.invariant.1),
       subst (λ fs. BaseFirst c.set_number.new.self.kind fs) (map-reverse unnumbered_frame old)
           (base_unnumbered c.set_number.new.self.kind (reverse old) (base_same c.self.inside.frame.kind c.set_number.new.self.kind (reverse old) (ap (λ f. f.kind) c.set_number.ensures) c.self.invariant.2)),
       λ none. rw (← map-reverse unnumbered_frame old) (unnumbered_map (reverse old)),

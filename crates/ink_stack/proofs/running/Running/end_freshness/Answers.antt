@@ -1,4 +1,5 @@
 use Rattle.std.proofs.Common.{◌≡◌, ◌∙◌, ap, arith, length, refl, reverse, subst, sym}
+use Rattle.std.proofs.lemmas.Bool.{OnTrue_at}
 use Rattle.std.proofs.lemmas.List.{length-reverse}
 use Rattle.ink_model.specs.Bases.{BaseFirst}
 use Rattle.ink_model.specs.Threads.{stale_run}
@@ -9,13 +10,14 @@ use Rattle.ink_stack.proofs.Unnumbered.{unnumbered_run}
 use Rattle.ink_stack.specs.Quiet.{is_unnumbered}
 use Rattle.ink_stack.proofs.running.Running.end_freshness.Goals as goal
 
-pub returns-then-not-self : goal.returns-then-not-self
-returns-then-not-self g c = rw (← c.self.view_is) (rw (c.end_freshness.ensures, c.end_freshness_of-self-inside.ensures.run, c.end_freshness_of-self-inside.ensures.room) refl)
+pub returns-then-not-quiet : goal.returns-then-not-quiet
+returns-then-not-quiet g c = rw (← c.self.view_is) (rw (c.end_freshness.ensures, c.end_freshness_of-self-inside.ensures.run, c.end_freshness_of-self-inside.ensures.room) refl)
 
-pub returns-else-not-self : goal.returns-else-not-self
-returns-else-not-self g c =
+pub returns-else-not-quiet : goal.returns-else-not-quiet
+returns-else-not-quiet g c =
     let below = reverse c.self.inside.below.items in
-    rw (← c.self.view_is) (rw (c.end_freshness.ensures, quiet_run c.args.depth below (c.self.invariant.1 c.if-not-self.false)) refl)
+    let quiet = rw (← c.self.view_is) at (OnTrue_at c.if-not-quiet.false c.is_quiet-quiet.ensures) in
+    rw (← c.self.view_is) (rw (c.end_freshness.ensures, quiet_run c.args.depth below quiet) refl)
 
 pub invariant_of-self : goal.invariant_of-self
 invariant_of-self g c =
@@ -27,7 +29,7 @@ invariant_of-self g c =
     let many : length new ≡ length old = omega (arith, length-reverse new, ap length run, length-run depth (reverse old), length-reverse old) in
     let kind : top.kind ≡ c.self.inside.frame.kind = ap (λ f. f.kind) c.end_freshness.ensures ∙ stale_kind depth c.self.inside.frame in (
       omega (arith, many, c.self.invariant.0),
-      λ quiet. sym c.end_freshness_of-self-inside.ensures.quiet ∙ quiet,
+      c.end_freshness_of-self-inside.ensures.quiet,
       subst (λ fs. BaseFirst top.kind fs) (sym run)
           (base_same c.self.inside.frame.kind top.kind (stale_run depth (reverse old)) kind (base_stale depth c.self.inside.frame.kind (reverse old) c.self.invariant.2)),
       λ none. ap is_unnumbered run ∙ unnumbered_run depth (reverse old) ∙ c.self.invariant.3 none,

@@ -18,7 +18,7 @@ invariant_of-self-2 g c =
     let within : c.args.number ≤ length items = omega (arith, length-reverse items, ap (λ t. length t.thread.below) c.self.view_is) in
     rw (c.end_one-2.ensures.items d) (
       rw length-set c.self.invariant.0,
-      λ quiet. cc,
+      tt,
       base_set c.self.inside.frame.kind items c.args.number d now c.requires.from within (stale_kind c.args.depth was) c.self.invariant.2,
       λ none. rw (unnumbered_set items c.args.number d now c.requires.from within (number_stale c.args.depth was now refl)) (c.self.invariant.3 none),
     )

@@ -15,7 +15,7 @@ invariant_of-self-then-number-len-2 g c =
     let within : c.args.number ≤ length items = omega arith in
     rw (c.freshen-then-number-len-2.ensures.items d) (
       rw length-set c.self.invariant.0,
-      λ quiet. cc,
+      tt,
       base_set c.self.inside.frame.kind items c.args.number d now (omega arith) within refl c.self.invariant.2,
       λ none. rw (unnumbered_set items c.args.number d now (omega arith) within refl) (c.self.invariant.3 none),
     )

@@ -1,10 +1,9 @@
 use Rattle.std.proofs.Common.{◌≡◌, ◌+◌, ◌∙◌, [], ◌∷◌, true, ap, arith, length, reverse}
 use Rattle.std.proofs.lemmas.List.{length-append, reverse-append}
-use Rattle.ink_model.specs.Frames.{is_function, ThreadOf}
+use Rattle.ink_model.specs.Frames.{ThreadOf}
 use Rattle.ink_stack.proofs.Keeping.{base_fewer, quiet_fewer, unnumbered_fewer}
 use Rattle.ink_model.specs.Threads.{same_kind}
 use Rattle.ink_stack.proofs.Tops.{popped_made}
-use Rattle.ink_stack.proofs.running.Running.pop.Goals.{then-is_function, else-is_function}
 use Rattle.ink_stack.proofs.running.Running.pop.Goals as goal
 
 pub invariant_of-self : goal.invariant_of-self
@@ -13,20 +12,15 @@ invariant_of-self g c =
     let rest = c.pop.new.self.items in
     let f = c.in-Some.caller in
     let whole = c.in-Some.ensures.items in
-    let fewer : length items ≡ length rest + 1 = ap length whole ∙ length-append rest (f ∷ []) in
-    let quiet : c.if-is_function.self ≡ true → (is_function f.kind ≡ true) × (c.self.inside.quiet ≡ true) =
-    elim c.if-is_function.branch [
-      | then-is_function w ↦ λ is. (cc, cc)
-      | else-is_function w ↦ λ is. (cc, cc)
-    ] in (
+    let fewer : length items ≡ length rest + 1 = ap length whole ∙ length-append rest (f ∷ []) in (
       omega (arith, fewer, c.self.invariant.0),
-      λ is. quiet_fewer f rest items c.self.inside.quiet whole c.self.invariant.1 (quiet is),
+      quiet_fewer f rest items c.self.inside.quiet c.quiet_below-self-inside.result whole c.self.invariant.1 c.quiet_below-self-inside.ensures,
       base_fewer c.replace.new.dest.kind c.self.inside.frame.kind f rest items (ap (λ h. h.kind) c.replace.ensures.after) whole c.self.invariant.2,
       unnumbered_fewer f rest items c.self.inside.numbered whole c.self.invariant.3,
     )
 
-pub returns-after-is_function-clause-thread : goal.returns-after-is_function-clause-thread
-returns-after-is_function-clause-thread g c =
+pub returns-in-Some-clause-thread : goal.returns-in-Some-clause-thread
+returns-in-Some-clause-thread g c =
     let f = c.in-Some.caller in
     let rest = c.pop.new.self.items in
     let t : ThreadOf g.row.P.Denot = record { frame = c.self.inside.frame; below = reverse c.self.inside.below.items; previous = c.self.inside.previous } in

@@ -16,7 +16,7 @@ invariant_of-self-then-number-len-2 g c =
     let within : c.args.number ≤ length items = omega arith in
     rw (c.put_temp_back-then-number-len-2.ensures.items d) (
       rw length-set c.self.invariant.0,
-      λ quiet. rw (quiet_set items c.args.number d now (omega arith) within refl refl) (c.self.invariant.1 quiet),
+      quiet_set items c.args.number d now c.self.inside.quiet (omega arith) within refl refl refl c.self.invariant.1,
       base_set c.self.inside.frame.kind items c.args.number d now (omega arith) within refl c.self.invariant.2,
       λ none. rw (unnumbered_set items c.args.number d now (omega arith) within refl) (c.self.invariant.3 none),
     )

@@ -1,9 +1,9 @@
-use Rattle.std.proofs.Common.{◌≡◌, ◌∙◌, ◌<◌, ◌≤◌, ◌-◌, IfOk, OnOk, ap, arith, get_or, length, length-set, reverse, subst, sym}
+use Rattle.std.proofs.Common.{◌≡◌, ◌∙◌, ◌<◌, ◌≤◌, ◌-◌, IfOk, IfSome, OnOk, ap, arith, get_or, length, length-set, reverse, subst, sym}
 use Rattle.std.proofs.lemmas.List.{length-reverse}
 use Rattle.std.proofs.lemmas.Result.{IfOk-weaker}
 use Rattle.ink_stack.specs.Cells.{temp_back, with_frame}
 use Rattle.ink_stack.specs.Temps.{text_of}
-use Rattle.ink_stack.proofs.Bases.{fresh_along, kind_along, base_same}
+use Rattle.ink_stack.proofs.Bases.{depth_along, fresh_along, kind_along, base_same}
 use Rattle.ink_stack.proofs.Framing.{base_set, unframed_below}
 use Rattle.ink_stack.proofs.Numbers.{memory_along, quiet_set, row_kept, row_made, set_either, temp_along}
 use Rattle.ink_stack.proofs.Unnumbered.{number_along, unnumbered_set}
@@ -11,7 +11,7 @@ use Rattle.ink_stack.proofs.Tops.{back_top, memory_top, temp_top}
 use Rattle.ink_model.specs.Frames.{ThreadOf}
 use Rattle.ink_model.specs.Bases.{BaseFirst}
 use Rattle.ink_model.specs.Threads.{frame_count, with_row_in, with_temp}
-use Rattle.ink_stack.specs.Quiet.{is_quiet, is_unnumbered}
+use Rattle.ink_stack.specs.Quiet.{IsQuiet, is_unnumbered}
 use Rattle.ink_stack.proofs.running.Running.set_temp.Goals as goal
 
 pub invariant_of-self-2 : goal.invariant_of-self-2
@@ -30,9 +30,10 @@ invariant_of-self-2 g c =
     let kept = row_kept c.set_temp-2.result items now i d inside c.set_temp-2.ensures.err in
     let kind = kind_along c.set_temp-2.result name c.args.value was f made kept in
     let fresh = fresh_along c.set_temp-2.result name c.args.value was f made kept in
+    let depth = depth_along c.set_temp-2.result name c.args.value was f made kept in
     let number = number_along c.set_temp-2.result name c.args.value was f made kept in (
       omega (arith, ap length is ∙ length-set items i f, c.self.invariant.0),
-      λ quiet. ap (λ fs. is_quiet (reverse fs)) is ∙ quiet_set items c.args.number d f c.requires.from within kind fresh ∙ c.self.invariant.1 quiet,
+      subst (λ fs. IfSome c.self.inside.quiet (λ n. IsQuiet n (reverse fs))) (sym is) (quiet_set items c.args.number d f c.self.inside.quiet c.requires.from within kind fresh depth c.self.invariant.1),
       subst (λ fs. BaseFirst d.kind (reverse fs)) (sym is) (base_set d.kind items c.args.number d f c.requires.from within kind c.self.invariant.2),
       λ none. ap (λ fs. is_unnumbered (reverse fs)) is ∙ unnumbered_set items c.args.number d f c.requires.from within number ∙ c.self.invariant.3 none,
     )

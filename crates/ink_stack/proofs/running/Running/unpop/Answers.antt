@@ -1,10 +1,10 @@
-use Rattle.std.proofs.Common.{◌≡◌, ◌∙◌, [], ◌∷◌, false, true, ap, arith, is_some, length, refl, reverse}
+use Rattle.std.proofs.Common.{◌≡◌, ◌∙◌, [], ◌∷◌, false, ap, arith, is_some, length, refl, reverse}
 use Rattle.std.proofs.lemmas.List.{length-append, length-reverse, reverse-append}
-use Rattle.ink_model.specs.Frames.{is_function, ThreadOf}
+use Rattle.ink_model.specs.Frames.{ThreadOf}
 use Rattle.ink_stack.proofs.Keeping.{base_more, quiet_more, unnumbered_more}
 use Rattle.ink_stack.specs.Cells.{unpopped}
 use Rattle.ink_stack.proofs.Staling.{running_is}
-use Rattle.ink_stack.proofs.running.Running.unpop.Goals.{then-not-is_function, else-not-is_function+then-not-is_fresh, else-not-is_function+else-not-is_fresh, then-self, else-self}
+use Rattle.ink_stack.proofs.running.Running.unpop.Goals.{then-self, else-self}
 use Rattle.ink_stack.proofs.running.Running.unpop.Goals as goal
 
 pub invariant_of-self : goal.invariant_of-self
@@ -12,12 +12,6 @@ invariant_of-self g c =
     let items = c.self.inside.below.items in
     let f = c.replace-under.result in
     let within = rw (← c.self.view_is) at c.requires.base in
-    let quiet : c.if-not-is_function.self ≡ true → is_function f.kind ≡ true → (f.fresh ≡ false) × (c.self.inside.quiet ≡ true) =
-    elim c.if-not-is_function.branch [
-      | then-not-is_function w ↦ λ is function. (cc, cc)
-      | else-not-is_function+then-not-is_fresh w ↦ λ is function. (cc, cc)
-      | else-not-is_function+else-not-is_fresh w ↦ λ is function. (cc, cc)
-    ] in
     let numbered : c.if-self.self ≡ false → (c.self.inside.numbered ≡ false) × (is_some f.enter ≡ false) =
     elim c.if-self.branch [
       | then-self w ↦ λ is. (cc, cc)
@@ -25,7 +19,7 @@ invariant_of-self g c =
     ] in
     rw c.push_reserved.ensures.items (
       omega (arith, c.requires.few, ap (λ v. length v.thread.below) c.self.view_is, length-reverse items, length-append items (f ∷ [])),
-      λ is. quiet_more f items c.self.inside.quiet c.self.invariant.1 (quiet is),
+      quiet_more f items c.self.inside.quiet c.quiet_above-self-inside.result c.self.invariant.1 c.quiet_above-self-inside.ensures,
       base_more c.replace-under.new.dest.kind c.args.frame.kind f c.self.inside.frame items (ap (λ h. h.kind) c.replace-under.ensures.after) c.replace-under.ensures.value within,
       λ is. unnumbered_more f items c.self.inside.numbered c.self.invariant.3 (numbered is),
     )

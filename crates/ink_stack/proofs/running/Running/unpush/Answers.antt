@@ -1,8 +1,6 @@
-use Rattle.std.proofs.Common.{◌≡◌, ◌+◌, ◌∙◌, [], ◌∷◌, true, ap, arith, length, refl}
+use Rattle.std.proofs.Common.{◌≡◌, ◌+◌, ◌∙◌, [], ◌∷◌, ap, arith, length, refl}
 use Rattle.std.proofs.lemmas.List.{length-append}
-use Rattle.ink_model.specs.Frames.{is_function}
 use Rattle.ink_stack.proofs.Keeping.{base_fewer, quiet_fewer, unnumbered_fewer}
-use Rattle.ink_stack.proofs.running.Running.unpush.Goals.{then-is_function, else-is_function}
 use Rattle.ink_stack.proofs.running.Running.unpush.Goals as goal
 
 pub invariant_of-self : goal.invariant_of-self
@@ -11,14 +9,9 @@ invariant_of-self g c =
     let rest = c.pop.new.self.items in
     let f = c.in-Some.under in
     let whole = c.in-Some.ensures.items in
-    let fewer : length items ≡ length rest + 1 = ap length whole ∙ length-append rest (f ∷ []) in
-    let quiet : c.if-is_function.self ≡ true → (is_function f.kind ≡ true) × (c.self.inside.quiet ≡ true) =
-    elim c.if-is_function.branch [
-      | then-is_function w ↦ λ is. (cc, cc)
-      | else-is_function w ↦ λ is. (cc, cc)
-    ] in (
+    let fewer : length items ≡ length rest + 1 = ap length whole ∙ length-append rest (f ∷ []) in (
       omega (arith, fewer, c.self.invariant.0),
-      λ is. quiet_fewer f rest items c.self.inside.quiet whole c.self.invariant.1 (quiet is),
+      quiet_fewer f rest items c.self.inside.quiet c.quiet_below-self-inside.result whole c.self.invariant.1 c.quiet_below-self-inside.ensures,
       base_fewer c.in-Some.under.kind c.self.inside.frame.kind f rest items refl whole c.self.invariant.2,
       unnumbered_fewer f rest items c.self.inside.numbered whole c.self.invariant.3,
     )
