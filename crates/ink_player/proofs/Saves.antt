@@ -5,6 +5,7 @@ use Rattle.serde_json.specs.View.{view}
 use Rattle.serde_json.specs.Written.{compact_text, has_float}
 use Rattle.serde_json.specs.declared.value.Value.{Value}
 use Rattle.ink_model.specs.Answer.{Reply, Acts, Refuses, Saves, reply_of_events}
+use Rattle.ink_model.specs.Command.{json_of}
 use Rattle.ink_model.specs.Configuration.{Configuration}
 use Rattle.ink_model.specs.Events.{later}
 use Rattle.ink_model.specs.Flows.{Aside, Game}
@@ -24,8 +25,10 @@ use Rattle.ink_model.specs.declared.host.Change.{Change}
 use Rattle.ink_model.specs.declared.host.Event.{Event}
 use Rattle.ink_model.specs.declared.fault.Halt.{Halt}
 use Rattle.ink_sound.specs.Kept.{ConditionFits, StoryFits}
+use Rattle.ink_sound.proofs.Orderly.{spelled_back}
 use Rattle.ink_sound.proofs.Respelling.{reads_one}
 use Rattle.ink_player.proofs.Tellings.{at_stamp}
+use Rattle.ink_player.specs.Loading.{TextReadsAsState}
 use Rattle.ink_player.specs.Saving.{IsOldSave, IsSave, IsSaveText, LoadsAs, NotLoaded, ReadsAsState, StandsIn}
 use Rattle.ink_player.specs.Words.{condition_by}
 use Rattle.ink_protocol.specs.Plain.{IsPlain}
@@ -107,6 +110,14 @@ module _ (c : Configuration) (a : Aside) where
       → IfOk r (λ text. (j : Data) × (text ≡ compact_text j) × ReadsAsState s j (stood_by b n))
   text-reads s b n (Ok text) free h fits aside = (spelling game, h, (game, stands_in b n free, reads_by s b free fits aside (spelling game) refl))
   text-reads s b n (Err r) free h fits aside = tt
+
+  -- it is read back as what was saved
+  pub text-back : (s : StoryTree) (b : Option Fault) (n : ℕ) (r : Result (List ℕ) Refusal) → b ≡ None → IsSaveText game r → StoryFits s → ConditionFits s (condition_by b c) → AsideFits s a
+      → IfOk r (λ text. TextReadsAsState s text (stood_by b n))
+  text-back s b n (Ok text) free h story fits aside =
+      let reads = reads_by s b free fits aside (spelling game) refl in
+      (spelling game, ap json_of h ∙ spelled_back s story game reads.stands, (game, stands_in b n free, reads))
+  text-back s b n (Err r) free h story fits aside = tt
 
   pub text-only : (s : StoryTree) (b : Option Fault) (n : ℕ) (r : Result (List ℕ) Refusal) → b ≡ None → IsSaveText game r
       → IfOk r (λ text. (j : Data) → ReadsAsState s j (stood_by b n) → (text ≡ compact_text j) ⊎ IsOldSave j (stood_by b n))

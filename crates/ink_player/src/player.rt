@@ -352,10 +352,12 @@ impl<P: PureFn, F: TurnFn, O: Watcher> Player<P, F, O> {
         }
     }
 
-    /// The compact text of what `save` gives, made without that value. Refused as `save` is.
+    /// The compact text of what `save` gives, made without that value, and read back as it: `load_text` of it leads to the very game
+    /// in which the player stands, or to a refused request for memory. Refused as `save` is.
     pub fn save_text(&self) -> Result<Text, Refusal>
         ensures does { (j : Data) × IsTextOf j result × Save (state_of self.now) (reply_of_text j result) (state_of self.now) }
         ensures reads { IfOk result (λ text. (j : Data) × (text ≡ compact_text j) × ReadsAsState (story_of self.now) j (state_of self.now)) }
+        ensures reads_back { IfOk result (λ text. TextReadsAsState (story_of self.now) text (state_of self.now)) }
         ensures only { IfOk result (λ text. (j : Data) → ReadsAsState (story_of self.now) j (state_of self.now) → (text ≡ compact_text j) ⊎ IsOldSave j (state_of self.now)) }
         ensures sound { StateFits (story_of self.now) (state_of self.now) }
     {

@@ -1,11 +1,13 @@
 //! Machines as JSON values, and as their text.
 
-ghost use Rattle.std.specs.Prelude.{◌≡◌, IfOk, length};
+ghost use Rattle.std.specs.Prelude.{◌≡◌, IfOk, Some, length};
 ghost use Rattle.serde_json.specs.View.{view};
 ghost use Rattle.serde_json.specs.Written.{compact_text};
 ghost use Rattle.ink_check.specs.Words.{story_tree};
+ghost use Rattle.ink_model.specs.Command.{json_of};
 ghost use Rattle.ink_model.specs.Output.{empty_page};
 ghost use Rattle.ink_model.specs.Places.{places};
+ghost use Rattle.ink_model.specs.Save.Reads.{Stands};
 ghost use Rattle.ink_model.specs.Save.Spelling.{spelling};
 ghost use Rattle.ink_parts.specs.Parts.{kept_as};
 ghost use Rattle.ink_step.specs.Words.{aside_of, flow_of, game_of, rows_below, shared_of};
@@ -31,9 +33,11 @@ pub fn write(alloc: Global, story: &Story, machine: &Machine) -> Result<Json, Al
     ink_parts::write(alloc, tree, &kept)
 }
 
-/// The compact text of a machine's JSON value, without a value in between. The one error is a refused request for memory.
+/// The compact text of a machine's JSON value, without a value in between; it is read back as that value where the machine's game is
+/// sound and at rest. The one error is a refused request for memory.
 pub fn write_text(alloc: Global, story: &Story, machine: &Machine) -> Result<Text, AllocError>
-    ensures { let s = story_tree story.now in IfOk result (λ text. text ≡ compact_text (spelling (game_of s machine.now))) }
+    ensures spelled { let s = story_tree story.now in IfOk result (λ text. text ≡ compact_text (spelling (game_of s machine.now))) }
+    ensures reads_back { let s = story_tree story.now in let g = game_of s machine.now in Stands s g → IfOk result (λ text. json_of text ≡ Some (spelling g)) }
 {
     let parts = machine.parts();
     let tree = story.tree();

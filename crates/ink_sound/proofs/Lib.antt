@@ -28,3 +28,5 @@ pub mod Plain
 pub mod Narrow
 pub mod Unspelling
 pub mod Respelling
+pub mod Rereading
+pub mod Orderly

@@ -89,7 +89,7 @@ part_back (Index i) h = rw (lt-ltb i (2 ^ 32) h) refl
 part_back (Name t) h = refl
 
 module _ (s : StoryTree) where
-  frame_small : (i : ℤ) → IsFrame i → is_small i ≡ true
+  pub frame_small : (i : ℤ) → IsFrame i → is_small i ≡ true
   frame_small (pos n) h = h
   frame_small (negsuc n) h = absurd h
 
@@ -124,15 +124,15 @@ module _ (s : StoryTree) where
 
     -- ---- frames and threads
 
-    abbrev FrameSpells : FrameOf (List Part) → Type 0
+    abbrev pub FrameSpells : FrameOf (List Part) → Type 0
     FrameSpells f = FrameFits s f × AnyPlace s f.place
 
     frame_back : Back frame_of frame_data unnumbered_frame FrameSpells
     frame_back f h = rw (kind_back f.kind, any_place_back f.place h.1, temps_back f.temps h.0.each) refl
 
-    record ThreadSpells (t : ThreadOf (List Part)) : Type 0 where
-      frames : Each FrameSpells (t.frame ∷ t.below)
-      previous : AnyPlace s t.previous
+    pub record ThreadSpells (t : ThreadOf (List Part)) : Type 0 where
+      pub frames : Each FrameSpells (t.frame ∷ t.below)
+      pub previous : AnyPlace s t.previous
 
     thread_back : Back thread_in thread_data unnumbered_thread ThreadSpells
     thread_back t h =
@@ -148,7 +148,7 @@ module _ (s : StoryTree) where
       previous = h.previous;
     }
 
-    thread_stands : (t : ThreadOf (List Part)) → ThreadStands s t → ThreadSpells t
+    pub thread_stands : (t : ThreadOf (List Part)) → ThreadStands s t → ThreadSpells t
     thread_stands t h = thread_spells t h.thread (any_of s t.frame.place h.place)
 
     flow_place : (o : Option (List Part)) (ts : List (ThreadOf (List Part))) → FlowStands s o ts → AnyPlace s o
@@ -160,7 +160,7 @@ module _ (s : StoryTree) where
     choice_back : Back choice_of choice_data unnumbered_choice (ChoiceFits s)
     choice_back c h = rw (text_back c.tags, place_back c.target h.target, thread_back c.thread (thread_stands c.thread h.thread)) refl
 
-    counted_stands : (flag : ℕ → Bool) (least : ℕ) (r : List Part × ℕ) → flag 0 ≡ false → RowCounts s flag least r → PlaceFits s r.0
+    pub counted_stands : (flag : ℕ → Bool) (least : ℕ) (r : List Part × ℕ) → flag 0 ≡ false → RowCounts s flag least r → PlaceFits s r.0
     counted_stands flag least r none h = stands_fits s r.0 (by (at s r.0) h.flagged)
       where
         by : (o : Option StoryTree) → flag (flags_at o) ≡ true → is_some o ≡ true
@@ -173,7 +173,7 @@ module _ (s : StoryTree) where
     stack_back : (f : FlowOf (List Part)) → FlowSound s f → all_of value_of (items_of (map value_data f.stack)) ≡ Some f.stack
     stack_back f h = list_back value_of value_data (ValueFits s) value_back f.stack h.stack.each
 
-    threads_spell : (f : FlowOf (List Part)) → FlowSound s f → Each ThreadSpells (f.threads.thread ∷ f.threads.below)
+    pub threads_spell : (f : FlowOf (List Part)) → FlowSound s f → Each ThreadSpells (f.threads.thread ∷ f.threads.below)
     threads_spell f h = (
       thread_spells f.threads.thread h.threads.thread (flow_place f.threads.thread.frame.place f.threads.below h.threads.flow),
       each_of (ThreadStands s) ThreadSpells thread_stands f.threads.below h.threads.below,
@@ -229,7 +229,7 @@ module _ (s : StoryTree) where
     abbrev RowSound : List ℕ × Option (FlowOf (List Part)) → Type 0
     RowSound r = IsTrue (is_flow_name r.0) × PartsFit s r.1
 
-    flows_sound : (f : FlowOf (List Part)) (rows : Aside) → FlowSound s f → Each RowSound rows → Each (λ r. FlowSound s r.1) (all_flows f rows)
+    pub flows_sound : (f : FlowOf (List Part)) (rows : Aside) → FlowSound s f → Each RowSound rows → Each (λ r. FlowSound s r.1) (all_flows f rows)
     flows_sound f [] k h = tt
     flows_sound f ((n, None) ∷ rows) k h = (k, flows_sound f rows k h.1)
     flows_sound f ((n, Some x) ∷ rows) k h = (h.0.1, flows_sound f rows k h.1)

@@ -1,7 +1,8 @@
 -- The laws: a story that is opened is sound, each step and each command keeps that, and a spelling is read as what it spells.
-use Rattle.std.specs.Prelude.{◌≡◌, ℕ, ◌≤◌, List, [], true, false, Ok, Option, Some}
+use Rattle.std.specs.Prelude.{◌≡◌, ℕ, ◌≤◌, List, [], ◌++◌, codes, true, false, Ok, Option, Some}
+use Rattle.std.specs.Str.{is_utf8}
 use Rattle.ink_model.specs.Acceptance.{accepted_story, bad_places}
-use Rattle.ink_model.specs.Answer.{Reply}
+use Rattle.ink_model.specs.Answer.{Reply, Saves, answer}
 use Rattle.ink_model.specs.Configuration.{Configuration, FlowOf, can_go_on, settled}
 use Rattle.ink_model.specs.Flows.{Aside, FlowsOf, Game, all_flows, begins_with_default, current_name, dropped, goes_to, holes}
 use Rattle.ink_model.specs.Grammar.{IsSpelled}
@@ -14,18 +15,18 @@ use Rattle.ink_model.specs.Session.{Does, Session}
 use Rattle.ink_model.specs.State.{Ready, State}
 use Rattle.ink_model.specs.Step.{step}
 use Rattle.ink_model.specs.Tree.{StoryTree}
-use Rattle.ink_model.specs.Command.{Command}
+use Rattle.ink_model.specs.Command.{Command, Load, command_of, json_of}
 use Rattle.ink_model.specs.declared.host.Event.{Event}
 use Rattle.ink_model.specs.declared.host.Given.{Given}
 use Rattle.ink_model.specs.declared.place.Part.{Part}
 use Rattle.ink_sound.specs.Beside.{keeps_flows, shows_no_flows, with_last}
 use Rattle.ink_sound.specs.Kept.{AsideSound, MomentFits, StateFits, SteppedFits, StoryFits}
-use Rattle.ink_model.specs.Save.Reads.{Reads, Rests}
+use Rattle.ink_model.specs.Save.Reads.{Reads, Rests, Stands}
 use Rattle.ink_model.specs.Save.Sound.{Sound}
 use Rattle.ink_model.specs.Save.Spelling.{spelling}
 use Rattle.ink_model.specs.Save.Unspelled.{unspelled}
 use Rattle.serde_json.specs.Data.{Data, depth}
-use Rattle.serde_json.specs.Written.{has_float}
+use Rattle.serde_json.specs.Written.{compact_text, has_float}
 
 -- ---- stories
 
@@ -113,6 +114,15 @@ SpellsFlat = (g : Game) → depth (spelling g) ≤ 10
 -- a spelling has no float, so that its compact text is known
 abbrev pub SpellsPlain : Type 0
 SpellsPlain = (g : Game) → has_float (spelling g) ≡ false
+
+-- the compact text of a game's spelling is read back as that spelling, where the game is sound and at rest
+abbrev pub TextsReadBack : Type 0
+TextsReadBack = (s : StoryTree) → StoryFits s → (g : Game) → Stands s g → json_of (compact_text (spelling g)) ≡ Some (spelling g)
+
+-- So `save` answers that text within its braces; and a line that loads it, where it is text, is read as the command that loads the spelling.
+abbrev pub LinesReload : Type 0
+LinesReload = (s : StoryTree) → StoryFits s → (g : Game) → Stands s g → let text = compact_text (spelling g) in let line = codes "load " ++ text in
+    (answer (Saves (spelling g)) ≡ codes "{\"saved\":" ++ (text ++ codes "}\n")) × (is_utf8 line ≡ true → command_of line ≡ Some (Load (Some (spelling g))))
 
 -- what a session comes to is read from its spelling
 abbrev pub SessionsReload : Type 0

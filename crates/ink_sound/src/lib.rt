@@ -2,7 +2,7 @@
 //! laws of the definitions alone, each the contract of a function that does nothing.
 #![tactic(auto)]
 
-ghost use Rattle.ink_sound.specs.Laws.{AcceptedFit, CommandsFit, CutsFit, DroppingKeepsOthers, FlowsStay, GoingKeepsFlows, MomentsFit, OneSpelling, OpeningsFit, OtherFlowsDoNotShow, ReadsExactly, SessionsFit, SessionsReload, SettlingFits, SpelledFit, SpellsFlat, SpellsPlain, StepsFit};
+ghost use Rattle.ink_sound.specs.Laws.{AcceptedFit, CommandsFit, CutsFit, DroppingKeepsOthers, FlowsStay, GoingKeepsFlows, LinesReload, MomentsFit, OneSpelling, OpeningsFit, OtherFlowsDoNotShow, ReadsExactly, SessionsFit, SessionsReload, SettlingFits, SpelledFit, SpellsFlat, SpellsPlain, StepsFit, TextsReadBack};
 
 /// An accepted story has what the laws ask of one.
 pub fn accepted_stories_fit()
@@ -92,4 +92,14 @@ pub fn spellings_are_flat()
 /// A spelling has no float.
 pub fn spellings_have_no_float()
     ensures { SpellsPlain }
+{}
+
+/// The compact text of a sound game's spelling, at rest, is read back as that spelling.
+pub fn spelled_texts_read_back()
+    ensures { TextsReadBack }
+{}
+
+/// `save` answers that text, and the line that loads it is read as the command that loads the spelling.
+pub fn save_lines_reload()
+    ensures { LinesReload }
 {}
