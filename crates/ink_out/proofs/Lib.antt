@@ -12,3 +12,4 @@ pub mod Noting
 pub mod Closing
 pub mod Undoing
 pub mod Marks
+pub mod Joined

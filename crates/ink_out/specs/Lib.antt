@@ -7,3 +7,4 @@ pub mod Writing
 pub mod Stands
 pub mod Walks
 pub mod Undo
+pub mod Joined

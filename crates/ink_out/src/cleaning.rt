@@ -19,7 +19,7 @@ pub(crate) fn cleaned(alloc: Global, text: &str) -> Result<Text, AllocError>
 }
 
 /// A text of so many bytes at the most asks for memory once. A longer one grows by doubling, since cleaning may leave little of it.
-const MOST_ROOM: usize = 4_096;
+pub(crate) const MOST_ROOM: usize = 4_096;
 
 /// Room for a text of so many bytes at the most. The one error is a refused request for memory.
 pub(crate) fn room_for(alloc: Global, most: usize) -> Result<String, AllocError>

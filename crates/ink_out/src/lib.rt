@@ -4,6 +4,7 @@
 mod cleaning;
 mod cutting;
 mod enters;
+mod joining;
 mod opened;
 mod output;
 mod pile;

@@ -16,6 +16,7 @@ ghost use Rattle.ink_trail.specs.Undo.{Trails, TrailsOrKeeps, but_last, spare, t
 use crate::cleaning::is_clean;
 use crate::cutting::{Piece, has_words};
 use crate::enters::Enters;
+use crate::joining::{is_newline, joined, texts_of_line};
 use crate::state::{State, is_settled, make_room, settle, unsettle};
 use crate::tags::tag_texts;
 use crate::tracker::Waiting;
@@ -172,7 +173,11 @@ impl Section {
         if !self.shows_more() {
             return Ok(Text::from_string(String::new(alloc)));
         }
-        shown_text(alloc, self.marks.as_slice(), true)
+        let marks = self.marks.as_slice();
+        match texts_of_line(marks) {
+            Some((texts, len)) => joined(alloc, texts, len),
+            None => shown_text(alloc, marks, true),
+        }
     }
 
     // The text that stands alone with a newline behind it, where cleaning leaves it as it is: most lines are that.
@@ -258,13 +263,6 @@ impl Section {
         self.state = State::new();
         self.enters.clear();
     }
-}
-
-#[inline(always)]
-fn is_newline(mark: &Mark) -> bool
-    ensures { result ≡ true → mark.now ≡ kinds.Newline }
-{
-    matches!(mark, Mark::Newline)
 }
 
 // A text with a newline behind it. The one error is a refused request for memory.
