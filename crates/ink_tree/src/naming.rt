@@ -13,10 +13,14 @@ use crate::names::{Listed, Names};
 use crate::spot::NodeId;
 use crate::tree::Tree;
 use ink_json::{Key, Nodes};
+use ink_model::Content;
 use std::alloc::{AllocError, Global};
 
 /// A list of at most so many contents is looked through each time.
 const FEW: u32 = 8;
+
+/// Of a list of more contents it is kept also that it has no names, so that none is looked for there in vain.
+const MANY: u32 = 1_000;
 
 impl Tree {
     ghost use Rattle.ink_tree.specs.Nodes.{story_tree, node_place};
@@ -26,10 +30,10 @@ impl Tree {
     pub(crate) fn list_names(&self) -> Result<Vec<Listed>, AllocError>
         ensures { IfOk result (λ lists. AreNamed (story_tree self.now) lists.items) }
     {
-        let holding = holding_names(self.alloc, self.nodes())?;
+        let listed = listed_nodes(self.alloc, self.nodes())?;
         let mut lists = Vec::new(self.alloc);
         for number in 0..self.len() {
-            if !is_holding(&holding, number) {
+            if !is_listed(&listed, number) {
                 continue;
             }
             let holder = NodeId { number };
@@ -41,15 +45,16 @@ impl Tree {
         Ok(lists)
     }
 
-    // The names in the list of one container, where there are any and it has more than a few contents.
+    // The names in the list of one container, where there are any and it has more than a few contents, or where it has many.
     fn new_names(&self, holder: NodeId) -> Result<Option<Names>, AllocError>
         ensures { IfOk result (MayKeepNames (at (story_tree self.now) (node_place (story_tree self.now) holder))) }
     {
-        if self.width(holder) <= FEW {
+        let width = self.width(holder);
+        if width <= FEW {
             return Ok(None);
         }
         let names = self.names_in(holder)?;
-        if names.is_empty() {
+        if names.is_empty() && width <= MANY {
             Ok(None)
         } else {
             Ok(Some(names))
@@ -134,22 +139,33 @@ impl Tree {
     }
 }
 
-// Which contents hold a container that gives itself a name, by number. Nothing rests on it: the names of the others are not listed.
-fn holding_names(alloc: Global, nodes: &Nodes) -> Result<Vec<bool>, AllocError> {
-    let mut holding = Vec::from_elem(alloc, false, nodes.len())?;
+// Which contents hold a container that gives itself a name, or a long list, by number. Nothing rests on it: the names of the others
+// are not listed.
+fn listed_nodes(alloc: Global, nodes: &Nodes) -> Result<Vec<bool>, AllocError> {
+    let mut listed = Vec::from_elem(alloc, false, nodes.len())?;
     for number in 0..nodes.len() {
         let node = nodes.at(number);
-        if name_of(node.content()).is_some() {
-            if let Some(holds) = holding.get_mut(node.holder() as usize) {
-                *holds = true;
+        if let Content::Container(container) = node.content() {
+            if container.width > MANY {
+                list(&mut listed, number);
+            }
+            if container.name.is_some() {
+                list(&mut listed, node.holder() as usize);
             }
         }
     }
-    Ok(holding)
+    Ok(listed)
 }
 
-fn is_holding(holding: &Vec<bool>, number: usize) -> bool {
-    matches!(holding.get(number), Some(true))
+// The names of the content of this number are listed.
+fn list(listed: &mut Vec<bool>, number: usize) {
+    if let Some(is_listed) = listed.get_mut(number) {
+        *is_listed = true;
+    }
+}
+
+fn is_listed(listed: &Vec<bool>, number: usize) -> bool {
+    matches!(listed.get(number), Some(true))
 }
 
 // Whether a name is the one that content gives itself.

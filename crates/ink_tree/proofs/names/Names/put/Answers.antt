@@ -25,8 +25,8 @@ returns-in_ok-insert c = λ name.
     let first = c.in-Some.first in
     let there : named_at own old ≡ Some first = ap (λ k. named_at k old) (sym key) ∙ sym c.in_ok-first.ensures.old ∙ c.in-Some.is in
     let after : (n : List ℕ) → get_by_text between n ≡ update bytes_eq (λ m. named_at m old) own (Some c.args.index) n = λ n.
-        btree_map_updates_text (string_bytes c.in_ok-key.key) old.indices between (Some c.args.index) c.in_ok-first.ensures.updates n
-        ∙ ap (λ k. update bytes_eq (λ m. named_at m old) k (Some c.args.index) n) key
+    btree_map_updates_text (string_bytes c.in_ok-key.key) old.indices between (Some c.args.index) c.in_ok-first.ensures.updates n
+    ∙ ap (λ k. update bytes_eq (λ m. named_at m old) k (Some c.args.index) n) key
     in
     btree_map_updates_text (string_bytes c.in_ok-again.again) between c.insert-in-Some.new.self (Some first) c.in_ok-insert.ensures.updates name
     ∙ ap (λ k. update bytes_eq (get_by_text between) k (Some first) name) c.in_ok-again.ensures.ok
