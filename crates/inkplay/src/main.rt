@@ -3,20 +3,18 @@
 //! and watch globals (docs/PROGRAM.md).
 #![tactic(auto)]
 
-mod file;
 mod report;
 
 use ink_host::{Desk, PureFn, TurnFn, Watcher};
 use ink_player::{
     PlayFault, Player, RunFault, Sink, Source, Watched, open_story, serve, serve_story,
 };
-use ink_words::{PlayDesk, bind_words, command};
+use ink_words::{PlayDesk, bind_words, command, read_story_file, words};
 use report::{refuse_file, refuse_words, tell};
 use std::alloc::Global;
 use std::fs::Files;
 use std::process::ExitCode;
-use std::rt::Env;
-use std::{env, io, mem};
+use std::{io, mem};
 
 /// The input was served to its end.
 const SERVED: u8 = 0;
@@ -44,12 +42,6 @@ fn main(rt: HostRuntime) -> ExitCode {
     })
 }
 
-/// The words that the program was started with.
-fn words<R: Env + Alloc>(rt: &R) -> io::Result<Vec<String<R::A>, R::A>> {
-    let words = env::args(rt)?.collect(rt.alloc())?;
-    Ok(words)
-}
-
 /// Plays the story that is the first line of the input.
 fn serve_input<S: Source, T: Sink, P: PureFn + Drop, F: TurnFn + Drop, O: Watcher + Drop>(
     rt: &impl Eprint,
@@ -73,7 +65,7 @@ fn serve_file<S: Source, T: Sink, P: PureFn + Drop, F: TurnFn + Drop, O: Watcher
     source: &mut S,
     sink: &mut T,
 ) -> u8 {
-    match file::read(rt, alloc, path) {
+    match read_story_file(rt, alloc, path) {
         Ok(bytes) => serve_bytes(rt, alloc, bytes.as_slice(), desk, source, sink),
         Err(_) => refuse_file(rt),
     }

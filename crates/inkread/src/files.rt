@@ -1,30 +1,15 @@
-//! The story's file, and the save's.
+//! The save's file.
 
 ghost use Rattle.std.specs.Prelude.{None};
 
-use ink_model::{MAX_INPUT, MAX_STORY};
+use ink_model::MAX_INPUT;
 use ink_reader::{NotKept, Shelf};
 use std::alloc::Global;
 use std::fs::{self, File, Files, OpenFile};
 use std::io::{self, ErrorKind, Read, Write};
 
-/// Bytes that are read of a story: as many as it may have, and one more, which tells that there are more.
-const MOST: u64 = MAX_STORY as u64 + 1;
-
-/// Bytes that are read of a save: as many as an input may have in which it is loaded, and one more.
-const MOST_OF_SAVE: u64 = MAX_INPUT as u64 + 1;
-
-/// The bytes of a story's file, of which no more are read than tell that it is over a story's limit.
-pub(crate) fn read_story_file(
-    files: &impl Files,
-    alloc: Global,
-    path: &str,
-) -> io::Result<Vec<u8>> {
-    let file = File::open(files, path)?;
-    let mut bytes = Vec::new(alloc);
-    file.take(MOST).read_to_end(&mut bytes)?;
-    Ok(bytes)
-}
+/// Bytes that are read of a save: as many as an input may have in which it is loaded, and one more, which tells that there are more.
+const MOST: u64 = MAX_INPUT as u64 + 1;
 
 /// The file of a save. It is written beside and then renamed, so that it is there whole or as it was.
 #[derive(Drop)]
@@ -65,7 +50,7 @@ impl<R: Files> Shelf for SaveFile<'_, R> {
             Err(_) => return Err(NotKept::Failed),
         };
         let mut save = Vec::new(alloc);
-        let Ok(_) = file.take(MOST_OF_SAVE).read_to_end(&mut save) else {
+        let Ok(_) = file.take(MOST).read_to_end(&mut save) else {
             return Err(NotKept::Failed);
         };
         text_of(save)

@@ -9,7 +9,7 @@ mod report;
 mod settings;
 
 use desk::reader_desk;
-use files::{SaveFile, read_story_file};
+use files::SaveFile;
 use ink_check::{Story, check};
 use ink_host::{Desk, PureFn, TurnFn, Watcher};
 use ink_json::read_story;
@@ -17,15 +17,14 @@ use ink_page::{Look, ask_for_the_rest};
 use ink_player::{Player, Watched};
 use ink_protocol::RunFault;
 use ink_reader::Reader;
-use ink_words::{PlayDesk, bind_words};
+use ink_words::{PlayDesk, bind_words, read_story_file, words};
 use lines::InputLines;
 use looks::look;
 use report::{refuse_file, refuse_memory, refuse_start, refuse_story, refuse_words, tell_run};
 use settings::{Settings, read_settings, reader_command};
 use std::alloc::Global;
+use std::io;
 use std::process::ExitCode;
-use std::rt::Env;
-use std::{env, io};
 
 fn main(rt: HostRuntime) -> ExitCode {
     let alloc = rt.alloc();
@@ -47,12 +46,6 @@ fn main(rt: HostRuntime) -> ExitCode {
     };
     let look = look(&rt, settings.tags);
     ExitCode::from(read_file(rt, alloc, look, &settings, desk))
-}
-
-/// The words that the program was started with.
-fn words<R: Env + Alloc>(rt: &R) -> io::Result<Vec<String<R::A>, R::A>> {
-    let words = env::args(rt)?.collect(rt.alloc())?;
-    Ok(words)
 }
 
 /// Reads the story of a file.
