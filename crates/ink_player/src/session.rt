@@ -183,10 +183,11 @@ fn answer_line<T: Sink, P: PureFn, F: TurnFn, O: Watcher>(
 {
     let outcome = outcome_of(alloc, player, line);
     if let Some(text) = fixed_answer(&outcome) {
+        drop(outcome);
         return write_answer(sink, text.as_bytes());
     }
     let memory = mem::replace(buffer, Vec::new(alloc));
-    let Ok(text) = answer_text(alloc, memory, &outcome) else {
+    let Ok(text) = answer_text(alloc, memory, outcome) else {
         return Err(RunFault::OutOfMemory);
     };
     *buffer = text;

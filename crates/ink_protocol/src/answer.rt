@@ -11,7 +11,7 @@ ghost use Rattle.ink_model.specs.Events.{call_data, event_data};
 ghost use Rattle.ink_model.specs.Host.{value_given};
 ghost use Rattle.ink_model.specs.ValueJson.{value_data};
 ghost use Rattle.ink_protocol.specs.Answers.{outcome_tokens, passage_line, quiet_middle, values_text};
-ghost use Rattle.ink_protocol.specs.Replies.{HasTextOf, is_saved, reply_by};
+ghost use Rattle.ink_protocol.specs.Replies.{HasTextOf, IsTextOf, is_saved, reply_by, reply_of_text};
 ghost use Rattle.ink_tokens.specs.Tokens.{Added, data_tokens};
 
 use ink_model::{Event, Fault, Given, Halt, Passage, Refusal, Seq, Shared, Shown, Text, Value};
@@ -73,15 +73,15 @@ fn done_text() -> &'static str
 
 /// What a command's call returned, as the line that is written, its newline at the end, in the memory of a buffer whose
 /// bytes go. The one error is a refused request for memory.
-pub fn answer_text(alloc: Global, buffer: Vec<u8>, outcome: &Outcome) -> Result<Vec<u8>, AllocError>
-    ensures { (saved : Data) → HasTextOf saved outcome.now → IfOk result (λ line. line.items ≡ answer (reply_by saved outcome.now)) }
+pub fn answer_text(alloc: Global, buffer: Vec<u8>, outcome: Outcome) -> Result<Vec<u8>, AllocError>
+    ensures { (saved : Data) → HasTextOf saved outcome → IfOk result (λ line. line.items ≡ answer (reply_by saved outcome)) }
 {
     let mut empty = buffer;
     empty.clear();
-    if let Some((front, number)) = told_number(outcome) {
+    if let Some((front, number)) = told_number(&outcome) {
         return number_text(empty, front, number);
     }
-    match quiet_passage(outcome) {
+    match quiet_passage(&outcome) {
         Some((passage, middle)) => passage_text(alloc, empty, passage, middle),
         None => replied_text(alloc, empty, outcome),
     }
@@ -223,13 +223,27 @@ fn written_behind(before: Vec<u8>, text: &str) -> Result<Vec<u8>, AllocError>
     Ok(out.into_inner())
 }
 
-fn replied_text(alloc: Global, empty: Vec<u8>, outcome: &Outcome) -> Result<Vec<u8>, AllocError>
+fn replied_text(alloc: Global, empty: Vec<u8>, outcome: Outcome) -> Result<Vec<u8>, AllocError>
     requires { empty.items ≡ [] }
-    ensures { (saved : Data) → HasTextOf saved outcome.now → IfOk result (λ line. line.items ≡ answer (reply_by saved outcome.now)) }
+    ensures { (saved : Data) → HasTextOf saved outcome → IfOk result (λ line. line.items ≡ answer (reply_by saved outcome)) }
 {
     match outcome {
-        Outcome::Saved(Ok(text)) => saved_text(empty, text.as_str()),
-        _ => written_text(alloc, empty, outcome),
+        Outcome::Saved(saved) => save_text(alloc, empty, saved),
+        told => written_text(alloc, empty, told),
+    }
+}
+
+fn save_text(
+    alloc: Global,
+    empty: Vec<u8>,
+    save: Result<Text, Refusal>,
+) -> Result<Vec<u8>, AllocError>
+    requires { empty.items ≡ [] }
+    ensures { (saved : Data) → IsTextOf saved save → IfOk result (λ line. line.items ≡ answer (reply_of_text saved save)) }
+{
+    match save {
+        Ok(text) => saved_text(empty, text.as_str()),
+        Err(refusal) => written_text(alloc, empty, Outcome::Refused(refusal)),
     }
 }
 
@@ -246,10 +260,10 @@ fn saved_text(empty: Vec<u8>, text: &str) -> Result<Vec<u8>, AllocError>
 }
 
 // The answer of what is no save.
-fn written_text(alloc: Global, empty: Vec<u8>, outcome: &Outcome) -> Result<Vec<u8>, AllocError>
+fn written_text(alloc: Global, empty: Vec<u8>, outcome: Outcome) -> Result<Vec<u8>, AllocError>
     requires empty { empty.items ≡ [] }
-    requires told { is_saved outcome.now ≡ false }
-    ensures { (saved : Data) → IfOk result (λ line. line.items ≡ answer (reply_by saved outcome.now)) }
+    requires told { is_saved outcome ≡ false }
+    ensures { (saved : Data) → IfOk result (λ line. line.items ≡ answer (reply_by saved outcome)) }
 {
     let mut out = Writer::new(empty);
     write_reply(alloc, &mut out, outcome)?;
@@ -268,22 +282,22 @@ pub fn print_values(alloc: Global, values: &[Value]) -> Result<Vec<u8>, AllocErr
     Ok(out.into_inner())
 }
 
-fn write_reply(alloc: Global, out: &mut Writer, outcome: &Outcome) -> Result<(), AllocError>
-    requires { is_saved outcome.now ≡ false }
-    ensures { (saved : Data) → OnOk result (Added out.old out.new (data_tokens (reply_data (reply_by saved outcome.now)))) }
+fn write_reply(alloc: Global, out: &mut Writer, outcome: Outcome) -> Result<(), AllocError>
+    requires { is_saved outcome ≡ false }
+    ensures { (saved : Data) → OnOk result (Added out.old out.new (data_tokens (reply_data (reply_by saved outcome)))) }
 {
     match outcome {
-        Outcome::Passage(Ok(passage)) => write_passage(alloc, out, passage),
+        Outcome::Passage(Ok(passage)) => write_passage(alloc, out, &passage),
         Outcome::Events(Ok(events)) => write_acts(alloc, out, events.as_slice()),
-        Outcome::Value(Ok(value)) => write_shown(alloc, out, value),
-        Outcome::Visits(Ok(visits)) => write_visits(out, *visits),
+        Outcome::Value(Ok(value)) => write_shown(alloc, out, &value),
+        Outcome::Visits(Ok(visits)) => write_visits(out, visits),
         Outcome::Landing(Ok(())) => write_acts(alloc, out, &[]),
         Outcome::Passage(Err(halt)) | Outcome::Events(Err(halt)) => write_halt(alloc, out, halt),
         Outcome::Value(Err(refusal))
         | Outcome::Visits(Err(refusal))
         | Outcome::Landing(Err(refusal))
         | Outcome::Saved(Err(refusal))
-        | Outcome::Refused(refusal) => write_refusal(out, *refusal),
+        | Outcome::Refused(refusal) => write_refusal(out, refusal),
         Outcome::Saved(Ok(_)) => unreachable!(),
     }
 }
@@ -413,12 +427,12 @@ fn write_visits(out: &mut Writer, visits: i32) -> Result<(), AllocError>
     put(out, Token::EndObject)
 }
 
-fn write_halt(alloc: Global, out: &mut Writer, halt: &Halt) -> Result<(), AllocError>
-    ensures { OnOk result (Added out.old out.new (data_tokens (reply_data (reply_of_halt halt.now)))) }
+fn write_halt(alloc: Global, out: &mut Writer, halt: Halt) -> Result<(), AllocError>
+    ensures { OnOk result (Added out.old out.new (data_tokens (reply_data (reply_of_halt halt)))) }
 {
     match halt {
-        Halt::Refused(refusal) => write_refusal(out, *refusal),
-        Halt::Fault { fault, events } => write_fault(alloc, out, *fault, events.as_slice()),
+        Halt::Refused(refusal) => write_refusal(out, refusal),
+        Halt::Fault { fault, events } => write_fault(alloc, out, fault, events.as_slice()),
     }
 }
 
