@@ -63,16 +63,28 @@ no_name_known a code h = λ above named. absurd (named (h above))
 abbrev pub named_code : List (List ℕ) → ℕ
 named_code names = FIRST_NAME + length names
 
-named_part : (names : List (List ℕ)) (n : List ℕ) → length names + 1 < 2 ^ 31 → part_at (names ++ n ∷ []) (named_code names) ≡ Some (Name n)
-named_part names n few = go (nat_lt (named_code names) FIRST_NAME) (named_code names == NO_PART) refl refl
+-- .. of one that is there
+known_part : (names : List (List ℕ)) (i : ℕ) → i < length names → length names < 2 ^ 31 → part_at names (FIRST_NAME + i) ≡ Some (Name (get_or names i []))
+known_part names i there few = go (nat_lt (FIRST_NAME + i) FIRST_NAME) (FIRST_NAME + i == NO_PART) refl refl
   where
-    go : (b c : Bool) → nat_lt (named_code names) FIRST_NAME ≡ b → (named_code names == NO_PART) ≡ c
-        → chosen b c (named_code names) (get_or (names ++ n ∷ []) (named_code names - FIRST_NAME) []) ≡ Some (Name n)
+    go : (b c : Bool) → nat_lt (FIRST_NAME + i) FIRST_NAME ≡ b → (FIRST_NAME + i == NO_PART) ≡ c → chosen b c (FIRST_NAME + i) (get_or names (FIRST_NAME + i - FIRST_NAME) []) ≡ Some (Name (get_or names i []))
     go true c low at = absurd (grind (arith, nat_tests, low))
-    go false true low at = absurd (omega (arith, eqb-true (named_code names) NO_PART at, few))
-    go false false low at =
-        let place : named_code names - FIRST_NAME ≡ length names = omega arith in
-        ap (λ i. Some (Name (get_or (names ++ n ∷ []) i []))) place ∙ ap (λ k. Some (Name k)) (get_or_push names n [] (length names) refl)
+    go false true low at = absurd (omega (arith, eqb-true (FIRST_NAME + i) NO_PART at))
+    go false false low at = let place : FIRST_NAME + i - FIRST_NAME ≡ i = omega arith in ap (λ j. Some (Name (get_or names j []))) place
+
+pub again_known : (a i code : ℕ) → code ≡ FIRST_NAME + i → i < a → IsKnown a code
+again_known a i code is there = λ above named. omega arith
+
+pub again_pushed : (names : List (List ℕ)) (n : List ℕ) (i : ℕ) (ks : List Kept) (k : Kept) → k.last ≡ FIRST_NAME + i → i < length names → length names < 2 ^ 31 → get_or names i [] ≡ n
+    → nodes_kept names (ks ++ k ∷ []) ≡ nodes_kept names ks ++ record { content = k.content; holder = k.holder; last = Some (Name n) } ∷ []
+again_pushed names n i ks k is there few same =
+    let part : part_at names k.last ≡ Some (Name n) = ap (part_at names) is ∙ known_part names i there few ∙ ap (λ n. Some (Name n)) same in
+    map-append (node_of names) ks (k ∷ []) ∙ (λ j. nodes_kept names ks ++ record { content = k.content; holder = k.holder; last = part j } ∷ [])
+
+named_part : (names : List (List ℕ)) (n : List ℕ) → length names + 1 < 2 ^ 31 → part_at (names ++ n ∷ []) (named_code names) ≡ Some (Name n)
+named_part names n few =
+    let long : length (names ++ n ∷ []) ≡ length names + 1 = length-append names (n ∷ []) in
+    known_part (names ++ n ∷ []) (length names) (omega arith) (omega arith) ∙ ap (λ n. Some (Name n)) (get_or_push names n [] (length names) refl)
 
 pub named_pushed : (names : List (List ℕ)) (n : List ℕ) (ks : List Kept) (k : Kept) → k.last ≡ named_code names → length names + 1 < 2 ^ 31 → AreKnown (length names) ks
     → nodes_kept (names ++ n ∷ []) (ks ++ k ∷ []) ≡ nodes_kept names ks ++ record { content = k.content; holder = k.holder; last = Some (Name n) } ∷ []

@@ -19,6 +19,7 @@ pub(crate) fn refused(alloc: Global, cause: Cause) -> ReadFailure
 }
 
 /// The same failure, of content that stands at this index.
+#[cold]
 pub(crate) fn at_index(failure: ReadFailure, index: u32) -> ReadFailure
     ensures { IsUnder (Index index) failure result }
 {
@@ -26,6 +27,7 @@ pub(crate) fn at_index(failure: ReadFailure, index: u32) -> ReadFailure
 }
 
 /// The same failure, of a container that stands at this key.
+#[cold]
 pub(crate) fn at_name(alloc: Global, failure: ReadFailure, name: &str) -> ReadFailure
     ensures { IsUnder (Name name.now) failure result }
 {

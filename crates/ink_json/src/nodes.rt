@@ -1,6 +1,6 @@
 //! The list of a story's nodes.
 
-ghost use Rattle.std.specs.Prelude.{◌≡◌, ◌<◌, ◌^◌, ◌+◌, ◌++◌, ◌∷◌, [], ℕ, List, Option, length, slice_get, slice_set, get_or, Some, OnOk, OnErr};
+ghost use Rattle.std.specs.Prelude.{◌≡◌, ◌<◌, ◌^◌, ◌+◌, ◌++◌, ◌∷◌, [], ℕ, List, Option, length, slice_get, slice_set, get_or, true, Some, OnOk, OnErr};
 ghost use Rattle.ink_model.specs.declared.place.Part.{Part};
 ghost use Rattle.ink_model.specs.declared.place.Part.TheVariants.{Name};
 ghost use Rattle.ink_json.specs.Kept.{IsNoName, part_at, filled_at};
@@ -16,11 +16,16 @@ use ink_model::{Container, Content, Shared, Text};
 use std::alloc::{AllocError, Global};
 use std::marker::Model;
 
+/// How many slots the names have.
+const SLOTS: usize = 64;
+
 /// A story's content in one list, in reading order. A contract sees the nodes.
 #[derive(Drop)]
 pub struct Nodes {
     list: Vec<Kept>,
     names: Vec<Text>,
+    /// Which of the names was kept last at each slot. Nothing rests on it: the name is looked at again.
+    slots: [u32; SLOTS],
 }
 
 impl Model for Nodes {
@@ -44,6 +49,7 @@ impl Nodes {
         Nodes {
             list: Vec::new(alloc),
             names: Vec::new(alloc),
+            slots: [0; SLOTS],
         }
     }
 
@@ -111,9 +117,34 @@ impl Nodes {
         Ok(())
     }
 
-    // One to which a name leads.
+    // One to which a name leads. A name that comes again soon is kept once.
     #[inline(never)]
     fn push_named(
+        &mut self,
+        alloc: Global,
+        holder: u32,
+        name: &str,
+        content: Content,
+    ) -> Result<(), AllocError>
+        requires { length self.old + 1 < 2 ^ 31 }
+        ensures { OnOk result (self.new ≡ self.old ++ record { content = content; holder = holder; last = Some (Name name.now) } ∷ []) }
+    {
+        let slot = slot(name);
+        let known = self.slots[slot];
+        if is_name(&self.names, known, name) {
+            self.list.push(Kept {
+                content,
+                holder,
+                last: FIRST_NAME + known,
+            })?;
+            return Ok(());
+        }
+        self.slots[slot] = self.names.len() as u32;
+        self.push_new_name(alloc, holder, name, content)
+    }
+
+    // One to which a name leads that is kept for it.
+    fn push_new_name(
         &mut self,
         alloc: Global,
         holder: u32,
@@ -168,6 +199,32 @@ impl Nodes {
     {
         let size = (self.list.len() - number) as u32;
         fill(&mut self.list, number, width, keys, size);
+    }
+}
+
+// The slot of a name.
+fn slot(name: &str) -> usize
+    ensures { result < 64 }
+{
+    let bytes = name.as_bytes();
+    let len = bytes.len();
+    if len == 0 {
+        return 0;
+    }
+    let first = bytes[0] as usize;
+    let last = bytes[len - 1] as usize;
+    (5 * (len % SLOTS) + 12 * first + last) % SLOTS
+}
+
+// Whether the name of a number is this one.
+#[inline(always)]
+fn is_name(names: &Vec<Text>, number: u32, name: &str) -> bool
+    ensures there { result ≡ true → number < length names.now.items }
+    ensures same { result ≡ true → get_or names.now.items number [] ≡ name.now }
+{
+    match names.get(number as usize) {
+        Some(there) => there.as_str() == name,
+        None => false,
     }
 }
 

@@ -115,7 +115,7 @@ impl Tree {
     fn name_near(&self, number: usize, holder: NodeId, index: u32) -> Option<&str>
         ensures { option_map (λ n. n.now) result ≡ name_in (at (story_tree self.now) (node_place (story_tree self.now) holder ++ Index index ∷ [])) }
     {
-        match self.near(number, holder, Key::Index(index)) {
+        match self.child_near(number, holder, Key::Index(index)) {
             Some(node) => self.own_name(node),
             None => None,
         }
