@@ -13,7 +13,7 @@ use Rattle.ink_model.specs.Answer.{Reply, Acts, Counts, Saves, Shows, Tells, ite
 use Rattle.ink_model.specs.declared.passage.Passage.{Passage}
 use Rattle.ink_model.specs.declared.passage.Shown.{Shown}
 use Rattle.ink_model.specs.declared.value.Value.TheVariants as value
-use Rattle.ink_protocol.specs.Answers.{passage_line, quiet_middle}
+use Rattle.ink_protocol.specs.Answers.{choices_front, passage_line, quiet_middle}
 use Rattle.ink_tokens.specs.Tokens.{Added, data_tokens}
 use Rattle.ink_tokens.proofs.Adding.{printed_tokens, text_from_tokens}
 
@@ -52,18 +52,19 @@ pub text_behind : (d : Data) (start end : Written) (before text : List ℕ) → 
 text_behind d start end before text had none added is =
     is ∙ ap (λ b. b ++ print end.tokens) (added.before ∙ had) ∙ ap (λ t. before ++ t) (printed_tokens d start end (print end.tokens) none added refl)
 
--- the text of a string and a newline: a newline in the place of the quote behind the string, and the quote again
-pub newline_behind : (before front all short line : List ℕ) (len : ℕ) → all ≡ before ++ quoted front → len ≡ length all → short ≡ take (len - 1) all → line ≡ short ++ codes "\\n\""
-    → line ≡ before ++ quoted (front ++ 10 ∷ [])
+-- the text of a string and a newline, and a close: a newline in the place of the quote behind the string, the quote again, and the close
+pub newline_behind : (before front all short line close : List ℕ) (len : ℕ) → all ≡ before ++ quoted front → len ≡ length all → short ≡ take (len - 1) all → line ≡ short ++ (codes "\\n\"" ++ close)
+    → line ≡ before ++ (quoted (front ++ 10 ∷ []) ++ close)
 unfolding escape_byte
-newline_behind before front all short line len written count cut ends =
+newline_behind before front all short line close len written count cut ends =
     let body : List ℕ = before ++ 34 ∷ escape front in
     let whole : all ≡ body ++ 34 ∷ [] = written ∙ sym (append_assoc before (34 ∷ escape front) (34 ∷ [])) in
     let same : length all ≡ length body + 1 = ap length whole ∙ length-append body (34 ∷ []) in
     let shorter : len - 1 ≡ length body = omega (arith, count, same) in
     let kept : short ≡ body = cut ∙ ap (λ n. take n all) shorter ∙ ap (λ l. take (length body) l) whole ∙ take-append_seam body (34 ∷ []) in
-    ends ∙ ap (λ l. l ++ codes "\\n\"") kept ∙ append_assoc before (34 ∷ escape front) (codes "\\n\"")
-    ∙ ap (λ e. before ++ 34 ∷ e) (sym (ap (λ e. e ++ 34 ∷ []) (flat_map-append escape_byte front (10 ∷ [])) ∙ append_assoc (escape front) (92 ∷ 110 ∷ []) (34 ∷ [])))
+    let again : short ++ codes "\\n\"" ≡ before ++ quoted (front ++ 10 ∷ []) = ap (λ l. l ++ codes "\\n\"") kept ∙ append_assoc before (34 ∷ escape front) (codes "\\n\"")
+    ∙ ap (λ e. before ++ 34 ∷ e) (sym (ap (λ e. e ++ 34 ∷ []) (flat_map-append escape_byte front (10 ∷ [])) ∙ append_assoc (escape front) (92 ∷ 110 ∷ []) (34 ∷ []))) in
+    ends ∙ sym (append_assoc short (codes "\\n\"") close) ∙ ap (λ l. l ++ close) again ∙ append_assoc before (quoted (front ++ 10 ∷ [])) close
 
 abbrev quiet : List Shown → List ℕ → Bool → Bool → Passage
 quiet choices text loose more = record { text = text; tags = []; choices = choices; events = []; more = more; loose = loose }
@@ -86,17 +87,14 @@ quiet_line p events tags =
     ap (λ es. answer (Tells (record p { events = es }))) events ∙ ap (λ ts. answer (Tells (record p { events = []; tags = ts }))) tags ∙ quiet_answer p.choices p.text p.loose p.more
 
 -- its line, put together piece by piece
-pub passage_from : (p : Passage) (choices : List Shown) (text middle a b c d e : List ℕ) → choices ≡ p.choices → text ≡ p.text → a ≡ codes "{\"choices\":"
-    → b ≡ a ++ compact_text (array (items_of (map shown_data choices))) → c ≡ b ++ middle → d ≡ c ++ compact_text (string text) → e ≡ d ++ codes "}\n" → e ≡ passage_line p middle
-passage_from p choices text middle a b c d e same_choices same_text front listed told shown ends =
+pub passage_from : (p : Passage) (choices : List Shown) (text middle a b : List ℕ) → choices ≡ p.choices → text ≡ p.text → a ≡ choices_front choices → b ≡ a ++ middle
+    → passage_line p middle ≡ b ++ (compact_text (string text) ++ codes "}\n")
+passage_from p choices text middle a b same_choices same_text front told =
     let start : List ℕ = codes "{\"choices\":" in
     let list : List ℕ = compact_text (array (items_of (map shown_data p.choices))) in
-    let string_text : List ℕ = compact_text (string p.text) in
-    let b_is : b ≡ start ++ list = listed ∙ ap (λ x. x ++ compact_text (array (items_of (map shown_data choices)))) front ∙ ap (λ cs. start ++ compact_text (array (items_of (map shown_data cs)))) same_choices in
-    let c_is : c ≡ (start ++ list) ++ middle = told ∙ ap (λ x. x ++ middle) b_is in
-    let d_is : d ≡ ((start ++ list) ++ middle) ++ string_text = shown ∙ ap (λ x. x ++ compact_text (string text)) c_is ∙ ap (λ t. ((start ++ list) ++ middle) ++ compact_text (string t)) same_text in
-    ends ∙ ap (λ x. x ++ codes "}\n") d_is ∙ append_assoc ((start ++ list) ++ middle) string_text (codes "}\n") ∙ append_assoc (start ++ list) middle (string_text ++ codes "}\n")
-    ∙ append_assoc start list (middle ++ (string_text ++ codes "}\n"))
+    let closed : List ℕ = compact_text (string p.text) ++ codes "}\n" in
+    let b_is : b ≡ (start ++ list) ++ middle = told ∙ ap (λ x. x ++ middle) (front ∙ ap choices_front same_choices) in
+    sym (ap (λ t. b ++ (compact_text (string t) ++ codes "}\n")) same_text ∙ ap (λ x. x ++ closed) b_is ∙ append_assoc (start ++ list) middle closed ∙ append_assoc start list (middle ++ closed))
 
 -- a text that is made is the answer too that is this text
 pub made_as : {A E : Type 0} (items : A → List ℕ) (r : Result A E) (text answer : List ℕ) → IfOk r (λ v. items v ≡ text) → answer ≡ text → IfOk r (λ v. items v ≡ answer)

@@ -9,6 +9,7 @@ use Rattle.ink_model.specs.Host.{value_given}
 use Rattle.ink_model.specs.ValueJson.{value_data}
 use Rattle.ink_model.specs.declared.host.Given.{Given}
 use Rattle.ink_model.specs.declared.passage.Passage.{Passage}
+use Rattle.ink_model.specs.declared.passage.Shown.{Shown}
 use Rattle.ink_model.specs.declared.value.Value.{Value}
 use Rattle.ink_tokens.specs.Tokens.{data_tokens}
 
@@ -20,6 +21,10 @@ outcome_tokens None = token.key (codes "refused") ∷ token.boolean true ∷ []
 -- values as a compact JSON array
 abbrev pub values_text : List Value → List ℕ
 values_text values = compact_text (array (items_of (map value_data values)))
+
+-- the front of a line that tells a passage, up to its choices
+abbrev pub choices_front : List Shown → List ℕ
+choices_front choices = codes "{\"choices\":" ++ compact_text (array (items_of (map shown_data choices)))
 
 -- the line that tells a passage, with this between its choices and its text
 abbrev pub passage_line : Passage → List ℕ → List ℕ

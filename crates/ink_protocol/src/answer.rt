@@ -10,7 +10,7 @@ ghost use Rattle.ink_model.specs.Answer.{answer, answer_asks, refusal_data, repl
 ghost use Rattle.ink_model.specs.Events.{call_data, event_data};
 ghost use Rattle.ink_model.specs.Host.{value_given};
 ghost use Rattle.ink_model.specs.ValueJson.{value_data};
-ghost use Rattle.ink_protocol.specs.Answers.{outcome_tokens, passage_line, quiet_middle, values_text};
+ghost use Rattle.ink_protocol.specs.Answers.{choices_front, outcome_tokens, passage_line, quiet_middle, values_text};
 ghost use Rattle.ink_protocol.specs.Replies.{HasTextOf, IsTextOf, is_saved, reply_by, reply_of_text};
 ghost use Rattle.ink_tokens.specs.Tokens.{Added, data_tokens};
 
@@ -168,16 +168,27 @@ fn passage_text(
     requires { empty.items ≡ [] }
     ensures { IfOk result (λ line. line.items ≡ passage_line passage.now middle.now) }
 {
-    let mut front = empty;
-    front.extend_from_slice(b"{\"choices\":")?;
-    let mut told = list_behind(alloc, front, passage.choices.as_slice())?;
+    let mut told = choices_text(alloc, empty, passage.choices.as_slice())?;
     told.extend_from_slice(middle.as_bytes())?;
-    let mut whole = string_behind(told, passage.text.as_str())?;
-    whole.extend_from_slice(b"}\n")?;
-    Ok(whole)
+    closed_text(told, passage.text.as_str())
+}
+
+// The front of an answer that tells a passage, with its choices.
+fn choices_text(alloc: Global, empty: Vec<u8>, choices: &[Shown]) -> Result<Vec<u8>, AllocError>
+    requires { empty.items ≡ [] }
+    ensures { IfOk result (λ text. text.items ≡ choices_front choices.now) }
+{
+    let mut front = empty;
+    if has_none(choices) {
+        front.extend_from_slice(b"{\"choices\":[]")?;
+        return Ok(front);
+    }
+    front.extend_from_slice(b"{\"choices\":")?;
+    list_behind(alloc, front, choices)
 }
 
 // The text of a list, behind what is written already.
+#[inline(never)]
 fn list_behind<T: Listed>(
     alloc: Global,
     before: Vec<u8>,
@@ -185,36 +196,41 @@ fn list_behind<T: Listed>(
 ) -> Result<Vec<u8>, AllocError>
     ensures { IfOk result (λ text. text.items ≡ before.items ++ compact_text (array (items_of (map T.json items.now)))) }
 {
-    if has_none(items) {
-        let mut text = before;
-        text.extend_from_slice(b"[]")?;
-        return Ok(text);
-    }
     let mut out = Writer::new(before);
     write_list(alloc, &mut out, items)?;
     Ok(out.into_inner())
 }
 
-// The same of a string. One that ends in a newline, as each line of a story does, has its front written alone.
-fn string_behind(before: Vec<u8>, text: &str) -> Result<Vec<u8>, AllocError>
-    ensures { IfOk result (λ all. all.items ≡ before.items ++ compact_text (string text.now)) }
+// A string, and what closes the answer, behind what is written already. A string that ends in a newline, as each line of a story
+// does, has its front written alone.
+fn closed_text(before: Vec<u8>, text: &str) -> Result<Vec<u8>, AllocError>
+    ensures { IfOk result (λ all. all.items ≡ before.items ++ (compact_text (string text.now) ++ codes "}\n")) }
 {
     match text.strip_suffix("\n") {
-        Some(front) => line_behind(before, front),
-        None => written_behind(before, text),
+        Some(front) => closed_line(before, front),
+        None => closed_string(before, text),
     }
 }
 
 // The same of a string and a newline: the newline stands in the place of the quote behind the string.
-fn line_behind(before: Vec<u8>, front: &str) -> Result<Vec<u8>, AllocError>
-    ensures { IfOk result (λ all. all.items ≡ before.items ++ compact_text (string (front.now ++ codes "\n"))) }
+fn closed_line(before: Vec<u8>, front: &str) -> Result<Vec<u8>, AllocError>
+    ensures { IfOk result (λ all. all.items ≡ before.items ++ (compact_text (string (front.now ++ codes "\n")) ++ codes "}\n")) }
 {
     let mut all = written_behind(before, front)?;
     all.truncate(all.len() - 1);
-    all.extend_from_slice(b"\\n\"")?;
+    all.extend_from_slice(b"\\n\"}\n")?;
     Ok(all)
 }
 
+fn closed_string(before: Vec<u8>, text: &str) -> Result<Vec<u8>, AllocError>
+    ensures { IfOk result (λ all. all.items ≡ before.items ++ (compact_text (string text.now) ++ codes "}\n")) }
+{
+    let mut all = written_behind(before, text)?;
+    all.extend_from_slice(b"}\n")?;
+    Ok(all)
+}
+
+// The text of a string, behind what is written already.
 fn written_behind(before: Vec<u8>, text: &str) -> Result<Vec<u8>, AllocError>
     ensures { IfOk result (λ all. all.items ≡ before.items ++ compact_text (string text.now)) }
 {

@@ -1,6 +1,6 @@
 //! The commands that lines spell (docs/PROTOCOL.md, "Command lines").
 
-ghost use Rattle.std.specs.Prelude.{◌≡◌, ◌&&◌, is_none, true, IfOk, OnErr, Some, option_map, option_and_then};
+ghost use Rattle.std.specs.Prelude.{◌≡◌, ◌≢◌, ◌&&◌, codes, is_none, true, IfOk, OnErr, Some, option_map, option_and_then};
 ghost use Rattle.ink_model.specs.Command.{choose_command as choose_of, command_asks, command_of, command_word, drop_command as drop_of, flow_command as flow_of, get_command as get_of, jump_command as jump_of, line_asks, load_command as load_of, set_asks, set_command as set_of, visits_command as visits_of};
 ghost use Rattle.ink_model.specs.Bytes.{at_space as parts_at_space, is_filled};
 ghost use Rattle.ink_protocol.specs.Commands.{command_by};
@@ -35,19 +35,22 @@ pub fn read_command(alloc: Global, line: &[u8]) -> Result<Option<LineCommand<'_>
     ensures command { IfOk result (λ command. option_map command_by command ≡ command_of line.now) }
     ensures memory { OnErr result (line_asks line.now ≡ true) }
 {
+    // Most lines are this one.
+    if line == b"continue".as_slice() {
+        return Ok(Some(LineCommand::Continue));
+    }
     match str::from_utf8(line) {
         Ok(text) => command_in(alloc, text),
         Err(_) => Ok(None),
     }
 }
 
+// The command of a text that is not `continue`.
 fn command_in(alloc: Global, text: &str) -> Result<Option<LineCommand<'_>>, AllocError>
+    requires { text.now ≢ codes "continue" }
     ensures command { IfOk result (λ command. option_map command_by command ≡ command_word text.now) }
     ensures memory { OnErr result (command_asks text.now ≡ true) }
 {
-    if text == "continue" {
-        return Ok(Some(LineCommand::Continue));
-    }
     if text == "through" {
         return Ok(Some(LineCommand::Through));
     }
@@ -150,6 +153,8 @@ fn jump_command(target: &str) -> Option<LineCommand<'_>>
     Some(LineCommand::Jump { path: target })
 }
 
+// Out of the way of the others, since reading a value takes much of the stack.
+#[inline(never)]
 fn set_line(alloc: Global, text: &str) -> Result<Option<LineCommand<'_>>, AllocError>
     ensures command { IfOk result (λ command. option_map command_by command ≡ option_and_then set_of (parts_at_space text.now)) }
     ensures memory { OnErr result (set_asks (parts_at_space text.now) ≡ true) }

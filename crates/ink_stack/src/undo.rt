@@ -152,6 +152,7 @@ pub(crate) fn put_back<P: Copy>(
     count
 }
 
+// The pairs that most steps note are put back in place, and the larger ones elsewhere.
 #[inline(always)]
 fn put_one_back<P: Copy>(running: &mut Running<P>, below: &mut Vec<Thread<P>>, pair: ThreadsPair<P>)
     requires { Held (rooms_of pair (record { frames = running.old.room; threads = vec_capacity below.old })) (threads_back pair (threads_in running.old below.old.items)) }
@@ -159,9 +160,27 @@ fn put_one_back<P: Copy>(running: &mut Running<P>, below: &mut Vec<Thread<P>>, p
     ensures room { More (rooms_of pair (record { frames = running.old.room; threads = vec_capacity below.old })) (record { frames = running.new.room; threads = vec_capacity below.new }) }
 {
     match pair {
-        ThreadsPair::Placed(place) => running.put(place),
         ThreadsPair::Gone(place, previous) => running.ungo(place, previous),
         ThreadsPair::Evaluating(evaluating) => running.set_mode(evaluating),
+        other => put_other_back(running, below, other),
+    }
+}
+
+// The same of any pair.
+#[inline(never)]
+fn put_other_back<P: Copy>(
+    running: &mut Running<P>,
+    below: &mut Vec<Thread<P>>,
+    pair: ThreadsPair<P>,
+)
+    requires { Held (rooms_of pair (record { frames = running.old.room; threads = vec_capacity below.old })) (threads_back pair (threads_in running.old below.old.items)) }
+    ensures threads { threads_in running.new below.new.items ≡ threads_back pair (threads_in running.old below.old.items) }
+    ensures room { More (rooms_of pair (record { frames = running.old.room; threads = vec_capacity below.old })) (record { frames = running.new.room; threads = vec_capacity below.new }) }
+{
+    match pair {
+        ThreadsPair::Placed(place) => running.put(place),
+        ThreadsPair::Gone(left, before) => running.ungo(left, before),
+        ThreadsPair::Evaluating(mode) => running.set_mode(mode),
         ThreadsPair::Numbered(number) => running.put_number_back(number),
         ThreadsPair::Fresh(number) => running.freshen(number),
         ThreadsPair::Temp(number, index, was) => running.put_temp_back(number, index, was),

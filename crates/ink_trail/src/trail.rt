@@ -1,6 +1,6 @@
 //! A trail of pairs.
 
-ghost use Rattle.std.specs.Prelude.{◌≡◌, ◌≤◌, ◌<◌, ◌+◌, [], ◌∷◌, None, Some, is_some, length, reverse, OnOk, OnErr, MatchOption, true};
+ghost use Rattle.std.specs.Prelude.{◌≡◌, ◌≤◌, ◌<◌, ◌+◌, [], ◌∷◌, None, Some, is_some, length, reverse, OnOk, OnErr, MatchOption, true, vec_capacity, vec_len};
 ghost use Rattle.ink_trail.specs.Undo.{Begins, Ends, HasRoom, KeepsTrail, LacksRoom, spare, trail_of, with_count, with_pair, writes_of};
 
 use std::alloc::{AllocError, Global};
@@ -144,7 +144,7 @@ impl<E: Drop> Trail<E> {
     pub fn mark(&mut self)
         ensures { Begins self.old self.new }
     {
-        self.pairs.clear();
+        drop_all(&mut self.pairs);
         self.writes = 0;
         self.marked = true;
     }
@@ -155,7 +155,7 @@ impl<E: Drop> Trail<E> {
     {
         self.marked = false;
         self.writes = 0;
-        self.pairs.clear();
+        drop_all(&mut self.pairs);
     }
 
     /// Notes a pair, and counts so many changes of single cells, where a mark stands. Takes no memory.
@@ -218,5 +218,17 @@ impl<E: Drop> Trail<E> {
         ensures room { self.old.room ≤ self.new.room }
     {
         if self.marked { self.pairs.pop() } else { None }
+    }
+}
+
+// All pairs go. Most often there are none, which is seen in place.
+#[inline(always)]
+fn drop_all<E: Drop>(pairs: &mut Vec<E>)
+    ensures items { pairs.new.items ≡ [] }
+    ensures len { vec_len pairs.new ≡ 0 }
+    ensures capacity { vec_capacity pairs.new ≡ vec_capacity pairs.old }
+{
+    if !pairs.is_empty() {
+        pairs.clear();
     }
 }

@@ -1,8 +1,13 @@
-use Rattle.std.proofs.Common.{◌≡◌, IfOk, OnErr, subst, sym, ap, true, ◌∙◌, option_map}
+use Rattle.std.proofs.Common.{rules, codes, ◌≡◌, IfOk, OnErr, subst, sym, ap, true, ◌∙◌, option_map}
 use Rattle.ink_model.specs.Command.{command_asks, command_word}
 use Rattle.ink_protocol.specs.Commands.{command_by}
-use Rattle.ink_protocol.proofs.Commands.{asks_on_err, command_of_text, command_of_no_text}
+use Rattle.ink_protocol.proofs.Commands.{asks_on_err, command_of_text, command_of_no_text, continue_line}
 use Rattle.ink_protocol.proofs.command.read_command.Goals as goal
+
+pub returns-then-eq-clause-command : goal.returns-then-eq-clause-command
+returns-then-eq-clause-command c =
+    let same : c.args.line.now ≡ codes "continue" = search rules in
+    sym (continue_line c.args.line.now same)
 
 pub returns-in-Ok-clause-command : goal.returns-in-Ok-clause-command
 returns-in-Ok-clause-command c =
