@@ -1,12 +1,16 @@
 -- What texts with a newline behind them show.
-use Rattle.std.proofs.Common.{◌≡◌, ◌≢◌, ℕ, List, [], ◌∷◌, ◌++◌, true, refl, sym, ap, ◌∙◌, reverse, drop, length, ◌≤◌}
+use Rattle.std.proofs.Common.{◌≡◌, ◌≢◌, ℕ, ◌+◌, List, [], ◌∷◌, ◌++◌, true, refl, sym, ap, ◌∙◌, reverse, drop, get_or, length, ◌≤◌, ◌<◌}
 use Rattle.std.specs.List.{list_all}
-use Rattle.std.proofs.lemmas.List.{append-nil, append_assoc, drop_all, reverse-append}
+use Rattle.std.proofs.lemmas.List.{append-nil, append_assoc, at_drop_more, drop_all, reverse-append}
 use Rattle.ink_model.specs.Output.{is_text}
 use Rattle.ink_model.specs.Shown.{shown_text, text_before, written}
 use Rattle.ink_model.specs.declared.mark.Mark.{Mark}
 use Rattle.ink_model.specs.declared.mark.Mark.TheVariants as kinds
+use Rattle.ink_out.specs.declared.kept.Form.{Form}
+use Rattle.ink_out.specs.declared.kept.Form.TheVariants as forms
+use Rattle.ink_out.specs.declared.kept.Words.{Words}
 use Rattle.ink_out.specs.Joined.{texts_of}
+use Rattle.ink_out.specs.Kept.{mark_of}
 
 -- one mark more in front
 reversed : (m : Mark) (ms before : List Mark) → reverse (m ∷ ms) ++ before ≡ reverse ms ++ m ∷ before
@@ -57,6 +61,23 @@ texts_line marks texts is some all =
     ∙ ap (λ x. text_before (reverse texts) (kinds.Newline ∷ []) ++ x) (newline_shown_behind texts some all)
     ∙ ap (λ x. x ++ 10 ∷ []) (ap (λ ms. text_before ms (kinds.Newline ∷ [])) (sym (append-nil (reverse texts))) ∙ texts_shown texts [] (kinds.Newline ∷ []) all)
 
+-- ---- one mark after another
+
+-- what is left begins with the next one
+pub one_left : (texts : List Mark) (at : ℕ) (m : Mark) (written all : List ℕ) → at < length texts → m ≡ get_or texts at m → written ++ texts_of (drop at texts) ≡ all → written ++ texts_of (m ∷ drop (at + 1) texts) ≡ all
+one_left texts at m written all within is rest =
+    ap (λ (n : Mark). written ++ texts_of (n ∷ drop (at + 1) texts)) is ∙ sym (at_drop_more (λ ms. written ++ texts_of ms) texts at m within) ∙ rest
+
+-- a mark that is no text says nothing
+pub not_said : (f : Form) (rest : List Mark) → ((w : Words) → f ≡ forms.Text w → ⊥) → texts_of (mark_of f ∷ rest) ≡ texts_of rest
+not_said (forms.Text w) rest text = absurd (text w refl)
+not_said (forms.Blank t) rest text = refl
+not_said forms.Newline rest text = refl
+not_said forms.Glue rest text = refl
+not_said (forms.Tag t) rest text = refl
+not_said (forms.Enter n) rest text = refl
+not_said (forms.Leave n) rest text = refl
+
 -- when no text is left to be joined
-pub all_joined : (at : ℕ) (texts : List Mark) (line : List ℕ) → length texts ≤ at → line ++ texts_of (drop at texts) ≡ texts_of texts → line ≡ texts_of texts
-all_joined at texts line end joined = sym (append-nil line) ∙ ap (λ ms. line ++ texts_of ms) (sym (drop_all at texts end)) ∙ joined
+pub all_joined : (at : ℕ) (texts : List Mark) (line all : List ℕ) → length texts ≤ at → line ++ texts_of (drop at texts) ≡ all → line ≡ all
+all_joined at texts line all end joined = sym (append-nil line) ∙ ap (λ ms. line ++ texts_of ms) (sym (drop_all at texts end)) ∙ joined

@@ -13,3 +13,4 @@ pub mod Closing
 pub mod Undoing
 pub mod Marks
 pub mod Joined
+pub mod Printed

@@ -1,6 +1,6 @@
 -- A text cleaned in one walk, which keeps what stands on the line before a character.
 use Rattle.std.proofs.Common.{◌≡◌, ℕ, suc, ◌<◌, ◌≤◌, ◌+◌, ◌-◌, zero, ◌⊎◌, Bool, true, false, not, cond, if◌then◌else◌, List, [], ◌∷◌, ◌++◌, Option, None, Some, map, filter, length, take, drop, get_or, refl, sym, ap, ◌∙◌, arith, inl, inr}
-use Rattle.std.specs.List.{prefix_len}
+use Rattle.std.specs.List.{list_any, prefix_len}
 use Rattle.std.specs.Str.{IsUtf8, IsCharBoundary}
 use Rattle.std.proofs.lemmas.Bool.{cases_lt, or_parts, not-false, not-true}
 use Rattle.std.proofs.lemmas.List.{append-nil, append_assoc, take-append-drop, length-drop, length-take-le, get_or-drop, get_or-take}
@@ -12,7 +12,7 @@ use Rattle.ink_model.specs.Clean.{clean_line, clean}
 use Rattle.ink_out.specs.Cleaning.{AreWords, space, gap, cleaned_on, shown_as, HoldsBytes}
 use Rattle.ink_out.specs.declared.cleaning.Before.{Before}
 use Rattle.ink_out.specs.declared.cleaning.Before.TheVariants.{Nothing, Word, Gap}
-use Rattle.ink_out.proofs.WhiteEnds.{white_ascii}
+use Rattle.ink_out.proofs.WhiteEnds.{blank_no_newline, white_ascii}
 
 -- ---- the walk
 
@@ -241,9 +241,31 @@ cleaned_newline before (c ∷ cs) =
     rw (cleaned_newline Nothing cs, cleaned_newline (gap before) cs, cleaned_newline Word cs)
     (ended (is_newline c) (is_blank c) (space before) c (cleaned_on Nothing cs) (cleaned_on (gap before) cs) (cleaned_on Word cs))
 
+-- a newline stays at the end
+pub clean_ended : (cs : List ℕ) → clean (cs ++ 10 ∷ []) ≡ clean cs ++ 10 ∷ []
+clean_ended cs = clean_is (cs ++ 10 ∷ []) ∙ cleaned_newline Nothing cs ∙ ap (λ ds. ds ++ 10 ∷ []) (sym (clean_is cs))
+
 -- a text that is clean stays so with a newline behind it
 pub clean_newline : (cs : List ℕ) → clean cs ≡ cs → clean (cs ++ 10 ∷ []) ≡ cs ++ 10 ∷ []
-clean_newline cs same = clean_is (cs ++ 10 ∷ []) ∙ cleaned_newline Nothing cs ∙ ap (λ ds. ds ++ 10 ∷ []) (sym (clean_is cs) ∙ same)
+clean_newline cs same = clean_ended cs ∙ ap (λ ds. ds ++ 10 ∷ []) same
+
+-- ---- blanks at the end
+
+blanks_gone : (before : Before) (cs : List ℕ) → list_any (λ byte. not (is_blank byte)) cs ≡ false → cleaned_on before cs ≡ []
+blanks_gone before [] none = refl
+blanks_gone before (c ∷ cs) none =
+    let (first, rest) = or_parts (not (is_blank c)) (list_any (λ byte. not (is_blank byte)) cs) none in
+    let blank : is_blank c ≡ true = not-false (is_blank c) first in
+    rw (blank_no_newline c blank, blank) (blanks_gone (gap before) cs rest)
+
+-- words with blanks alone behind them are what stays
+pub words_stay : (cs : List ℕ) (n : ℕ) → AreWords cs n → list_any (λ byte. not (is_blank byte)) (drop n cs) ≡ false → clean cs ≡ take n cs
+words_stay cs zero words none = clean_is cs ∙ blanks_gone Nothing cs none
+words_stay cs (suc n) words none =
+    let rest = drop (suc n) cs in
+    clean_is cs ∙ ap (cleaned_on Nothing) (sym (append-nil cs)) ∙ words.cleaned (omega arith) Nothing []
+    ∙ ap (λ ds. take (suc n) cs ++ ds) (ap (cleaned_on Word) (append-nil rest) ∙ blanks_gone Word rest none)
+    ∙ append-nil (take (suc n) cs)
 
 -- ---- where a text may be cut
 

@@ -8,9 +8,13 @@ use Rattle.ink_model.specs.declared.mark.Mark.TheVariants.{Text, Blank, Newline,
 use Rattle.ink_out.specs.declared.cutting.Piece.{Piece}
 use Rattle.ink_out.specs.declared.cutting.Piece.TheVariants as pieces
 use Rattle.ink_out.specs.declared.enters.Enters.{Enters}
+use Rattle.ink_out.specs.declared.kept.Form.{Form}
+use Rattle.ink_out.specs.declared.kept.Form.TheVariants as forms
+use Rattle.ink_out.specs.declared.kept.Words.{Words}
 use Rattle.ink_out.specs.declared.state.State.{State}
 use Rattle.ink_out.specs.declared.tracker.Tracker.{Tracker}
 use Rattle.ink_out.specs.Cutting.{piece_mark}
+use Rattle.ink_out.specs.Kept.{mark_of}
 use Rattle.ink_out.specs.Tracks.{Tracks, settled_after, waiting_at}
 use Rattle.ink_out.specs.Stands.{more_at, Falling, Stands, Knows, Sees}
 use Rattle.ink_out.proofs.Tracking.{or_nothing}
@@ -18,14 +22,14 @@ use Rattle.ink_out.proofs.Tracking.{or_nothing}
 -- ---- the last text or tag
 
 -- a mark that is no text and no tag
-pub more_same : (m : Mark) (before : List Mark) → ((t : List ℕ) → m ≡ Text t → ⊥) → ((t : List ℕ) → m ≡ Tag t → ⊥) → more_at (m ∷ before) ≡ more_at before
-more_same (Text t) before text tag = absurd (text t refl)
-more_same (Tag t) before text tag = absurd (tag t refl)
-more_same (Blank t) before text tag = refl
-more_same Newline before text tag = refl
-more_same Glue before text tag = refl
-more_same (Enter n) before text tag = refl
-more_same (Leave n) before text tag = refl
+pub more_same : (f : Form) (before : List Mark) → ((w : Words) → f ≡ forms.Text w → ⊥) → ((t : List ℕ) → f ≡ forms.Tag t → ⊥) → more_at (mark_of f ∷ before) ≡ more_at before
+more_same (forms.Text w) before text tag = absurd (text w refl)
+more_same (forms.Tag t) before text tag = absurd (tag t refl)
+more_same (forms.Blank t) before text tag = refl
+more_same forms.Newline before text tag = refl
+more_same forms.Glue before text tag = refl
+more_same (forms.Enter n) before text tag = refl
+more_same (forms.Leave n) before text tag = refl
 
 -- ---- the settled newlines
 

@@ -8,3 +8,4 @@ pub mod Stands
 pub mod Walks
 pub mod Undo
 pub mod Joined
+pub mod Kept

@@ -1,11 +1,13 @@
 //! The text that is shown, as it is or cleaned (docs/TEXT.md, "Cleaning").
 
-ghost use Rattle.std.specs.Prelude.{◌≡◌, ◌≤◌, ◌<◌, ◌+◌, ℕ, List, [], ◌∷◌, ◌++◌, Bool, true, false, get_or, length, not, IfOk, IsTrue, OnOk, string_bytes};
+ghost use Rattle.std.specs.Prelude.{◌≡◌, ◌≤◌, ◌<◌, ◌+◌, ℕ, List, [], ◌∷◌, ◌++◌, Bool, true, false, get_or, length, not, take, IfOk, IfSome, IsTrue, OnOk, string_bytes};
 ghost use Rattle.std.specs.List.{prefix_len};
+ghost use Rattle.std.specs.Str.{IsCharBoundary};
 ghost use Rattle.ink_model.specs.Bytes.{is_white};
 ghost use Rattle.ink_model.specs.Clean.{clean};
 ghost use Rattle.ink_out.specs.Cleaning.{AreWords, Holds, cleaned_on, shown_as, space};
 
+use crate::cutting::has_words;
 use ink_model::Text;
 use std::alloc::{AllocError, Global};
 
@@ -149,6 +151,20 @@ pub(crate) fn is_clean(text: &str) -> bool
     ensures { result ≡ true → clean text.now ≡ text.now }
 {
     words_len(text.as_bytes()) == text.len()
+}
+
+/// How many bytes cleaning leaves of a text, where it takes away none but blanks at the end.
+#[inline(always)]
+pub(crate) fn clean_len(text: &str) -> Option<usize>
+    ensures clean { IfSome result (λ len. clean text.now ≡ take len text.now) }
+    ensures cut { IfSome result (λ len. IsCharBoundary text.now len) }
+{
+    let bytes = text.as_bytes();
+    let len = words_len(bytes);
+    if has_words(&bytes[len..]) {
+        return None;
+    }
+    Some(len)
 }
 
 /// Whether one space stands at an index, and a word behind it.

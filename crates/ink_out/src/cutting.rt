@@ -8,7 +8,8 @@ ghost use Rattle.ink_model.specs.Bytes.{has_newline, is_blank, is_newline, is_wh
 ghost use Rattle.ink_model.specs.declared.mark.Mark.{Mark};
 ghost use Rattle.ink_out.specs.Cutting.{is_space, piece_mark};
 
-use ink_model::{Mark, Shared, Text};
+use crate::kept::{Form, Kept, Words};
+use ink_model::{Shared, Text};
 use std::alloc::{AllocError, Global};
 
 /// Spaces and tabs, or these and newlines.
@@ -45,7 +46,7 @@ impl Piece {
         ensures { text.now ≢ [] → IfOk result (λ one. piece_mark one ∷ [] ≡ piece text.now) }
     {
         let shared = text.share()?;
-        if has_words(text.get().as_str()) {
+        if has_words(text.as_str().as_bytes()) {
             Ok(Piece::Text(shared))
         } else {
             Ok(Piece::Blank(shared))
@@ -62,14 +63,15 @@ impl Piece {
 
     /// The mark that it leaves.
     #[inline(always)]
-    pub(crate) fn into_mark(self) -> Mark
+    pub(crate) fn into_mark(self) -> Kept
         ensures { result ≡ piece_mark self }
     {
-        match self {
-            Piece::Text(text) => Mark::Text(text),
-            Piece::Blank(text) => Mark::Blank(text),
-            Piece::Newline => Mark::Newline,
-        }
+        let form = match self {
+            Piece::Text(text) => Form::Text(Words::Text(text)),
+            Piece::Blank(text) => Form::Blank(text),
+            Piece::Newline => Form::Newline,
+        };
+        Kept { form }
     }
 }
 
@@ -195,10 +197,10 @@ fn trailing(text: &str, space: Space) -> usize
 
 /// Some byte of a text is no blank.
 #[inline(always)]
-pub(crate) fn has_words(text: &str) -> bool
+pub(crate) fn has_words(text: &[u8]) -> bool
     ensures { result ≡ list_any (λ byte. not (is_blank byte)) text.now }
 {
-    text.as_bytes().iter().any(|byte| !is_blank(*byte))
+    text.iter().any(|byte| !is_blank(*byte))
 }
 
 /// A newline stands at a place in a text.

@@ -6,7 +6,7 @@ ghost use Rattle.ink_model.specs.declared.mark.Mark.TheVariants as kinds;
 ghost use Rattle.ink_out.specs.Stands.{Knows, started};
 ghost use Rattle.ink_out.specs.Tracks.{reach_of};
 
-use ink_model::Mark;
+use crate::kept::{Form, Kept};
 use std::alloc::{AllocError, Global};
 
 /// A number, and the index of its start.
@@ -41,12 +41,12 @@ impl Enters {
 
     /// Notes a mark at an index. The one error is a refused request for memory, and leaves the numbers as they were.
     #[inline(always)]
-    pub(crate) fn note(&mut self, mark: &Mark, at: usize) -> Result<(), AllocError>
+    pub(crate) fn note(&mut self, mark: &Kept, at: usize) -> Result<(), AllocError>
         ensures ok { OnOk result ((before : List Mark) → at ≡ length before → Knows self.old before → Knows self.new (mark.now ∷ before)) }
         ensures err { OnErr result ((before : List Mark) → Knows self.old before → Knows self.new before) }
     {
-        match mark {
-            Mark::Enter(number) => self.start(*number, at),
+        match &mark.form {
+            Form::Enter(number) => self.start(*number, at),
             _ => Ok(()),
         }
     }
@@ -62,10 +62,10 @@ impl Enters {
     }
 
     /// Forgets the last mark that was noted. Takes no memory.
-    pub(crate) fn forget(&mut self, mark: &Mark)
+    pub(crate) fn forget(&mut self, mark: &Kept)
         ensures { (before : List Mark) → Knows self.old (mark.now ∷ before) → Knows self.new before }
     {
-        if let Mark::Enter(_) = mark {
+        if let Form::Enter(_) = &mark.form {
             let _start = self.starts.pop();
         }
     }

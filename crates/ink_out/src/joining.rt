@@ -1,19 +1,21 @@
 //! Lines of texts alone, whose texts are joined before they are cleaned (docs/TEXT.md, "Cleaning").
 
-ghost use Rattle.std.specs.Prelude.{◌≡◌, ◌≢◌, [], ◌∷◌, ◌++◌, true, IfOk, IfSome};
+ghost use Rattle.std.specs.Prelude.{◌≡◌, ◌≢◌, [], ◌∷◌, ◌++◌, true, string_bytes, IfOk, IfSome, OnOk};
 ghost use Rattle.std.specs.List.{list_all};
 ghost use Rattle.ink_model.specs.Clean.{clean};
 ghost use Rattle.ink_model.specs.Output.{is_text};
 ghost use Rattle.ink_model.specs.declared.mark.Mark.TheVariants as kinds;
 ghost use Rattle.ink_out.specs.Joined.{texts_of};
 
-use crate::cleaning::{MOST_ROOM, cleaned, is_clean};
-use ink_model::{Mark, Text};
+use crate::cleaning::{MOST_ROOM, Shown, clean_len};
+use crate::kept::{Form, Kept};
+use ink_model::Text;
+use itoa::Buffer;
 use std::alloc::{AllocError, Global};
 
-/// The marks in front of the newline of a line that has texts alone, and how many bytes these texts have. None where they have
-/// more than is asked for at once.
-pub(crate) fn texts_of_line(marks: &[Mark]) -> Option<(&[Mark], usize)>
+/// The marks in front of the newline of a line that has texts alone, and how many bytes these texts have at the most.
+/// None where that is more than is asked for at once.
+pub(crate) fn texts_of_line(marks: &[Kept]) -> Option<(&[Kept], usize)>
     ensures { IfSome result (λ line. (marks.now ≡ line.0.now ++ kinds.Newline ∷ []) × ((line.0.now ≢ []) × (list_all is_text line.0.now ≡ true))) }
 {
     let (last, texts) = marks.split_last()?;
@@ -27,32 +29,65 @@ pub(crate) fn texts_of_line(marks: &[Mark]) -> Option<(&[Mark], usize)>
     Some((texts, len))
 }
 
-/// Texts of so many bytes, with a newline behind them, cleaned. The one error is a refused request for memory.
-pub(crate) fn joined(alloc: Global, texts: &[Mark], len: usize) -> Result<Text, AllocError>
+/// Texts of so many bytes at the most, with a newline behind them, cleaned. The one error is a refused request for memory, which is
+/// made once.
+pub(crate) fn joined(alloc: Global, texts: &[Kept], most: usize) -> Result<Text, AllocError>
     ensures { IfOk result (λ line. line ≡ clean (texts_of texts.now ++ 10 ∷ [])) }
 {
-    let mut line = String::with_capacity(alloc, len.saturating_add(1))?;
-    for mark in texts {
-        if let Mark::Text(text) = mark {
-            line.push_str(text.get().as_str())?;
+    let mut line = String::with_capacity(alloc, most.saturating_add(1))?;
+    push_texts(&mut line, texts)?;
+    match clean_len(line.as_str()) {
+        Some(len) => {
+            line.truncate(len);
+            line.push_str("\n")?;
+            Ok(Text::from_string(line))
+        }
+        None => {
+            line.clear();
+            cleaned_line(line, texts)
         }
     }
-    let stays = is_clean(line.as_str());
-    line.push_str("\n")?;
-    if stays {
-        return Ok(Text::from_string(line));
-    }
-    cleaned(alloc, line.as_str())
 }
 
-/// How many bytes these marks have, where all are texts.
-fn texts_len(marks: &[Mark]) -> Option<usize>
+/// Adds texts. The one error is a refused request for memory.
+#[inline(always)]
+fn push_texts(line: &mut String, texts: &[Kept]) -> Result<(), AllocError>
+    ensures { OnOk result (string_bytes line.new ≡ string_bytes line.old ++ texts_of texts.now) }
+{
+    let mut digits = Buffer::new();
+    for mark in texts {
+        if let Form::Text(words) = &mark.form {
+            line.push_str(words.as_str(&mut digits))?;
+        }
+    }
+    Ok(())
+}
+
+/// Texts with a newline behind them, cleaned in this room. The one error is a refused request for memory.
+#[inline(never)]
+fn cleaned_line(room: String, texts: &[Kept]) -> Result<Text, AllocError>
+    requires { string_bytes room ≡ [] }
+    ensures { IfOk result (λ line. line ≡ clean (texts_of texts.now ++ 10 ∷ [])) }
+{
+    let mut shown = Shown::new(room, true);
+    let mut digits = Buffer::new();
+    for mark in texts {
+        if let Form::Text(words) = &mark.form {
+            shown.push_str(words.as_str(&mut digits))?;
+        }
+    }
+    shown.push_str("\n")?;
+    Ok(shown.into_text())
+}
+
+/// How many bytes these marks have at the most, where all are texts.
+fn texts_len(marks: &[Kept]) -> Option<usize>
     ensures { IfSome result (λ len. list_all is_text marks.now ≡ true) }
 {
     let mut len: usize = 0;
     for mark in marks {
-        match mark {
-            Mark::Text(text) => len = len.saturating_add(text.get().as_str().len()),
+        match &mark.form {
+            Form::Text(words) => len = len.saturating_add(words.most_len()),
             _ => return None,
         }
     }
@@ -60,8 +95,8 @@ fn texts_len(marks: &[Mark]) -> Option<usize>
 }
 
 #[inline(always)]
-pub(crate) fn is_newline(mark: &Mark) -> bool
+pub(crate) fn is_newline(mark: &Kept) -> bool
     ensures { result ≡ true → mark.now ≡ kinds.Newline }
 {
-    matches!(mark, Mark::Newline)
+    matches!(&mark.form, Form::Newline)
 }

@@ -5,6 +5,7 @@ mod cleaning;
 mod cutting;
 mod enters;
 mod joining;
+mod kept;
 mod opened;
 mod output;
 mod pile;

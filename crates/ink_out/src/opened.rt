@@ -15,10 +15,11 @@ ghost use Rattle.ink_out.specs.Writing.{Notes, page_of};
 ghost use Rattle.ink_trail.specs.Undo.{TrailsOrKeeps, but_last, spare, trail_of};
 
 use crate::cutting::Piece;
+use crate::kept::Kept;
 use crate::section::Section;
 use crate::state::State;
 use crate::undo::OutputPair;
-use ink_model::{Fault, MAX_MARKS, Mark, Shared, Text};
+use ink_model::{Fault, MAX_MARKS, Shared, Text};
 use ink_trail::Trail;
 use std::alloc::{AllocError, Global};
 use std::marker::Model;
@@ -80,7 +81,7 @@ impl Opened {
 
     /// Adds a mark. The one error is a refused request for memory, and leaves all as it was.
     #[inline(always)]
-    fn add(&mut self, mark: Mark) -> Result<(), AllocError>
+    fn add(&mut self, mark: Kept) -> Result<(), AllocError>
         ensures ok { OnOk result (self.new ≡ record self.old { marks = self.old.marks ++ mark ∷ [] }) }
         ensures err { OnErr result (self.new ≡ self.old) }
     {
@@ -137,7 +138,7 @@ impl Opened {
 /// the line, which is found before memory is asked for, `OutOfMemory` for a refused request for memory; nothing has
 /// changed then.
 #[inline(always)]
-pub(crate) fn note(line: &mut Section, sections: &mut [Opened], mark: Mark) -> Result<(), Fault>
+pub(crate) fn note(line: &mut Section, sections: &mut [Opened], mark: Kept) -> Result<(), Fault>
     ensures page { Notes (mark ∷ []) line.old sections.old line.new sections.new result }
     ensures limit { (n : ℕ) → IfErr (writes_marks (mark ∷ []) (page_of line.old sections.old n)) (λ f. result ≡ Err f) }
     ensures err { OnErr result ((line.new ≡ line.old) × (sections.new ≡ sections.old)) }
@@ -174,7 +175,7 @@ pub(crate) fn note_in(
     line: &mut Section,
     sections: &mut [Opened],
     trail: &mut Trail<OutputPair>,
-    mark: Mark,
+    mark: Kept,
     count: usize,
 ) -> Result<(), Fault>
     requires { 1 ≤ count }
@@ -198,7 +199,7 @@ fn note_marked(
     line: &mut Section,
     sections: &mut [Opened],
     trail: &mut Trail<OutputPair>,
-    mark: Mark,
+    mark: Kept,
     count: usize,
 ) -> Result<(), Fault>
     requires { 1 ≤ count }
@@ -257,7 +258,7 @@ pub(crate) fn note_all(
 pub(crate) fn note_below(
     line: &mut Section,
     sections: &mut [Opened],
-    mark: Mark,
+    mark: Kept,
 ) -> Result<(), Fault>
     requires { 0 < length sections.old }
     ensures page { Notes (mark ∷ []) line.old (take (length sections.old - 1) sections.old) line.new (take (length sections.old - 1) sections.new) result }

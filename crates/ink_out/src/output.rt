@@ -10,11 +10,13 @@ ghost use Rattle.ink_model.specs.Memory.{Gives, Hands, Leaves};
 ghost use Rattle.ink_model.specs.Bytes.{fits_text};
 ghost use Rattle.ink_model.specs.Output.{writes_marks, writes_value, writes_text, writes_newline, writes_glue, begins_function, ends_function, opens, closes_string, closes_tag, writes_tag, prints_text, ends_line, empty_page, is_string, is_text, kept_text, let_through, tagged};
 ghost use Rattle.ink_model.specs.declared.limits.TheConstants.{MAX_MARKS};
+ghost use Rattle.ink_model.specs.declared.mark.Mark.TheVariants as kinds;
 ghost use Rattle.ink_model.specs.Shown.{shown_text, shows_more, is_shown, open_newline, more_from};
 ghost use Rattle.ink_model.specs.Step.Host as host;
 ghost use Rattle.ink_model.specs.Step.Text.{in_string, in_tag};
 ghost use Rattle.ink_model.specs.Value.{printed};
 ghost use Rattle.ink_out.specs.Cutting.{piece_mark};
+ghost use Rattle.ink_out.specs.Kept.{mark_of, said};
 ghost use Rattle.ink_out.specs.Opened.{section_kind};
 ghost use Rattle.ink_out.specs.Undo.{GoesBack, output_back, output_spare, output_stood};
 ghost use Rattle.ink_out.specs.Writing.{Notes, closed, marks_of, page_of, prints_nothing};
@@ -22,12 +24,12 @@ ghost use Rattle.ink_trail.specs.Undo.{Begins, Ends, KeepsTrail, Trails, TrailsO
 
 use crate::cleaning::cleaned;
 use crate::cutting::{Piece, cut_text, is_cut};
+use crate::kept::{Form, Kept, Words};
 use crate::opened::{Kind, Opened, note, note_all, note_below, note_in, open_state};
 use crate::section::Section;
 use crate::undo::{OutputPair, note_number, put_back};
-use ink_model::{Fault, MAX_SECTIONS, MAX_TEXT, Mark, Seq, Shared, Text, Value};
+use ink_model::{Fault, MAX_SECTIONS, MAX_TEXT, Seq, Shared, Text, Value};
 use ink_trail::Trail;
-use ink_value::printed;
 use std::alloc::{AllocError, Global};
 use std::marker::Model;
 use std::mem;
@@ -105,15 +107,28 @@ impl Output {
         ensures stood { output_stood self.new ≡ output_stood self.old }
         ensures spare { output_spare self.old ≤ output_spare self.new + marks_of fresh (printed value.now) }
     {
-        let alloc = self.alloc;
         match value {
             Value::Text(text) => self.write_text(text, fresh),
-            Value::Void => Ok(false),
-            _ => {
-                let text = Shared::new(alloc, printed(alloc, value)?)?;
-                self.write_text(&text, fresh)
+            Value::Int(number) => self.note_words(Words::Number(*number)),
+            Value::Bool(truth) => self.note_words(Words::Truth(*truth)),
+            Value::Void => {
+                let _unchanged = &self.line;
+                Ok(false)
             }
+            Value::Target(_) | Value::Pointer(..) | Value::Tag(_) => Err(Fault::BadOperands),
         }
+    }
+
+    // Writes what is printed of a number or a truth value: one text, before which no newline stands.
+    fn note_words(&mut self, words: Words) -> Result<bool, Fault>
+        ensures page { Leaves (writes_marks (kinds.Text (said words) ∷ []) self.old.page) self.old.page self.new.page result }
+        ensures text { IfOk result (λ has_text. has_text ≡ true) }
+        ensures trail { TrailsOrKeeps output_back 1 self.old.page self.old.trail self.new.page self.new.trail result }
+        ensures stood { output_stood self.new ≡ output_stood self.old }
+        ensures spare { output_spare self.old ≤ output_spare self.new + 1 }
+    {
+        self.note(Form::Text(words))?;
+        Ok(true)
     }
 
     /// Writes a text as `write` writes its value. `TooDeep` for more than 100,000 marks in the line,
@@ -161,7 +176,7 @@ impl Output {
             let _unchanged = &mut self.line;
             return Ok(());
         }
-        self.note(Mark::Newline)
+        self.note(Form::Newline)
     }
 
     /// Writes glue (docs/TEXT.md, "What is shown"). `TooDeep` for more than 100,000 marks in the line, which is found before
@@ -173,7 +188,7 @@ impl Output {
         ensures stood { output_stood self.new ≡ output_stood self.old }
         ensures spare { output_spare self.old ≤ output_spare self.new + 1 }
     {
-        self.note(Mark::Glue)
+        self.note(Form::Glue)
     }
 
     /// A function begins. Answers its number: Enters are numbered upwards. `TooDeep` for more than 100,000 marks in the line
@@ -189,7 +204,9 @@ impl Output {
     {
         let number = self.next_enter;
         let next = number.checked_add(1).ok_or(Fault::TooDeep)?;
-        let mark = Mark::Enter(number);
+        let mark = Kept {
+            form: Form::Enter(number),
+        };
         note_in(&mut self.line, &mut self.sections, &mut self.trail, mark, 2)?;
         note_number(&mut self.trail, number);
         self.next_enter = next;
@@ -205,16 +222,17 @@ impl Output {
         ensures stood { output_stood self.new ≡ output_stood self.old }
         ensures spare { output_spare self.old ≤ output_spare self.new + 1 }
     {
-        self.note(Mark::Leave(number))
+        self.note(Form::Leave(number))
     }
 
     // Writes a mark into what is open, as those calls do.
     #[inline(always)]
-    fn note(&mut self, mark: Mark) -> Result<(), Fault>
-        ensures page { Leaves (writes_marks (mark ∷ []) self.old.page) self.old.page self.new.page result }
-        ensures limit { IfErr (writes_marks (mark ∷ []) self.old.page) (λ f. result ≡ Err f) }
+    fn note(&mut self, form: Form) -> Result<(), Fault>
+        ensures page { Leaves (writes_marks (mark_of form ∷ []) self.old.page) self.old.page self.new.page result }
+        ensures limit { IfErr (writes_marks (mark_of form ∷ []) self.old.page) (λ f. result ≡ Err f) }
         ensures trail { TrailsOrKeeps output_back 1 self.old.page self.old.trail self.new.page self.new.trail result }
     {
+        let mark = Kept { form };
         note_in(&mut self.line, &mut self.sections, &mut self.trail, mark, 1)
     }
 
@@ -310,7 +328,7 @@ impl Output {
             self.close()?;
             return Ok(Some(text));
         }
-        self.close_with(Mark::Tag(text))?;
+        self.close_with(Form::Tag(text))?;
         Ok(None)
     }
 
@@ -327,7 +345,7 @@ impl Output {
         if self.in_string() {
             return Ok(Some(text));
         }
-        self.note(Mark::Tag(text))?;
+        self.note(Form::Tag(text))?;
         Ok(None)
     }
 
@@ -362,11 +380,12 @@ impl Output {
 
     /// Closes what is open on top, and adds a mark to what is open then. `TooDeep` for more than 100,000 marks in the line,
     /// `OutOfMemory` for a refused request for memory; nothing has changed then.
-    fn close_with(&mut self, mark: Mark) -> Result<(), Fault>
+    fn close_with(&mut self, form: Form) -> Result<(), Fault>
         requires { 0 < length self.old.page.sections }
-        ensures page { Leaves (writes_marks (mark ∷ []) (closed self.old.page)) self.old.page self.new.page result }
+        ensures page { Leaves (writes_marks (mark_of form ∷ []) (closed self.old.page)) self.old.page self.new.page result }
         ensures trail { TrailsOrKeeps output_back 2 self.old.page self.old.trail self.new.page self.new.trail result }
     {
+        let mark = Kept { form };
         if self.trail.is_marked() {
             return self.close_with_marked(mark);
         }
@@ -377,7 +396,7 @@ impl Output {
 
     #[cold]
     #[inline(never)]
-    fn close_with_marked(&mut self, mark: Mark) -> Result<(), Fault>
+    fn close_with_marked(&mut self, mark: Kept) -> Result<(), Fault>
         requires { 0 < length self.old.page.sections }
         ensures page { Leaves (writes_marks (mark ∷ []) (closed self.old.page)) self.old.page self.new.page result }
         ensures trail { TrailsOrKeeps output_back 2 self.old.page self.old.trail self.new.page self.new.trail result }

@@ -9,6 +9,7 @@ ghost use Rattle.ink_model.specs.declared.mark.Mark.TheVariants as kinds;
 ghost use Rattle.ink_model.specs.Shown.{is_filled_blank, is_shown, more_from, open_newline, shown_text, shows_more};
 ghost use Rattle.ink_out.specs.Cutting.{piece_mark};
 ghost use Rattle.ink_out.specs.declared.state.State.{State};
+ghost use Rattle.ink_out.specs.Kept.{said};
 ghost use Rattle.ink_out.specs.Stands.{IsStateOf, Sees, is_past};
 ghost use Rattle.ink_out.specs.Undo.{GoesBack, Held, output_back, with_open};
 ghost use Rattle.ink_trail.specs.Undo.{Trails, TrailsOrKeeps, but_last, spare, trail_of};
@@ -17,13 +18,15 @@ use crate::cleaning::is_clean;
 use crate::cutting::{Piece, has_words};
 use crate::enters::Enters;
 use crate::joining::{is_newline, joined, texts_of_line};
+use crate::kept::{Form, Kept, Words};
 use crate::state::{State, is_settled, make_room, settle, unsettle};
 use crate::tags::tag_texts;
 use crate::tracker::Waiting;
 use crate::undo::OutputPair;
 use crate::walk::shown_text;
-use ink_model::{Mark, Seq, Shared, Text};
+use ink_model::{Seq, Shared, Text};
 use ink_trail::Trail;
+use itoa::Buffer;
 use std::alloc::{AllocError, Global};
 use std::marker::Model;
 
@@ -31,7 +34,7 @@ use std::marker::Model;
 /// the marks leave to decide. A contract sees the marks, the oldest first.
 #[derive(Drop)]
 pub(crate) struct Section {
-    marks: Vec<Mark>,
+    marks: Vec<Kept>,
     settled: Vec<usize>,
     state: State,
     enters: Enters,
@@ -63,7 +66,7 @@ impl Section {
     }
 
     /// Adds a mark. The one error is a refused request for memory, and leaves the section as it was.
-    pub(crate) fn add(&mut self, mark: Mark) -> Result<(), AllocError>
+    pub(crate) fn add(&mut self, mark: Kept) -> Result<(), AllocError>
         ensures ok { OnOk result (self.new ≡ self.old ++ mark ∷ []) }
         ensures err { OnErr result (self.new ≡ self.old) }
     {
@@ -188,10 +191,9 @@ impl Section {
         if self.marks.len() != 2 {
             return None;
         }
-        match &self.marks[0] {
-            Mark::Text(text) if is_newline(&self.marks[1]) && is_clean(text.as_str()) => {
-                Some(text.as_str())
-            }
+        match &self.marks[0].form {
+            Form::Text(Words::Text(text))
+                if is_newline(&self.marks[1]) && is_clean(text.as_str()) => { Some(text.as_str()) }
             _ => None,
         }
     }
@@ -215,8 +217,9 @@ impl Section {
     pub(crate) fn shared_text(&self, alloc: Global) -> Result<Shared<Text>, AllocError>
         ensures { IfOk result (λ text. text ≡ clean (shown_text self.now)) }
     {
+        let mut digits = Buffer::new();
         match self.only_text() {
-            Some(text) if is_clean(text.as_str()) => text.share(),
+            Some(words) if is_clean(words.as_str(&mut digits)) => words.to_shared(alloc),
             _ => Shared::new(alloc, self.text(alloc)?),
         }
     }
@@ -227,21 +230,21 @@ impl Section {
         ensures { IfOk result (λ text. text ≡ shown_text self.now) }
     {
         match self.only_text() {
-            Some(text) => text.share(),
+            Some(words) => words.to_shared(alloc),
             None => Shared::new(alloc, shown_text(alloc, self.marks.as_slice(), false)?),
         }
     }
 
     // The text that is the only mark.
     #[inline(always)]
-    fn only_text(&self) -> Option<&Shared<Text>>
-        ensures { IfSome result (λ text. self.now ≡ kinds.Text text.now ∷ []) }
+    fn only_text(&self) -> Option<&Words>
+        ensures { IfSome result (λ words. self.now ≡ kinds.Text (said words.now) ∷ []) }
     {
         if self.marks.len() != 1 {
             return None;
         }
-        match &self.marks[0] {
-            Mark::Text(text) => Some(text),
+        match &self.marks[0].form {
+            Form::Text(words) => Some(words),
             _ => None,
         }
     }
@@ -276,24 +279,24 @@ fn line_of(alloc: Global, text: &str) -> Result<Text, AllocError>
     Ok(Text::from_string(line))
 }
 
-fn has_filled_blank(marks: &[Mark]) -> bool
+fn has_filled_blank(marks: &[Kept]) -> bool
     ensures { result ≡ list_any is_filled_blank marks.now }
 {
     marks.iter().any(|mark| is_filled_blank(mark))
 }
 
-fn is_filled_blank(mark: &Mark) -> bool
+fn is_filled_blank(mark: &Kept) -> bool
     ensures { result ≡ is_filled_blank mark.now }
 {
-    match mark {
-        Mark::Blank(text) => has_words(text.get().as_str()),
+    match &mark.form {
+        Form::Blank(text) => has_words(text.as_str().as_bytes()),
         _ => false,
     }
 }
 
 // Adds the marks of pieces, where there is room.
 fn append(
-    marks: &mut Vec<Mark>,
+    marks: &mut Vec<Kept>,
     settled: &mut Vec<usize>,
     state: &mut State,
     enters: &Enters,
@@ -319,7 +322,7 @@ fn append(
 
 // Takes the last mark back, by the newline that waited before it.
 fn take_last_back(
-    marks: &mut Vec<Mark>,
+    marks: &mut Vec<Kept>,
     settled: &mut Vec<usize>,
     enters: &mut Enters,
     newline: Option<Waiting>,

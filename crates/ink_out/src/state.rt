@@ -7,8 +7,8 @@ ghost use Rattle.ink_out.specs.Stands.{Falling, Knows, Stands};
 ghost use Rattle.ink_out.specs.Tracks.{settled_after};
 
 use crate::enters::Enters;
+use crate::kept::{Form, Kept};
 use crate::tracker::{Tracker, Waiting};
-use ink_model::Mark;
 use std::alloc::{AllocError, Global};
 
 /// What the marks so far leave to decide, and the last text or tag.
@@ -31,14 +31,14 @@ impl State {
 
     /// Goes past a mark at an index, where the starts of the numbers up to it are known.
     #[inline(always)]
-    pub(crate) fn add(&mut self, mark: &Mark, at: usize, enters: &Enters)
+    pub(crate) fn add(&mut self, mark: &Kept, at: usize, enters: &Enters)
         ensures { (before : List Mark) (settled : List ℕ) → at ≡ length before → Knows enters.now (mark.now ∷ before) → Stands before settled self.old
             → Stands (mark.now ∷ before) (settled_after mark.now self.old.tracker.newline settled) self.new }
     {
         self.tracker.add(mark, at, enters);
-        match mark {
-            Mark::Text(_) => self.more = Some(at),
-            Mark::Tag(_) => self.more = Some(at),
+        match &mark.form {
+            Form::Text(_) => self.more = Some(at),
+            Form::Tag(_) => self.more = Some(at),
             _ => {}
         }
     }
@@ -61,24 +61,24 @@ pub(crate) fn make_room(
 
 /// Adds the newline that waits to the settled ones, where the mark is a text.
 #[inline(always)]
-pub(crate) fn settle(settled: &mut Vec<usize>, mark: &Mark, newline: Option<Waiting>)
+pub(crate) fn settle(settled: &mut Vec<usize>, mark: &Kept, newline: Option<Waiting>)
     requires { IsSome newline → vec_len settled.old < vec_capacity settled.old }
     ensures items { reverse settled.new.items ≡ settled_after mark.now newline (reverse settled.old.items) }
     ensures len { vec_len settled.new ≤ vec_len settled.old + 1 }
     ensures capacity { vec_capacity settled.old ≤ vec_capacity settled.new }
 {
-    match (mark, newline) {
-        (Mark::Text(_), Some(newline)) => settled.push(newline.at).unwrap(),
+    match (&mark.form, newline) {
+        (Form::Text(_), Some(newline)) => settled.push(newline.at).unwrap(),
         _ => {}
     }
 }
 
 /// Takes back what `settle` did.
-pub(crate) fn unsettle(settled: &mut Vec<usize>, mark: &Mark, newline: Option<Waiting>)
+pub(crate) fn unsettle(settled: &mut Vec<usize>, mark: &Kept, newline: Option<Waiting>)
     ensures { (before : List ℕ) → reverse settled.old.items ≡ settled_after mark.now newline before → reverse settled.new.items ≡ before }
 {
-    match (mark, newline) {
-        (Mark::Text(_), Some(_)) => {
+    match (&mark.form, newline) {
+        (Form::Text(_), Some(_)) => {
             let _settled = settled.pop();
         }
         _ => {}

@@ -8,7 +8,7 @@ ghost use Rattle.ink_out.specs.Stands.{Knows};
 ghost use Rattle.ink_out.specs.Tracks.{Tracks, reach_of, reached, settled_after, settled_by};
 
 use crate::enters::Enters;
-use ink_model::Mark;
+use crate::kept::{Form, Kept};
 
 /// Which glue that follows hides a newline: one with no text or tag between, any with no text between, or none.
 #[derive(Clone, Copy)]
@@ -74,17 +74,17 @@ impl Tracker {
 
     /// Goes past a mark at an index, where the starts of the numbers up to it are known.
     #[inline(always)]
-    pub(crate) fn add(&mut self, mark: &Mark, at: usize, enters: &Enters)
+    pub(crate) fn add(&mut self, mark: &Kept, at: usize, enters: &Enters)
         ensures { (before : List Mark) (settled : List ℕ) → at ≡ length before → Knows enters.now (mark.now ∷ before) → Tracks before self.old settled → Tracks (mark.now ∷ before) self.new (settled_after mark.now self.old.newline settled) }
     {
-        match mark {
-            Mark::Text(_) => self.text(),
-            Mark::Blank(_) => self.blank(at),
-            Mark::Newline => self.newline(at),
-            Mark::Glue => self.glue(),
-            Mark::Tag(_) => self.tag(),
-            Mark::Enter(_) => self.enter(),
-            Mark::Leave(number) => self.end(*number, enters),
+        match &mark.form {
+            Form::Text(_) => self.text(),
+            Form::Blank(_) => self.blank(at),
+            Form::Newline => self.newline(at),
+            Form::Glue => self.glue(),
+            Form::Tag(_) => self.tag(),
+            Form::Enter(_) => self.enter(),
+            Form::Leave(number) => self.end(*number, enters),
         }
     }
 

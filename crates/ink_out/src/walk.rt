@@ -5,17 +5,20 @@ ghost use Rattle.ink_model.specs.declared.mark.Mark.{Mark};
 ghost use Rattle.ink_model.specs.declared.mark.Mark.TheVariants as kinds;
 ghost use Rattle.ink_model.specs.Shown.{shown_text, text_before};
 ghost use Rattle.ink_out.specs.Cleaning.{Holds, shown_as};
+ghost use Rattle.ink_out.specs.Kept.{said};
 ghost use Rattle.ink_out.specs.Walks.{Walks};
 
 use crate::cleaning::{Shown, room_for};
 use crate::enters::Enters;
+use crate::kept::{Form, Kept, Words};
 use crate::pile::{Held, Pile};
 use crate::tracker::Tracker;
-use ink_model::{Mark, Text};
+use ink_model::Text;
+use itoa::Buffer;
 use std::alloc::{AllocError, Global};
 
 /// The text that marks show, cleaned or as it is. The one error is a refused request for memory.
-pub(crate) fn shown_text(alloc: Global, marks: &[Mark], cleans: bool) -> Result<Text, AllocError>
+pub(crate) fn shown_text(alloc: Global, marks: &[Kept], cleans: bool) -> Result<Text, AllocError>
     ensures { IfOk result (λ text. text ≡ shown_as cleans (shown_text marks.now)) }
 {
     let room = room_for(alloc, most_shown(marks))?;
@@ -27,17 +30,17 @@ pub(crate) fn shown_text(alloc: Global, marks: &[Mark], cleans: bool) -> Result<
 }
 
 // How many bytes these marks show at the most.
-fn most_shown(marks: &[Mark]) -> usize {
+fn most_shown(marks: &[Kept]) -> usize {
     marks
         .iter()
         .fold(0, |sum: usize, mark| sum.saturating_add(shown_by(mark)))
 }
 
-fn shown_by(mark: &Mark) -> usize {
-    match mark {
-        Mark::Text(text) => text.as_str().len(),
-        Mark::Blank(text) => text.as_str().len(),
-        Mark::Newline => 1,
+fn shown_by(mark: &Kept) -> usize {
+    match &mark.form {
+        Form::Text(words) => words.most_len(),
+        Form::Blank(text) => text.as_str().len(),
+        Form::Newline => 1,
         _ => 0,
     }
 }
@@ -69,23 +72,23 @@ impl<'m> Walk<'m> {
     }
 
     /// Goes past the mark at an index. The one error is a refused request for memory.
-    fn add(&mut self, mark: &'m Mark, at: usize) -> Result<(), AllocError>
+    fn add(&mut self, mark: &'m Kept, at: usize) -> Result<(), AllocError>
         ensures { OnOk result ((cleans : Bool) (before : List Mark) → at ≡ length before → Walks cleans before self.old → Walks cleans (mark.now ∷ before) self.new) }
     {
-        match mark {
-            Mark::Text(text) => self.text(text.get()),
-            Mark::Blank(text) => self.blank(text.get(), at),
-            Mark::Newline => self.newline(at),
-            Mark::Glue => {
+        match &mark.form {
+            Form::Text(words) => self.text(words),
+            Form::Blank(text) => self.blank(text.get(), at),
+            Form::Newline => self.newline(at),
+            Form::Glue => {
                 self.glue(at);
                 Ok(())
             }
-            Mark::Tag(_) => {
+            Form::Tag(_) => {
                 self.tag();
                 Ok(())
             }
-            Mark::Enter(_) => self.enter(mark, at),
-            Mark::Leave(number) => {
+            Form::Enter(_) => self.enter(mark, at),
+            Form::Leave(number) => {
                 self.leave(*number);
                 Ok(())
             }
@@ -104,12 +107,13 @@ impl<'m> Walk<'m> {
     }
 
     // A text: nothing hides what waits any more.
-    fn text(&mut self, text: &Text) -> Result<(), AllocError>
-        ensures { OnOk result ((cleans : Bool) (before : List Mark) → Walks cleans before self.old → Walks cleans (kinds.Text text.now ∷ before) self.new) }
+    fn text(&mut self, words: &Words) -> Result<(), AllocError>
+        ensures { OnOk result ((cleans : Bool) (before : List Mark) → Walks cleans before self.old → Walks cleans (kinds.Text (said words.now) ∷ before) self.new) }
     {
         self.held
             .write(&mut self.shown, self.tracker.newline, self.glue)?;
-        self.shown.push_str(text.as_str())?;
+        let mut digits = Buffer::new();
+        self.shown.push_str(words.as_str(&mut digits))?;
         self.held.clear();
         self.tracker.text();
         self.glue = 0;
@@ -151,7 +155,7 @@ impl<'m> Walk<'m> {
     }
 
     // The start of a function's text.
-    fn enter(&mut self, mark: &Mark, at: usize) -> Result<(), AllocError>
+    fn enter(&mut self, mark: &Kept, at: usize) -> Result<(), AllocError>
         ensures { OnOk result ((cleans : Bool) (before : List Mark) (n : ℕ) → mark.now ≡ kinds.Enter n → at ≡ length before → Walks cleans before self.old → Walks cleans (kinds.Enter n ∷ before) self.new) }
     {
         self.enters.note(mark, at)?;

@@ -5,17 +5,17 @@ use Rattle.ink_out.proofs.state.State.add.Goals as goal
 pub returns-in_default : goal.returns-in_default
 returns-in_default c before settled at knows st = record {
   tracks = c.add.ensures before settled at knows st.tracks;
-  more = st.more ∙ sym (more_same c.args.mark.now before c.in_default.not-Text c.in_default.not-Tag);
+  more = rw (← c.mark.view_is) (st.more ∙ sym (more_same c.mark.inside.form before c.in_default.not-Text c.in_default.not-Tag));
 }
 
 pub returns-in-Text : goal.returns-in-Text
 returns-in-Text c before settled at knows st = record {
   tracks = c.add.ensures before settled at knows st.tracks;
-  more = rw c.in-Text.is (ap Some at);
+  more = rw (← c.mark.view_is, c.in-Text.is) (ap Some at);
 }
 
 pub returns-in-Tag : goal.returns-in-Tag
 returns-in-Tag c before settled at knows st = record {
   tracks = c.add.ensures before settled at knows st.tracks;
-  more = rw c.in-Tag.is (ap Some at);
+  more = rw (← c.mark.view_is, c.in-Tag.is) (ap Some at);
 }

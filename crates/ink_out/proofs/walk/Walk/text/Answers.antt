@@ -1,4 +1,5 @@
 use Rattle.std.proofs.Common.{◌++◌}
+use Rattle.ink_out.specs.Kept.{said}
 use Rattle.ink_out.specs.Walks.{pile_now}
 use Rattle.ink_out.proofs.Walking.{walk_text}
 use Rattle.ink_out.proofs.walk.Walk.text.Goals as goal
@@ -7,6 +8,6 @@ pub returns : goal.returns
 returns c cleans before k =
     let w = c.args.self.now in
     rw c.clear.ensures
-    (walk_text before w c.push_str.new.self c.text.new.self c.args.text.now
+    (walk_text before w c.push_str.new.self c.text.new.self (said c.args.words.now)
     (λ written holds. rw c.as_str.ensures at (c.in_ok-push_str.ensures cleans (written ++ pile_now w.tracker.newline w.glue w.held) (c.in_ok-write.ensures cleans written holds)))
-    (c.text.ensures before c.args.text.now) k)
+    (c.text.ensures before (said c.args.words.now)) k)

@@ -1,0 +1,92 @@
+//! Marks as they are kept (docs/TEXT.md, "Marks").
+
+ghost use Rattle.std.specs.Prelude.{◌≡◌, IfOk};
+ghost use Rattle.ink_model.specs.Value.{truth_text};
+ghost use Rattle.ink_out.specs.Kept.{said};
+
+use ink_model::{Shared, Text};
+use itoa::Buffer;
+use std::alloc::{AllocError, Global};
+use std::marker::Model;
+
+/// A mark as it is kept. A contract sees the mark.
+#[derive(Drop)]
+pub(crate) struct Kept {
+    pub(crate) form: Form,
+}
+
+impl Model for Kept {
+    ghost use Rattle.ink_model.specs.declared.mark.Mark.{Mark};
+    ghost use Rattle.ink_out.specs.Kept.{mark_of};
+
+    ghost Value = { Mark };
+
+    ghost view = { λ m. mark_of m.form };
+}
+
+/// Which mark it is.
+#[derive(Drop)]
+pub(crate) enum Form {
+    Text(Words),
+    Blank(Shared<Text>),
+    Newline,
+    Glue,
+    Tag(Shared<Text>),
+    Enter(u64),
+    Leave(Option<u64>),
+}
+
+/// What a text says. What is printed of a number or a truth value is written out where it is shown, so that it takes no memory of
+/// its own.
+#[derive(Drop)]
+pub(crate) enum Words {
+    Text(Shared<Text>),
+    Number(i32),
+    Truth(bool),
+}
+
+/// No number has more digits, its sign counted.
+const MOST_DIGITS: usize = 11;
+
+impl Words {
+    /// What it says. The digits of a number are written into the buffer.
+    #[inline(always)]
+    pub(crate) fn as_str<'w>(&'w self, digits: &'w mut Buffer) -> &'w str
+        ensures { result.now ≡ said self.now }
+    {
+        match self {
+            Words::Text(text) => text.as_str(),
+            Words::Number(number) => digits.format(*number),
+            Words::Truth(truth) => truth_text(*truth),
+        }
+    }
+
+    /// How many bytes it has at the most.
+    #[inline(always)]
+    pub(crate) fn most_len(&self) -> usize {
+        match self {
+            Words::Text(text) => text.as_str().len(),
+            Words::Number(_) => MOST_DIGITS,
+            Words::Truth(truth) => truth_text(*truth).len(),
+        }
+    }
+
+    /// What it says, to be shared: a text is not copied. The one error is a refused request for memory, or a count of owners that
+    /// is full.
+    pub(crate) fn to_shared(&self, alloc: Global) -> Result<Shared<Text>, AllocError>
+        ensures { IfOk result (λ text. text ≡ said self.now) }
+    {
+        if let Words::Text(text) = self {
+            return text.share();
+        }
+        let mut digits = Buffer::new();
+        let text = Text::from_str(alloc, self.as_str(&mut digits))?;
+        Shared::new(alloc, text)
+    }
+}
+
+fn truth_text(truth: bool) -> &'static str
+    ensures { result.now ≡ truth_text truth }
+{
+    if truth { "true" } else { "false" }
+}
