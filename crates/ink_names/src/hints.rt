@@ -204,12 +204,10 @@ fn mixed(
 ) -> usize
     ensures { result ≡ mixed len first sixth fifth fourth third second last }
 {
-    7919 * (len % 4096)
-        + 2_248_091 * first as usize
-        + 100_000 * sixth as usize
-        + 10_000 * fifth as usize
-        + 1000 * fourth as usize
-        + 100 * third as usize
-        + 10 * second as usize
-        + last as usize
+    let mut end = 10 * sixth as usize + fifth as usize;
+    end = 10 * end + fourth as usize;
+    end = 10 * end + third as usize;
+    end = 10 * end + second as usize;
+    end = 10 * end + last as usize;
+    7919 * (len % 4096) + 2_248_091 * first as usize + end
 }

@@ -1,8 +1,8 @@
 -- Frames by their headers and their temporaries.
-use Rattle.std.proofs.Common.{◌≡◌, ◌≢◌, ◌∙◌, ◌<◌, ◌≤◌, ◌+◌, ℕ, zero, suc, List, [], ◌∷◌, ◌++◌, ap, arith, get_or, if◌then◌else◌, length, map, refl, reverse, set, subst, sym, replicate, Bool, true, false, nat_lt, Option, Some, None, inl, inr}
+use Rattle.std.proofs.Common.{◌≡◌, ◌∙◌, ◌<◌, ◌≤◌, ◌+◌, ◌-◌, ℕ, zero, suc, List, [], ◌∷◌, ◌++◌, ap, arith, get_or, if◌then◌else◌, length, map, refl, reverse, set, subst, sym, replicate, Bool, true, false, nat_lt, Option, Some, None, inl, inr}
 use Rattle.std.proofs.lemmas.Bool.{cases_lt}
 use Rattle.std.proofs.lemmas.Bool.Decides.{nat_tests}
-use Rattle.std.proofs.lemmas.List.{get_or-set_same, length-append, length-reverse, reverse-append, set-get_or}
+use Rattle.std.proofs.lemmas.List.{get_or-set_same, length-append, length-replicate, length-reverse, reverse-append, set-get_or}
 use Rattle.ink_model.specs.Frames.{FrameOf, unnumbered_frame}
 use Rattle.ink_model.specs.Store.{Values}
 use Rattle.ink_model.specs.declared.value.Value.{Value}
@@ -182,13 +182,19 @@ module _ {P : Type 0} where
   framed_filled hs ts filled n x rows is many =
       framed_more hs filled x rows many ∙ ap (λ ys. framed hs ys ++ frame_with x rows ∷ []) is ∙ ap (λ fs. fs ++ frame_with x rows ∷ []) (temps_filled hs ts n)
 
-  -- there are temporaries
-  pub not_bare : (f : FrameOf P) → f.temps ≢ [] → is_bare f ≡ false
-  not_bare f some = by f.temps some
+  pub framed_put : (hs : List (Header P)) (ts : List Values) (n : ℕ) (x : Header P) (rows : Values) → n ≡ length hs → length ts ≤ n
+      → framed (hs ++ x ∷ []) (ts ++ replicate (n - length ts) [] ++ rows ∷ []) ≡ framed hs ts ++ frame_with x rows ∷ []
+  framed_put hs ts n x rows is few =
+      let missing = replicate {A = Values} (n - length ts) [] in
+      framed_filled hs ts (ts ++ missing) (n - length ts) x rows refl (omega (arith, length-append ts missing, length-replicate {A = Values} (n - length ts) [], few, is))
+
+  -- there are none
+  pub bare_none : (f : FrameOf P) → is_bare f ≡ true → f.temps ≡ []
+  bare_none f bare = by f.temps bare
     where
-      by : (rows : Values) → rows ≢ [] → is_bare (record f { temps = rows }) ≡ false
-      by [] some = absurd (some refl)
-      by (r ∷ rows) some = refl
+      by : (rows : Values) → is_bare (record f { temps = rows }) ≡ true → rows ≡ []
+      by [] h = refl
+      by (r ∷ rows) h = absurd (cc)
 
   -- other temporaries, where none were put behind the last
   pub temps_put : (hs : List (Header P)) (ts filled : List Values) (n i : ℕ) (rows : Values) (d : FrameOf P) → filled ≡ ts ++ replicate n [] → i < length filled → length filled ≤ length hs

@@ -1,11 +1,14 @@
 -- Where a name stands among rows that rise, by a search that halves them.
-use Rattle.std.proofs.Common.{◌≡◌, ◌∙◌, ◌<◌, ◌≤◌, ◌++◌, ℕ, zero, suc, add-one, List, [], ◌∷◌, true, Result, Ok, Err, Ordering, Less, Equal, Greater, is_lt, length, get_or, take, ap, arith, inl, inr, refl, subst, sym}
+use Rattle.std.proofs.Common.{◌≡◌, ◌∙◌, ◌<◌, ◌≤◌, ◌++◌, ℕ, zero, suc, add-one, List, [], ◌∷◌, true, false, bytes_eq, None, Some, Result, Ok, Err, Ordering, Less, Equal, Greater, is_lt, length, get_or, take, true≢false, ap, arith, inl, inr, refl, subst, sym}
 use Rattle.std.proofs.lemmas.Bool.{cases_lt}
 use Rattle.std.proofs.lemmas.Cmp.{nat_list_cmp_total}
 use Rattle.std.proofs.lemmas.List.{drop_all, drop_more}
 use Rattle.std.proofs.lemmas.Map.Lookups.{exact_bytes}
+use Rattle.std.proofs.lemmas.Map.Text.{is_eq-slice_cmp}
+use Rattle.std.proofs.lemmas.Slice.Eq.{bytes_eq-Decides}
+use Rattle.std.specs.Cmp.{Equal-is}
 use Rattle.std.specs.List.Sorted.{IsBinarySearchResult, IsNonDecreasingBy, IsSearchInRange}
-use Rattle.std.specs.Ordering.{ordering_index, ordering_reverse}
+use Rattle.std.specs.Ordering.{match_ordering, ordering_index, ordering_reverse}
 use Rattle.ink_model.specs.Rows.{is_before, name_order, row, rows_rise, with_row}
 use Rattle.ink_model.specs.Store.{Values}
 use Rattle.ink_model.specs.declared.value.Value.{Value}
@@ -16,6 +19,12 @@ use Rattle.ink_stack.specs.Rows.{FindsName}
 
 turned : (k l : List ℕ) (o : Ordering) → name_order k l ≡ o → name_order l k ≡ ordering_reverse o
 turned k l o e = nat_list_cmp_total.antisymm l k ∙ ap ordering_reverse e
+
+same_bytes : (a b : List ℕ) → a ≡ b → bytes_eq a b ≡ true
+same_bytes a b e = (bytes_eq-Decides a b).1 e
+
+same_names : (a b : List ℕ) → bytes_eq a b ≡ true → name_order a b ≡ Equal
+same_names a b e = (Equal-is (name_order a b)).0 (is_eq-slice_cmp a b ∙ e)
 
 -- a name comes before each of the rows that it comes before
 before_at : (k : List ℕ) (rs : Values) (i : ℕ) (d : List ℕ × Value) → i < length rs → is_before name_order k rs ≡ true → name_order k (get_or rs i d).0 ≡ Less
@@ -94,3 +103,22 @@ found name rows (Ok i) rises inside holds = found_at name rows i ([], Void) rise
 found name rows (Err i) rises within parted =
     let p = parted (ranks name rows rises) in
     missing_at name rows i ([], Void) within (λ j less. p.0 j ([], Void) (omega arith) less) (λ j over inside. p.1 j ([], Void) over inside)
+
+-- ---- by a look at each row
+
+-- the first rows have other names
+abbrev pub Lacks : List ℕ → ℕ → Values → Type 0
+Lacks name i rows = (j : ℕ) (d : List ℕ × Value) → j < i → bytes_eq (get_or rows j d).0 name ≡ false
+
+pub no_row : (name : List ℕ) (rows : Values) → Lacks name (length rows) rows → row name_order name rows ≡ None
+no_row name [] h = refl
+no_row name (r ∷ rs) h = by (name_order name r.0) refl (no_row name rs (λ j d below. h (suc j) d (omega arith)))
+  where
+    by : (o : Ordering) → name_order name r.0 ≡ o → row name_order name rs ≡ None → match_ordering o None (Some r.1) (row name_order name rs) ≡ None
+    by Less e none = refl
+    by Equal e none = absurd (true≢false (sym (same_bytes r.0 name (sym (exact_bytes name r.0 e))) ∙ h zero r (omega arith)))
+    by Greater e none = none
+
+pub row_here : (name : List ℕ) (rows : Values) (i : ℕ) (d : List ℕ × Value) → rows_rise name_order rows ≡ true → i < length rows → bytes_eq (get_or rows i d).0 name ≡ true
+    → row name_order name rows ≡ Some (get_or rows i d).1
+row_here name rows i d rises inside same = (found_at name rows i d rises inside (same_names (get_or rows i d).0 name same)).1 d

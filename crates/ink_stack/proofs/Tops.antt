@@ -5,10 +5,10 @@ use Rattle.std.proofs.lemmas.List.{reverse-append}
 use Rattle.std.proofs.lemmas.Result.{IfOk-weaker, on_err_weaker, on_ok_weaker}
 use Rattle.ink_model.specs.Frames.{FrameOf, ThreadOf, ThreadsOf}
 use Rattle.ink_model.specs.Rows.{name_order, row}
-use Rattle.ink_model.specs.Threads.{back_to, doubled, dropped, dropped_to, frame_count, new_frame, popped, pushed, same_kind, temp_in, thread_count, with_row_in, with_temp}
+use Rattle.ink_model.specs.Threads.{back_to, doubled, dropped, dropped_to, frame_count, popped, same_kind, temp_in, thread_count, with_row_in, with_temp}
 use Rattle.ink_model.specs.declared.fault.Fault.TheVariants.{OutOfMemory, TooDeep}
 use Rattle.ink_model.specs.declared.frame.FrameKind.{FrameKind}
-use Rattle.ink_model.specs.declared.limits.TheConstants.{MAX_FRAMES, MAX_THREADS}
+use Rattle.ink_model.specs.declared.limits.TheConstants.{MAX_THREADS}
 use Rattle.ink_model.specs.declared.value.Value.{Value}
 use Rattle.ink_stack.specs.Cells.{temp_back, with_frame}
 use Rattle.ink_stack.specs.Words.{Changes, Grows}
@@ -22,25 +22,12 @@ no_fewer : (m n : ℕ) → n ≤ m → nat_lt m n ≡ false
 no_fewer m n h = grind (arith, nat_tests)
 
 module _ {P : Type 0} where
-  -- ---- a frame more
-
-  pub pushed_full : (k : FrameKind) (d : ℕ) (t : ThreadOf P) → MAX_FRAMES ≤ frame_count t → Grows {U = Unit} (pushed k d t) t t (Err TooDeep)
-  pushed_full k d t full = rw (no_fewer (frame_count t) MAX_FRAMES full) (refl, refl)
-
-  pub pushed_refused : (k : FrameKind) (d : ℕ) (t : ThreadOf P) → frame_count t < MAX_FRAMES → Grows {U = Unit} (pushed k d t) t t (Err OutOfMemory)
-  pushed_refused k d t few = rw (fewer (frame_count t) MAX_FRAMES few) (refl, refl)
-
-  pub pushed_made : (k : FrameKind) (d : ℕ) (t : ThreadOf P) (f : FrameOf P) (fs : List (FrameOf P)) → frame_count t < MAX_FRAMES → f ≡ new_frame k t.frame.place d → fs ≡ t.frame ∷ t.below
-      → Grows {U = Unit} (pushed k d t) t (record t { frame = f; below = fs }) (Ok tt)
-  pushed_made k d t f fs few top under =
-      rw (fewer (frame_count t) MAX_FRAMES few) (ap (λ g. record t { frame = g; below = fs }) top ∙ ap (λ gs. record t { frame = new_frame k t.frame.place d; below = gs }) under)
-
   -- ---- a frame fewer
 
-  popped_to : (d : ℕ) (t : ThreadOf P) (f g h : FrameOf P) (fs : List (FrameOf P)) → t.frame.depth ≡ d → g ≡ f → Changes (back_to (f ∷ fs) d t) t (record t { frame = g; below = fs }) (Ok h)
+  popped_to : {U : Type 0} (d : ℕ) (t : ThreadOf P) (f g : FrameOf P) (h : U) (fs : List (FrameOf P)) → t.frame.depth ≡ d → g ≡ f → Changes (back_to (f ∷ fs) d t) t (record t { frame = g; below = fs }) (Ok h)
   popped_to d t f g h fs depth top = rw (depth, same_number d) (ap (λ e. record t { frame = e; below = fs }) top)
 
-  pub popped_made : (k : FrameKind) (d : ℕ) (t : ThreadOf P) (f g h : FrameOf P) (fs : List (FrameOf P)) → same_kind t.frame.kind k ≡ true → t.frame.depth ≡ d → t.below ≡ f ∷ fs → g ≡ f
+  pub popped_made : {U : Type 0} (k : FrameKind) (d : ℕ) (t : ThreadOf P) (f g : FrameOf P) (h : U) (fs : List (FrameOf P)) → same_kind t.frame.kind k ≡ true → t.frame.depth ≡ d → t.below ≡ f ∷ fs → g ≡ f
       → Changes (popped k d t) t (record t { frame = g; below = fs }) (Ok h)
   popped_made k d t f g h fs kind depth under top =
       rw kind (subst (λ gs. Changes (back_to gs d t) t (record t { frame = g; below = fs }) (Ok h)) (sym under) (popped_to d t f g h fs depth top))

@@ -6,9 +6,9 @@ use Rattle.ink_trail.proofs.Undoing.{spare-or-kept, stood-none, stood-or-kept, t
 use Rattle.ink_trail.specs.Undo.{KeepsTrail, TrailView, TrailsOrKeeps, Undo, trail_of}
 use Rattle.ink_stack.specs.Threads.{ThreadsView}
 use Rattle.ink_stack.specs.Undo.{Rooms, StaysHeld, threads_back, threads_spare, threads_stood}
-use Rattle.ink_stack.specs.Words.{Grows}
+use Rattle.ink_stack.specs.Words.{Changes, Grows}
 use Rattle.ink_stack.specs.declared.undo.ThreadsPair.{ThreadsPair}
-use Rattle.ink_stack.proofs.Backs.{grown-kept}
+use Rattle.ink_stack.proofs.Backs.{changed-kept, grown-kept}
 use Rattle.ink_stack.proofs.Holding.{held-now, held-unmarked, within-same}
 
 module _ {P : Type 0} where
@@ -26,6 +26,12 @@ module _ {P : Type 0} where
       → is_some old.undo ≡ false → KeepsTrail old new → Grows r was is x → TrailsOrKeeps threads_back n was old is new x
   trails-grown n r was is (Ok u) old new none kept h = trails-unmarked threads_back n was is old new none kept
   trails-grown n r was is (Err f) old new none kept h = (grown-kept r was is (Err f) f refl h, kept)
+
+  -- and one that is not
+  pub trails-changed : {U : Type 0} (n : ℕ) (r : Result (ThreadsOf P) Fault) (was is : ThreadsOf P) (x : Result U Fault) (old new : TrailView (ThreadsPair P))
+      → is_some old.undo ≡ false → KeepsTrail old new → Changes r was is x → TrailsOrKeeps threads_back n was old is new x
+  trails-changed n r was is (Ok u) old new none kept h = trails-unmarked threads_back n was is old new none kept
+  trails-changed n r was is (Err f) old new none kept h = (changed-kept r was is (Err f) f refl h, kept)
 
   -- a call that leaves a trail, or changes nothing where it fails
   pub stood-or : {A F : Type 0} (r : Result A F) (n : ℕ) (old new : ThreadsView P) → TrailsOrKeeps threads_back n old.threads old.trail new.threads new.trail r

@@ -136,6 +136,19 @@ impl<P: Copy> Frame<P> {
         }
     }
 
+    /// A frame without temporaries becomes one as it is pushed, at the place where it is.
+    #[inline(always)]
+    pub(crate) fn begin(&mut self, kind: FrameKind, depth: usize)
+        requires bare { self.old.temps ≡ [] }
+        ensures { self.new ≡ new_frame kind self.old.place depth }
+    {
+        self.header.kind = kind;
+        self.header.evaluating = false;
+        self.header.fresh = matches!(kind, FrameKind::Function);
+        self.header.depth = depth;
+        self.header.enter = None;
+    }
+
     /// A copy. The one error is a refused request for memory, which a frame without temporaries never makes.
     #[inline(always)]
     pub(crate) fn clone_in(&self, alloc: Global) -> Result<Frame<P>, AllocError>
@@ -147,15 +160,6 @@ impl<P: Copy> Frame<P> {
             header: self.header,
             temps,
         })
-    }
-
-    /// Its header and its temporaries.
-    #[inline(always)]
-    pub(crate) fn parts(self) -> (Header<P>, Temps)
-        ensures { frame_with result.0 result.1 ≡ self }
-    {
-        let Frame { header, temps } = self;
-        (header, temps)
     }
 
     /// Whether there are no temporaries.

@@ -15,6 +15,7 @@ use crate::temps::{TempName, Temps};
 use ink_model::Value;
 use std::alloc::{AllocError, Global};
 use std::marker::Model;
+use std::mem;
 
 /// Frames, the bottom one first: their headers, and the temporaries of the lowest ones, up to the last that has any or further. So
 /// frames without temporaries are copied as a whole, and are let go without a look. A contract sees the frames, how many fit without
@@ -191,15 +192,25 @@ impl<P: Copy> Frames<P> {
         ensures items { self.new.items ≡ self.old.items ++ frame ∷ [] }
         ensures room { self.new.room ≡ self.old.room }
     {
-        let (header, temps) = frame.parts();
-        if temps.is_empty() {
-            self.headers.push_reserved(header);
+        let mut frame = frame;
+        self.push_from(&mut frame);
+    }
+
+    /// The same of a frame that is left without its temporaries.
+    #[inline(always)]
+    pub(crate) fn push_from(&mut self, frame: &mut Frame<P>)
+        requires { FitsIn self.old.room (frame.old ∷ reverse self.old.items) }
+        ensures items { self.new.items ≡ self.old.items ++ frame.old ∷ [] }
+        ensures room { self.new.room ≡ self.old.room }
+        ensures frame { frame.new ≡ record frame.old { temps = [] } }
+    {
+        if frame.is_bare() {
+            self.headers.push_reserved(frame.header);
             return;
         }
-        let missing = self.headers.len() - self.temps.len();
-        fill(self.alloc, &mut self.temps, missing);
-        self.temps.push_reserved(temps);
-        self.headers.push_reserved(header);
+        let index = self.headers.len();
+        put_last(self.alloc, &mut self.temps, index, &mut frame.temps);
+        self.headers.push_reserved(frame.header);
     }
 
     /// Takes the last frame out, where there is one.
@@ -210,6 +221,19 @@ impl<P: Copy> Frames<P> {
         let header = self.headers.pop()?;
         let temps = take_last(self.alloc, &mut self.temps, self.headers.len());
         Some(Frame { header, temps })
+    }
+
+    /// Takes the last frame out, which is there, and puts it in the place of another.
+    #[inline(always)]
+    pub(crate) fn pop_into(&mut self, frame: &mut Frame<P>)
+        requires { self.old.items ≢ [] }
+        ensures items { self.old.items ≡ self.new.items ++ frame.new ∷ [] }
+        ensures room { self.new.room ≡ self.old.room }
+    {
+        if let Some(header) = self.headers.pop() {
+            take_last_into(&mut self.temps, self.headers.len(), &mut frame.temps);
+            frame.header = header;
+        }
     }
 
     /// No frame has the number of its mark any more.
@@ -245,6 +269,39 @@ fn take_last(alloc: Global, temps: &mut Vec<Temps>, index: usize) -> Temps
         Some(last) => last,
         None => Temps::new(alloc),
     }
+}
+
+/// The same, in the place of other temporaries.
+#[inline(always)]
+fn take_last_into(temps: &mut Vec<Temps>, index: usize, own: &mut Temps)
+    requires { length temps.old.items ≤ index + 1 }
+    ensures taken { length temps.old.items ≡ index + 1 → temps.old.items ≡ temps.new.items ++ own.new ∷ [] }
+    ensures none { length temps.old.items ≤ index → (temps.new.items ≡ temps.old.items) × (own.new ≡ []) }
+    ensures few { length temps.new.items ≤ index }
+    ensures room { vec_capacity temps.new ≡ vec_capacity temps.old }
+{
+    if index >= temps.len() {
+        own.clear();
+        return;
+    }
+    if let Some(last) = temps.pop() {
+        *own = last;
+    }
+}
+
+/// Temporaries of the frame at an index come last, and are taken from where they are; frames below it of which none are kept have
+/// none. There is room for them.
+#[inline(never)]
+fn put_last(alloc: Global, temps: &mut Vec<Temps>, index: usize, own: &mut Temps)
+    requires below { length temps.old.items ≤ index }
+    requires room { index < vec_capacity temps.old }
+    ensures items { temps.new.items ≡ temps.old.items ++ replicate (index - length temps.old.items) [] ++ own.old ∷ [] }
+    ensures own { own.new ≡ [] }
+    ensures room { vec_capacity temps.new ≡ vec_capacity temps.old }
+{
+    let missing = index - temps.len();
+    fill(alloc, temps, missing);
+    temps.push_reserved(mem::replace(own, Temps::new(alloc)));
 }
 
 /// Makes the list at least so long: where it is shorter, temporaries of frames that have none are put behind it. The one error is a

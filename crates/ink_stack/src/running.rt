@@ -208,11 +208,10 @@ impl<P: Copy> Running<P> {
         let Ok(_) = self.below.make_room(&self.frame) else {
             return Err(Fault::OutOfMemory);
         };
-        let frame = Frame::new(self.alloc, kind.frame_kind(), self.frame.place(), depth);
-        let caller = mem::replace(&mut self.frame, frame);
-        self.quiet = caller.quiet_above(self.quiet);
-        self.numbered = self.numbered || caller.number().is_some();
-        self.below.push_reserved(caller);
+        self.quiet = self.frame.quiet_above(self.quiet);
+        self.numbered = self.numbered || self.frame.number().is_some();
+        self.below.push_from(&mut self.frame);
+        self.frame.begin(kind.frame_kind(), depth);
         Ok(())
     }
 
@@ -235,6 +234,22 @@ impl<P: Copy> Running<P> {
             }
             None => Err(Fault::BadPop),
         }
+    }
+
+    // The same, and the frame goes. Its temporaries may keep their memory for those that come next.
+    pub(crate) fn pop_away(&mut self, kind: FrameKind, depth: usize) -> Result<(), Fault>
+        ensures thread { Changes (popped kind depth self.old.thread) self.old.thread self.new.thread result }
+        ensures room { self.new.room ≡ self.old.room }
+    {
+        if self.below.len() == 0 || !self.frame.is(kind) {
+            return Err(Fault::BadPop);
+        }
+        if depth != self.frame.depth() {
+            return Err(Fault::BadMode);
+        }
+        self.below.pop_into(&mut self.frame);
+        self.quiet = quiet_below(&self.frame, self.quiet);
+        Ok(())
     }
 
     /// What a frame has by a name; none where there is no such frame or name.

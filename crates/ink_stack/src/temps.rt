@@ -48,6 +48,7 @@ pub(crate) struct Temps {
 }
 
 impl Drop for Temps {
+    #[inline(never)]
     fn drop(self) {
         let Temps { rows: _, alloc: _ } = self;
     }
@@ -85,6 +86,27 @@ impl Temps {
         self.rows.is_empty()
     }
 
+    /// No temporaries any more. Few rows keep their memory, for those that come next.
+    #[inline(always)]
+    pub(crate) fn clear(&mut self)
+        ensures { self.new ≡ [] }
+    {
+        if !self.rows.is_empty() {
+            self.clear_rows();
+        }
+    }
+
+    #[inline(never)]
+    fn clear_rows(&mut self)
+        ensures { self.new ≡ [] }
+    {
+        if self.rows.capacity() <= FEW {
+            self.rows.clear();
+        } else {
+            self.rows = Vec::new(self.alloc);
+        }
+    }
+
     /// A copy. The one error is a refused request for memory, which no temporaries never make.
     #[inline(always)]
     pub(crate) fn clone_in(&self, alloc: Global) -> Result<Temps, AllocError>
@@ -116,8 +138,12 @@ impl Temps {
     pub(crate) fn get(&self, name: &str) -> Option<&Value>
         ensures { option_map (λ value. value.now) result ≡ row name_order name.now self.now }
     {
-        match find(self.rows.as_slice(), name) {
-            Ok(index) => Some(&self.rows[index].1),
+        let rows = self.rows.as_slice();
+        if rows.len() <= FEW {
+            return value_of(rows, name);
+        }
+        match find_by_halves(rows, name) {
+            Ok(index) => Some(&rows[index].1),
             Err(_) => None,
         }
     }
@@ -196,6 +222,19 @@ fn find(rows: &[(Shared<Text>, Value)], name: &str) -> Result<usize, usize>
         return find_one_by_one(rows, name);
     }
     find_by_halves(rows, name)
+}
+
+// The value of a name among rows that are looked at one by one: whether two names are the same is soon seen.
+fn value_of<'a>(rows: &'a [(Shared<Text>, Value)], name: &str) -> Option<&'a Value>
+    requires { rows_rise name_order rows.now ≡ true }
+    ensures { option_map (λ value. value.now) result ≡ row name_order name.now rows.now }
+{
+    for row in rows {
+        if row.0.as_str() == name {
+            return Some(&row.1);
+        }
+    }
+    None
 }
 
 fn find_one_by_one(rows: &[(Shared<Text>, Value)], name: &str) -> Result<usize, usize>

@@ -332,13 +332,9 @@ impl<P: Copy> Threads<P> {
         if self.trail.is_marked() {
             return self.pop_frame_marked(kind, depth);
         }
-        let popped = self.running.pop(kind, depth);
+        let popped = self.running.pop_away(kind, depth);
         self.running.within();
-        match popped {
-            Ok(_frame) => {}
-            Err(fault) => return Err(fault),
-        }
-        Ok(())
+        popped
     }
 
     // As `pop_frame`, while a mark stands.

@@ -1,0 +1,13 @@
+use Rattle.std.proofs.Common.{◌∙◌, [], ◌∷◌, ap, arith, length}
+use Rattle.std.proofs.lemmas.List.{length-append}
+use Rattle.ink_stack.specs.Frames.{framed}
+use Rattle.ink_stack.proofs.Flat.{last_taken}
+use Rattle.ink_stack.proofs.frames.Frames.pop_into.Goals as goal
+
+pub returns-in-Some-clause-items : goal.returns-in-Some-clause-items
+returns-in-Some-clause-items g c =
+    let hs = c.pop.new.self.items in
+    let ts = c.self.inside.temps.items in
+    let few = ap length c.in-Some.ensures.items in
+    rw (← c.self.view_is) (ap (λ xs. framed xs ts) c.in-Some.ensures.items ∙ last_taken hs c.in-Some.header ts c.take_last_into.new.temps.items c.take_last_into.new.own
+    (omega (arith, few, length-append hs (c.in-Some.header ∷ []), c.self.invariant)) (λ is. c.take_last_into.ensures.taken (omega (arith, is, c.pop.new.self.ok.0))) (λ is. c.take_last_into.ensures.none (omega (arith, is, c.pop.new.self.ok.0))))
