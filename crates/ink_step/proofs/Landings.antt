@@ -1,7 +1,7 @@
 -- Where diverts land.
-use Rattle.std.proofs.Common.{◌≡◌, ◌∙◌, ap, sym, refl, ℕ, List, [], Some, None, Result, option_map}
+use Rattle.std.proofs.Common.{◌≡◌, ◌∙◌, ap, sym, refl, ℕ, List, [], Some, None, Option, Result, ok_or, option_map, true}
 use Rattle.ink_check.specs.Names.{names, number_in, variable_number, variable_of}
-use Rattle.ink_model.specs.Acceptance.{content_counted, content_target, counted_container, leads, leaf_target, written_target}
+use Rattle.ink_model.specs.Acceptance.{content_counted, content_target, counted_container, lands_to, leads, leaf_target, written_target}
 use Rattle.ink_model.specs.Effect.{Context, Landing as Goal}
 use Rattle.ink_model.specs.Frames.{ThreadOf, map_thread}
 use Rattle.ink_model.specs.Path.{ends_in_index, target}
@@ -14,6 +14,7 @@ use Rattle.ink_model.specs.declared.content.Destination.TheVariants as destinati
 use Rattle.ink_model.specs.declared.content.Leaf.{Leaf}
 use Rattle.ink_model.specs.declared.content.Leaf.TheVariants.{Count}
 use Rattle.ink_model.specs.declared.fault.Fault.{Fault}
+use Rattle.ink_model.specs.declared.fault.Fault.TheVariants.{BadTarget}
 use Rattle.ink_model.specs.declared.place.Part.{Part}
 use Rattle.ink_model.specs.declared.place.Path.{Path}
 use Rattle.ink_model.specs.declared.value.Value.TheVariants as value
@@ -59,6 +60,12 @@ landed_on s path to leads enters =
 -- or nowhere
 pub landed_nowhere : (s : StoryTree) (path : Path) → None ≡ target s [] path → None ≡ landing_by s (value.Target path)
 landed_nowhere s path leads = ap (option_map (λ q. record { place = q; enters = ends_in_index path.parts })) leads
+
+-- content by a written path
+pub written_to : (s : StoryTree) (p : List Part) (seen : Context) (to : Destination) (globals : Values) (text : List ℕ) (q : Option (List Part))
+    → to ≡ destination.Path text → q ≡ written_target s p → written_target s p ≡ lands_to s p to → ok_or (option_map (λ r. record { place = r; enters = true }) q) BadTarget ≡ led_to s p seen to globals
+written_to s p seen to globals text q by found written =
+    ap (λ o. ok_or (option_map (λ r. record { place = r; enters = true }) o) BadTarget) (found ∙ written ∙ ap (lands_to s p) by) ∙ ap (λ d. led_to s p seen d globals) (sym by)
 
 -- content by a variable, which is looked for under the spots that stand for places
 pub held_to : (s : StoryTree) (p : List Part) (seen : Context) (to : Destination) (globals : Values) (name : List ℕ) (t : ThreadOf Spot) (led : Result Goal Fault)

@@ -49,7 +49,7 @@ pub(crate) fn turns_since(
 
 // A container is entered in a turn, as at its start. The one error is a refused request for memory, which is made only for a row
 // that is not there, and where a mark stands and there is no room for its notes.
-#[inline(never)]
+#[inline(always)]
 fn enter(tree: &Tree, counts: &mut Counts, container: NodeId, turn: Turn) -> Result<(), Fault>
     ensures ok { let s = story_tree tree.now in let q = node_place s container in
         OnOk result (counts_in s counts.new.rows ≡ rules.visited place_order q (flags_at (at s q)) true turn (counts_in s counts.old.rows)) }
@@ -58,10 +58,28 @@ fn enter(tree: &Tree, counts: &mut Counts, container: NodeId, turn: Turn) -> Res
         OnErr result ((rules.adds_row place_order q (flags_at (at s q)) (counts_in s counts.old.rows) ≡ true) ⊎ (lacks (counts_stood counts.new) (counts_spare counts.new) 2 ≡ true)) }
     ensures mark { counts_stood counts.new ≡ counts_stood counts.old }
 {
-    let flags = tree.flags(container);
-    if flags == 0 {
+    if tree.flags(container) == 0 {
         return Ok(());
     }
+    enter_flagged(tree, counts, container, turn)
+}
+
+// The same with a call, for a container that may have flags.
+#[inline(never)]
+fn enter_flagged(
+    tree: &Tree,
+    counts: &mut Counts,
+    container: NodeId,
+    turn: Turn,
+) -> Result<(), Fault>
+    ensures ok { let s = story_tree tree.now in let q = node_place s container in
+        OnOk result (counts_in s counts.new.rows ≡ rules.visited place_order q (flags_at (at s q)) true turn (counts_in s counts.old.rows)) }
+    ensures fault { IfErr result (λ f. f ≡ Fault.OutOfMemory) }
+    ensures memory { let s = story_tree tree.now in let q = node_place s container in
+        OnErr result ((rules.adds_row place_order q (flags_at (at s q)) (counts_in s counts.old.rows) ≡ true) ⊎ (lacks (counts_stood counts.new) (counts_spare counts.new) 2 ≡ true)) }
+    ensures mark { counts_stood counts.new ≡ counts_stood counts.old }
+{
+    let flags = tree.flags(container);
     ready_counts(counts, 2)?;
     counts.visit(tree.number_of(container), flags, true, turn)
 }

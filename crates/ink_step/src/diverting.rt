@@ -1,16 +1,18 @@
 //! Diverts (docs/RUNNING.md, "Diverts").
 
 ghost use Rattle.ink_value.specs.Undo.{stack_spare, stack_stood};
-ghost use Rattle.std.specs.Prelude.{◌≡◌, ℕ, Bool, false, Option, option_map, ◌≤◌, ◌+◌};
+ghost use Rattle.std.specs.Prelude.{◌≡◌, ℕ, Bool, List, true, false, Option, option_map, ◌≤◌, ◌+◌};
 ghost use Rattle.ink_check.specs.Names.{variable_number};
 ghost use Rattle.ink_check.specs.Words.{story_tree};
 ghost use Rattle.ink_model.specs.Acceptance.{lands_to, written_target};
+ghost use Rattle.ink_model.specs.Effect.{Fields, Lands, or_fault};
 ghost use Rattle.ink_model.specs.Page.{Page};
 ghost use Rattle.ink_model.specs.Step.Diverts as rules;
-ghost use Rattle.ink_model.specs.Step.Diverts.{condition, divert, leaving_fields, led_to};
+ghost use Rattle.ink_model.specs.Step.Diverts.{condition, divert, divert_to, leaving_fields, led_to};
 ghost use Rattle.ink_model.specs.Store.{Values};
 ghost use Rattle.ink_model.specs.Variables.{read};
 ghost use Rattle.ink_model.specs.declared.value.Value.TheVariants.{Target};
+ghost use Rattle.ink_model.specs.declared.value.Value.{Value as Data};
 ghost use Rattle.ink_step.specs.Performs.{Performs, fields, landing_of, leading, led_as};
 ghost use Rattle.ink_step.specs.Words.{Rest, seen_by};
 ghost use Rattle.ink_tree.specs.Nodes.{place_of};
@@ -47,14 +49,63 @@ pub(crate) fn divert(
     ensures mark { stack_stood stack.new ≡ stack_stood stack.old }
 {
     match is_wanted(conditional, stack) {
-        Ok(true) => match destination(story, here, to, globals, threads) {
-            Ok(landing) => {
-                *transfer = Transfer::Land(landing);
+        Ok(true) => land(story, here, to, globals, threads, transfer),
+        Ok(false) => Ok(()),
+        Err(fault) => Err(fault),
+    }
+}
+
+// Flow lands where a divert leads, with the faults of `destination`.
+#[inline(always)]
+fn land(
+    story: &Story,
+    here: Spot,
+    to: &Destination,
+    globals: &Globals,
+    threads: &Threads<Spot>,
+    transfer: &mut Transfer<'_>,
+) -> Result<(), Fault>
+    requires { let s = story_tree story.now in written_target s (place_of s here) ≡ lands_to s (place_of s here) to.now }
+    ensures { let s = story_tree story.now in (evaluating : Bool) (fresh : Option ℕ) (stack : List Data) (page : Page) (rest : Rest) → let f = fields evaluating fresh stack page globals.now.rows in
+        Performs s false (divert_to s (place_of s here) (seen_by s threads.now.threads rest) to.now f) f (leading result transfer.new) }
+{
+    match to {
+        Destination::Path(_) => match written_landing(story, here) {
+            Some(place) => {
+                *transfer = Transfer::Land(entering(place));
                 Ok(())
             }
-            Err(fault) => Err(fault),
+            None => Err(Fault::BadTarget),
         },
-        Ok(false) => Ok(()),
+        Destination::Variable(name) => land_in(
+            story,
+            here,
+            globals,
+            threads,
+            name.as_str(),
+            transfer,
+        ),
+    }
+}
+
+// Flow lands where the target leads that a variable is read as, with the faults of `landing_in`.
+#[inline(never)]
+fn land_in(
+    story: &Story,
+    here: Spot,
+    globals: &Globals,
+    threads: &Threads<Spot>,
+    name: &str,
+    transfer: &mut Transfer<'_>,
+) -> Result<(), Fault>
+    ensures { let s = story_tree story.now in (new : Fields)
+        → Performs s false (or_fault (rules.led_by s (read globals.now.rows threads.now.threads.thread name.now)) (λ l. Lands l new)) new (leading result transfer.new) }
+{
+    match landing_held(story, here, globals, threads, name) {
+        Ok(landing) => {
+            *transfer = Transfer::Land(landing);
+            Ok(())
+        }
         Err(fault) => Err(fault),
     }
 }
@@ -96,13 +147,21 @@ pub(crate) fn destination(
 {
     match to {
         Destination::Path(_) => match written_landing(story, here) {
-            Some(place) => Ok(Landing {
-                place,
-                enters: true,
-            }),
+            Some(place) => Ok(entering(place)),
             None => Err(Fault::BadTarget),
         },
         Destination::Variable(name) => landing_in(story, here, globals, threads, name.as_str()),
+    }
+}
+
+// The landing of a written path, which enters containers around.
+#[inline(always)]
+fn entering(place: Spot) -> Landing
+    ensures { result ≡ record { place = place; enters = true } }
+{
+    Landing {
+        place,
+        enters: true,
     }
 }
 
@@ -110,6 +169,20 @@ pub(crate) fn destination(
 /// where it is no target, or the target leads nowhere.
 #[inline(never)]
 fn landing_in(
+    story: &Story,
+    here: Spot,
+    globals: &Globals,
+    threads: &Threads<Spot>,
+    name: &str,
+) -> Result<Landing, Fault>
+    ensures { let s = story_tree story.now in led_as s result ≡ rules.led_by s (read globals.now.rows threads.now.threads.thread name.now) }
+{
+    landing_held(story, here, globals, threads, name)
+}
+
+// The same without a call.
+#[inline(always)]
+fn landing_held(
     story: &Story,
     here: Spot,
     globals: &Globals,
@@ -127,6 +200,7 @@ fn landing_in(
 
 /// Where a value leads that was read from a variable, or popped: a target to the very place that it names, none where that is
 /// nowhere; another value leads nowhere.
+#[inline(always)]
 pub(crate) fn landing_by(story: &Story, value: &Value) -> Option<Landing>
     ensures { let s = story_tree story.now in option_map (landing_of s) result ≡ rules.landing_by s value.now }
 {
@@ -137,6 +211,7 @@ pub(crate) fn landing_by(story: &Story, value: &Value) -> Option<Landing>
 }
 
 /// Where a target leads: to the very place that its path names. It enters containers around only where that ends in an index.
+#[inline(always)]
 pub(crate) fn landing_on(story: &Story, path: &Path) -> Option<Landing>
     ensures { let s = story_tree story.now in option_map (landing_of s) result ≡ rules.landing_by s (Target path.now) }
 {

@@ -310,9 +310,9 @@ impl Machine {
     {
         match transfer {
             Transfer::Wrote => self.finish_text(story),
-            Transfer::Land(to) => self.finish_divert(story, *to),
+            Transfer::Land(to) => self.finish_divert(story, to),
             Transfer::Store(..) => self.finish_stored(story, transfer),
-            Transfer::Call(kind, to) => self.finish_call(story, *kind, *to),
+            Transfer::Call(kind, to) => self.finish_call(story, *kind, to),
             Transfer::Return(kind, to) => self.finish_return(story, *kind, *to),
             _ => self.finish_other(story, transfer),
         }
@@ -333,14 +333,14 @@ impl Machine {
 
     // The same after a divert.
     #[inline(never)]
-    fn finish_divert(&mut self, story: &Story, to: Landing) -> Result<StepEnd, Fault>
+    fn finish_divert(&mut self, story: &Story, to: &Landing) -> Result<StepEnd, Fault>
         requires room { MOVING + 4 ≤ threads_spare self.old.flow.threads }
-        ensures ends { Finishes (story_tree story.now) self.old (Transfer.Land to) self.new result }
+        ensures ends { Finishes (story_tree story.now) self.old (Transfer.Land to.now) self.new result }
         ensures start { start_of self.new ≡ start_of self.old }
         ensures aside { aside_in self.new ≡ aside_in self.old }
         ensures mark { stood_of self.new ≡ stood_of self.old }
     {
-        let mut transfer = Transfer::Land(to);
+        let mut transfer = Transfer::Land(*to);
         self.finish_by(story, &mut transfer)
     }
 
@@ -365,14 +365,14 @@ impl Machine {
 
     // The same after a call.
     #[inline(never)]
-    fn finish_call(&mut self, story: &Story, kind: CallKind, to: Landing) -> Result<StepEnd, Fault>
+    fn finish_call(&mut self, story: &Story, kind: CallKind, to: &Landing) -> Result<StepEnd, Fault>
         requires room { MOVING + 4 ≤ threads_spare self.old.flow.threads }
-        ensures ends { Finishes (story_tree story.now) self.old (Transfer.Call kind to) self.new result }
+        ensures ends { Finishes (story_tree story.now) self.old (Transfer.Call kind to.now) self.new result }
         ensures start { start_of self.new ≡ start_of self.old }
         ensures aside { aside_in self.new ≡ aside_in self.old }
         ensures mark { stood_of self.new ≡ stood_of self.old }
     {
-        let mut transfer = Transfer::Call(kind, to);
+        let mut transfer = Transfer::Call(kind, *to);
         self.finish_by(story, &mut transfer)
     }
 

@@ -13,7 +13,7 @@ const MOST: usize = 0x8000_0000;
 /// So many slots there are at least, so that the few names of a small story seldom share one.
 const LEAST: usize = 1024;
 
-/// An odd number whose bits are without order: what is multiplied by it has in its upper half bits of all that it was.
+/// An odd number whose bits are without order: of what is multiplied by it the uppermost bits come of all that it was.
 const SPREAD: usize = 0x9e37_79b9_7f4a_7c15;
 
 /// The numbers of the contents in each container, in order: a block for each, and where it ends. And at the slot of a container
@@ -139,7 +139,7 @@ fn note(numbers: &mut Vec<u32>, place: usize, number: usize)
     }
 }
 
-// How many slots so many names have: four times as many or more, a power of two, so that a slot is found without a division.
+// How many slots so many names have: four times as many or more, a power of two.
 fn slots_for(count: usize) -> usize
     ensures power { IsPowerOfTwo result }
     ensures enough { count ≤ 2 ^ 31 → 4 * count ≤ result }
@@ -149,22 +149,27 @@ fn slots_for(count: usize) -> usize
     slots.max(LEAST)
 }
 
-// The slot of a container and a name, of so many. Names of one form, with a number each, are spread as any others.
+// The slot of a container and a name, of so many. Names of one form, with a number each, are spread as any others. A name is mixed
+// eight bytes at a time, then four, then one.
 fn slot(container: usize, name: &str, slots: usize) -> usize {
-    if slots == 0 {
-        return 0;
-    }
     let mut mixed = container;
-    let (words, others) = name.as_bytes().as_chunks::<4>();
+    let (words, others) = name.as_bytes().as_chunks::<8>();
     for word in words {
-        mixed = mixed
-            .wrapping_mul(31)
-            .wrapping_add(u32::from_le_bytes(*word) as usize);
+        mixed = mix(mixed, u64::from_le_bytes(*word) as usize);
+    }
+    let (words, others) = others.as_chunks::<4>();
+    for word in words {
+        mixed = mix(mixed, u32::from_le_bytes(*word) as usize);
     }
     for byte in others {
-        mixed = mixed.wrapping_mul(31).wrapping_add(*byte as usize);
+        mixed = mix(mixed, *byte as usize);
     }
-    (mixed.wrapping_mul(SPREAD) >> 32) & (slots - 1)
+    let spread = mixed.wrapping_mul(SPREAD) >> 32;
+    spread.wrapping_mul(slots) >> 32
+}
+
+fn mix(mixed: usize, part: usize) -> usize {
+    mixed.wrapping_mul(31).wrapping_add(part)
 }
 
 // Counts one more at an index, and answers the count before; the length, where there is no such index.

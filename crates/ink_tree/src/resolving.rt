@@ -57,7 +57,7 @@ impl Tree {
     }
 
     // The same by a name.
-    #[inline(never)]
+    #[inline(always)]
     fn step_named(&self, here: NodeId, name: &str) -> Option<NodeId>
         ensures { option_map (node_place (story_tree self.now)) result
             ≡ stepped (story_tree self.now) (node_place (story_tree self.now) here) (Name name.now) }

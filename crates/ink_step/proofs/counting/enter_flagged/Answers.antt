@@ -6,7 +6,7 @@ use Rattle.ink_model.specs.Rows.{place_order}
 use Rattle.ink_model.specs.Tree.{at}
 use Rattle.ink_step.specs.Words.{counts_in}
 use Rattle.ink_step.proofs.Visits.{adds_at, lacks_row, visited_at}
-use Rattle.ink_step.proofs.counting.enter.Goals as goal
+use Rattle.ink_step.proofs.counting.enter_flagged.Goals as goal
 use Rattle.ink_tree.specs.Nodes.{node_place, story_tree}
 
 pub returns-clause-ok : goal.returns-clause-ok
