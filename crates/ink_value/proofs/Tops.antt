@@ -1,19 +1,22 @@
 -- The values at the top of a stack.
-use Rattle.std.proofs.Common.{◌≡◌, ◌≢◌, ◌∙◌, slice_get, slice_set, Bool, ℕ, zero, suc, ◌+◌, ◌-◌, ◌<◌, ◌≤◌, true, false, ap, sym, subst, refl, inl, inr, List, [], ◌∷◌, ◌++◌, length, take, drop, Option, Some, None, option_map, option_and_then, Result, Ok, Err, arith}
+use Rattle.std.proofs.Common.{◌≡◌, ◌≢◌, ◌∙◌, slice_get, slice_set, Bool, ℕ, ℤ, zero, suc, ◌+◌, ◌-◌, ◌<◌, ◌≤◌, true, false, ap, sym, subst, refl, inl, inr, List, [], ◌∷◌, ◌++◌, length, take, drop, Option, Some, None, option_map, option_and_then, Result, Ok, Err, arith}
 use Rattle.std.proofs.Math.Seq.{append_snoc, drop-length, take-length, take-suc-set}
 use Rattle.std.proofs.lemmas.List.{append-nil, drop-append-le, length-drop, length-set, take-append-le, take_all}
 use Rattle.std.proofs.lemmas.Bool.{true_from_ne_false}
 use Rattle.ink_model.specs.Asks.{operator_asks}
 use Rattle.ink_model.specs.Joining.{makes_text}
 use Rattle.ink_model.specs.Memory.{Gives}
-use Rattle.ink_model.specs.Operator.{apply, takes}
+use Rattle.ink_model.specs.Operator.{apply, of_numbers, takes}
 use Rattle.ink_model.specs.Stack.{applied, applied_to, on_top, popped, taken}
 use Rattle.ink_model.specs.VariableMemory.{on_popped}
 use Rattle.ink_value.specs.Stack.{with_top}
 use Rattle.ink_model.specs.declared.fault.Fault.{Fault}
 use Rattle.ink_model.specs.declared.fault.Fault.TheVariants.{StackEmpty}
 use Rattle.ink_model.specs.declared.operator.Op.{Op}
+use Rattle.ink_model.specs.declared.operator.Op.TheVariants as op
 use Rattle.ink_model.specs.declared.value.Value.{Value}
+use Rattle.ink_value.proofs.Operands.{operand_number}
+use Rattle.ink_value.specs.Words.{number_of}
 
 pub top_of : (vs : List Value) (v : Value) → popped (vs ++ v ∷ []) ≡ Some (v, vs)
 top_of [] v = refl
@@ -97,6 +100,31 @@ module _ (o : Op) (vs : List Value) (below : ℕ) (enough : length vs ≡ below 
 
   pub asks : makes_text o (take (length xs - below) (drop below xs)) ≢ false → operator_asks o (taken (takes o) vs []) ≡ true
   asks h = ap (operator_asks o) operands ∙ true_from_ne_false _ h
+
+-- ---- an operator on two values on top that count for numbers
+
+two_taken : (vs xs : List Value) (below : ℕ) (v w : Value) → xs ≡ vs → length vs ≡ below + 2 → take (length xs - below) (drop below xs) ≡ v ∷ w ∷ []
+    → taken 2 vs [] ≡ Some (v ∷ w ∷ [], take (length vs - 2) vs)
+two_taken vs xs below v w same enough two =
+    let all : take (length xs - below) (drop below xs) ≡ drop below vs = rw (← length-drop below xs, take-length (drop below xs), same) refl in
+    let at : below ≡ length vs - 2 = omega (arith, enough) in
+    taken_at 2 vs [] below enough ∙ ap (λ ys. Some (ys ++ [], take below vs)) (sym all ∙ two) ∙ ap (λ n. Some (v ∷ w ∷ [], take n vs)) at
+
+-- what makes something of two numbers takes two values
+takes_two : (o : Op) (x y : ℤ) (v : Value) → of_numbers o x y ≡ Ok v → takes o ≡ 2
+takes_two op.Negate x y v h = absurd (cc)
+takes_two op.Not x y v h = absurd (cc)
+takes_two op.Floor x y v h = absurd (cc)
+takes_two op.Ceiling x y v h = absurd (cc)
+takes_two op.Int x y v h = absurd (cc)
+takes_two o x y v h = refl
+
+pub numbers_make : (vs xs : List Value) (below : ℕ) (v w : Value) (x y : ℤ) → xs ≡ vs → length vs ≡ below + 2 → take (length xs - below) (drop below xs) ≡ v ∷ w ∷ []
+    → number_of v ≡ Some x → number_of w ≡ Some y → (o : Op) (made : Value) → of_numbers o x y ≡ Ok made → applied o vs ≡ Ok (take (length vs - 2) vs ++ made ∷ [])
+unfolding apply
+numbers_make vs xs below v w x y same enough two is_x is_y o made h =
+    let makes : apply o (v ∷ w ∷ []) ≡ Ok made = rw (operand_number v x is_x, operand_number w y is_y) h in
+    ap (λ n. applied_to o (taken n vs [])) (takes_two o x y made h) ∙ ap (applied_to o) (two_taken vs xs below v w same enough two) ∙ ap (on_top (take (length vs - 2) vs)) makes
 
 -- the last value in another's place
 pub last_put : (vs : List Value) (n : ℕ) (v : Value) → length vs ≡ suc n → slice_set vs n v ≡ take n vs ++ v ∷ []

@@ -71,8 +71,9 @@ fn of_two(alloc: Global, operator: Op, left: &Value, right: &Value) -> Result<Va
     }
 }
 
+/// The number that an integer or a boolean counts for.
 #[inline(always)]
-fn number_of(value: &Value) -> Option<i32>
+pub(crate) fn number_of(value: &Value) -> Option<i32>
     ensures { result ≡ words.number_of value.now }
 {
     match value {

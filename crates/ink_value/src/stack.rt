@@ -1,6 +1,6 @@
 //! The evaluation stack.
 
-ghost use Rattle.std.specs.Prelude.{◌≡◌, ◌<◌, ◌≤◌, vec_len, vec_capacity, ◌↔◌, ◌⊎◌, [], ◌∷◌, ◌++◌, ◌+◌, true, false, Some, None, is_some, length, option_map, unwrap_or, reverse, slice_get, take, ◌-◌, OnOk, OnErr, IfOk, IfErr, MatchResult};
+ghost use Rattle.std.specs.Prelude.{◌≡◌, ◌<◌, ◌≤◌, vec_len, vec_capacity, ◌↔◌, ◌⊎◌, [], ◌∷◌, ◌++◌, ◌+◌, true, false, Some, None, is_some, length, option_map, unwrap_or, reverse, slice_get, take, ◌-◌, OnOk, OnErr, IfOk, IfErr, IfSome, MatchResult};
 ghost use Rattle.ink_model.specs.Asks.{operator_asks};
 ghost use Rattle.ink_model.specs.Memory.{Leaves, holds_memory};
 ghost use Rattle.ink_model.specs.Operator as rules;
@@ -8,15 +8,19 @@ ghost use Rattle.ink_model.specs.Stack.{applied, popped, taken};
 ghost use Rattle.ink_model.specs.Step.Host.{arguments_on};
 ghost use Rattle.ink_model.specs.VariableMemory.{on_popped};
 ghost use Rattle.ink_trail.specs.Undo.{Begins, Ends, KeepsTrail, Trails, TrailsOrKeeps, trail_of, writes_of};
+ghost use Rattle.ink_model.specs.declared.operator.Op.{Op as Operator};
+ghost use Rattle.ink_model.specs.declared.value.Value.{Value as Data};
 ghost use Rattle.ink_value.specs.Stack.{with_top};
 ghost use Rattle.ink_value.specs.Undo.{stack_back, stack_spare, stack_stood};
 
-use crate::operate::apply;
+use crate::numbers::of_numbers;
+use crate::operate::{apply, number_of};
 use crate::undo::{StackPair, drop_noted, put_back, replace_noted};
 use ink_model::{Fault, MAX_STACK, Op, Value};
 use ink_trail::Trail;
 use std::alloc::{AllocError, Global};
 use std::marker::Model;
+use std::mem::forget;
 
 /// The values that are being evaluated, and while a mark stands the trail of what they were. A contract sees the values from the
 /// bottom up.
@@ -57,6 +61,27 @@ impl EvalStack {
     /// request for memory. On an error nothing has changed.
     #[inline(always)]
     pub fn push(&mut self, value: Value) -> Result<(), Fault>
+        ensures ok { OnOk result (self.new.items ≡ self.old.items ++ value ∷ []) }
+        ensures err { OnErr result (self.new.items ≡ self.old.items) }
+        ensures too_deep { (result ≡ Err Fault.TooDeep) ↔ (length self.old.items ≡ MAX_STACK) }
+        ensures faults { IfErr result (λ f. (f ≡ Fault.TooDeep) ⊎ (f ≡ Fault.OutOfMemory)) }
+        ensures within { length self.new.items ≤ MAX_STACK }
+        ensures trail { TrailsOrKeeps stack_back 1 self.old.items self.old.trail self.new.items self.new.trail result }
+        ensures stood { stack_stood self.new ≡ stack_stood self.old }
+        ensures spare { stack_spare self.old ≤ stack_spare self.new + 1 }
+    {
+        let len = self.items.len();
+        if self.trail.is_marked() || len >= MAX_STACK || len >= self.items.capacity() {
+            return self.push_checked(value);
+        }
+        self.items.push_reserved(value);
+        Ok(())
+    }
+
+    // As `push`, while a mark stands, and where there is no place for the value yet.
+    #[cold]
+    #[inline(never)]
+    fn push_checked(&mut self, value: Value) -> Result<(), Fault>
         ensures ok { OnOk result (self.new.items ≡ self.old.items ++ value ∷ []) }
         ensures err { OnErr result (self.new.items ≡ self.old.items) }
         ensures too_deep { (result ≡ Err Fault.TooDeep) ↔ (length self.old.items ≡ MAX_STACK) }
@@ -196,6 +221,8 @@ impl EvalStack {
     {
         if self.trail.is_marked() {
             drop_noted(&mut self.items, &mut self.trail, count);
+        } else if count == 1 {
+            self.items.pop();
         } else {
             self.items.truncate(self.items.len() - count);
         }
@@ -205,6 +232,47 @@ impl EvalStack {
     /// cells. `StackEmpty` where there are not as many as it takes, else the faults of `apply`: `OutOfMemory` only where it makes
     /// a text of them, and for a refused request for memory while a mark stands. On an error nothing has changed.
     pub fn apply_top(&mut self, alloc: Global, operator: Op) -> Result<(), Fault>
+        ensures stack { Leaves (applied operator self.old.items) self.old.items self.new.items result }
+        ensures memory { result ≡ Err Fault.OutOfMemory → (operator_asks operator (taken (rules.takes operator) self.old.items []) ≡ true) ⊎ (stack_spare self.old < 2) }
+        ensures trail { TrailsOrKeeps stack_back 2 self.old.items self.old.trail self.new.items self.new.trail result }
+        ensures stood { stack_stood self.new ≡ stack_stood self.old }
+        ensures spare { stack_spare self.old ≤ stack_spare self.new + 2 }
+    {
+        if let Some((left, right)) = self.numbers_on_top() {
+            if let Ok(value) = of_numbers(operator, left, right) {
+                self.leave_for_numbers(value);
+                return Ok(());
+            }
+        }
+        self.apply_values(alloc, operator)
+    }
+
+    // What the two values on top count for, where each is an integer or a boolean; none while a mark stands.
+    #[inline(always)]
+    fn numbers_on_top(&self) -> Option<(i32, i32)>
+        ensures numbers { IfSome result (λ numbers. (operator : Operator) (made : Data) → rules.of_numbers operator numbers.0 numbers.1 ≡ Ok made
+            → applied operator self.now.items ≡ Ok (take (length self.now.items - 2) self.now.items ++ made ∷ [])) }
+        ensures there { IfSome result (λ _. 2 ≤ length self.now.items) }
+        ensures unmarked { IfSome result (λ _. is_some self.now.trail.undo ≡ false) }
+    {
+        if self.trail.is_marked() {
+            return None;
+        }
+        let below = self.items.len().checked_sub(2)?;
+        match &self.items[below..] {
+            [Value::Int(left), Value::Int(right)] => Some((*left, *right)),
+            [lower, upper] => {
+                let left = number_of(lower)?;
+                let right = number_of(upper)?;
+                Some((left, right))
+            }
+            _ => None,
+        }
+    }
+
+    // As `apply_top`, for values of any kinds, and while a mark stands.
+    #[inline(never)]
+    fn apply_values(&mut self, alloc: Global, operator: Op) -> Result<(), Fault>
         ensures stack { Leaves (applied operator self.old.items) self.old.items self.new.items result }
         ensures memory { result ≡ Err Fault.OutOfMemory → (operator_asks operator (taken (rules.takes operator) self.old.items []) ≡ true) ⊎ (stack_spare self.old < 2) }
         ensures trail { TrailsOrKeeps stack_back 2 self.old.items self.old.trail self.new.items self.new.trail result }
@@ -227,6 +295,20 @@ impl EvalStack {
             }
             Err(fault) => Err(fault),
         }
+    }
+
+    // A value stands for the two on top, which are integers or booleans and so need not be dropped, while no mark stands.
+    #[inline(always)]
+    fn leave_for_numbers(&mut self, value: Value)
+        requires there { 2 ≤ length self.old.items }
+        requires unmarked { is_some self.old.trail.undo ≡ false }
+        ensures items { self.new.items ≡ take (length self.old.items - 2) self.old.items ++ value ∷ [] }
+        ensures trail { self.new.trail ≡ self.old.trail }
+    {
+        let (right, left) = (self.items.pop(), self.items.pop());
+        forget(right);
+        forget(left);
+        self.items.push_reserved(value);
     }
 
     // A value stands for the one or two on top, from an index on, while no mark stands.

@@ -5,7 +5,7 @@ use Rattle.ink_trail.proofs.Undoing.{stood-trails, trails-one}
 use Rattle.ink_value.specs.Undo.{stack_back, stack_stood}
 use Rattle.ink_value.specs.declared.undo.StackPair.TheVariants.{Pushed}
 use Rattle.ink_value.proofs.Undoing.{held-as, held-with, pushed_back}
-use Rattle.ink_value.proofs.stack.EvalStack.push.Goals as goal
+use Rattle.ink_value.proofs.stack.EvalStack.push_checked.Goals as goal
 
 pub invariant_of-self : goal.invariant_of-self
 invariant_of-self c = (
