@@ -18,11 +18,14 @@ ghost use Rattle.ink_model.specs.MoveMemory.{landed_asks, move_asks, moved_asks,
 ghost use Rattle.ink_model.specs.Place.{next_place};
 ghost use Rattle.ink_model.specs.Step.{acted, call_made, effect, step};
 ghost use Rattle.ink_model.specs.Step.Host.{call_external};
+ghost use Rattle.ink_model.specs.Step.Variables as effects;
 ghost use Rattle.ink_model.specs.Threads.{frame_count, staled};
 ghost use Rattle.ink_model.specs.Tree.{StoryTree, at, leaf};
+ghost use Rattle.ink_model.specs.VariableMemory.{is_pointer};
 ghost use Rattle.ink_model.specs.declared.host.Event.{Event as Happening};
 ghost use Rattle.ink_model.specs.declared.limits.TheConstants.{MAX_FRAMES};
 ghost use Rattle.ink_stack.specs.Calls.{frame_kind};
+ghost use Rattle.ink_step.specs.Assigns.{AssignsAtOnce};
 ghost use Rattle.ink_step.specs.Marks.{keeps_mark, pressed, presses, stack_lacks, stood_of, takes_there, threads_lack};
 ghost use Rattle.ink_step.specs.Finishes.{Finishes};
 ghost use Rattle.ink_step.specs.Performs.{AsksToStore, Keeps, KeepsChoices, Performs, landing_of, leading, storing_in, unstored};
@@ -35,16 +38,18 @@ ghost use Rattle.ink_tree.specs.Kept.{leaf_in};
 ghost use Rattle.ink_tree.specs.Nodes.{place_of};
 ghost use Rattle.ink_vars.specs.Undo.{globals_stood};
 
+use crate::diverting::number_of;
 use crate::external::{External, external_in, is_external, would_call};
 use crate::flow::{MOVING, StepEnd, done, end, fork, give_back, land, move_on, move_to, next_of};
 use crate::leaf::perform_leaf;
 use crate::machine::Machine;
 use crate::noting::{ready_choices, ready_stack, ready_threads};
+use crate::operands::{take, top};
 use crate::transfer::{Landing, Transfer};
 use crate::{external, flow};
 use ink_check::Story;
 use ink_host::{Desk, PureFn, TurnFn, Watcher};
-use ink_model::{Fault, FrameKind, Leaf, Value};
+use ink_model::{Fault, FrameKind, Leaf, Shared, Text, Value};
 use ink_stack::CallKind;
 use ink_tree::Spot;
 use std::mem;
@@ -176,7 +181,7 @@ impl Machine {
     {
         match story.tree().leaf_at(place) {
             Some(content) if !is_external(content) => {
-                let end = self.act(story, place, Some(content))?;
+                let end = self.act_here(story, place, content)?;
                 Ok(Some(end))
             }
             _ => Ok(None),
@@ -267,6 +272,99 @@ impl Machine {
         let Some(next) = self.next_after(story, &transfer) else {
             return self.finish(story, &mut transfer);
         };
+        self.go_to_next(story, next);
+        Ok(StepEnd::Went)
+    }
+
+    /// The same of content that holds no other and calls nothing. An assignment has a function of its own, which mostly stores at once.
+    #[inline(always)]
+    fn act_here(&mut self, story: &Story, here: Spot, content: &Leaf) -> Result<StepEnd, Fault>
+        requires stands { let s = story_tree story.now in Some content.now ≡ leaf_in (at s (place_of s here)) }
+        requires stack_room { length self.old.flow.stack.items + 2 ≤ stack_spare self.old.flow.stack }
+        requires room { MOVING + 8 ≤ threads_spare self.old.flow.threads }
+        ensures ends { let s = story_tree story.now in let p = place_of s here in let stands = Some (leaf content.now) in let c = config_of s self.old in
+            let e = effect s p stands (context_of c) (fields_of c) in
+            StepEnds (((takes_there stands && keeps_mark (stood_of self.old)) || pressed s self.new) || acting_asks s (content_asks s p stands (context_of c) (fields_of c)) e c) (acted s e c) self.old.shared.globals.rows (config_of s self.new) result }
+        ensures start { start_of self.new ≡ start_of self.old }
+        ensures aside { aside_in self.new ≡ aside_in self.old }
+        ensures mark { stood_of self.new ≡ stood_of self.old }
+    {
+        match content {
+            Leaf::Assign(name) => self.act_assigning(story, here, content, name),
+            _ => self.act(story, here, Some(content)),
+        }
+    }
+
+    // The same of an assignment.
+    #[inline(never)]
+    fn act_assigning(
+        &mut self,
+        story: &Story,
+        here: Spot,
+        content: &Leaf,
+        name: &Shared<Text>,
+    ) -> Result<StepEnd, Fault>
+        requires is { content.now ≡ Leaf.Assign name.now }
+        requires stands { let s = story_tree story.now in Some content.now ≡ leaf_in (at s (place_of s here)) }
+        requires stack_room { length self.old.flow.stack.items + 2 ≤ stack_spare self.old.flow.stack }
+        requires room { MOVING + 8 ≤ threads_spare self.old.flow.threads }
+        ensures ends { let s = story_tree story.now in let p = place_of s here in let stands = Some (leaf content.now) in let c = config_of s self.old in
+            let e = effect s p stands (context_of c) (fields_of c) in
+            StepEnds (((takes_there stands && keeps_mark (stood_of self.old)) || pressed s self.new) || acting_asks s (content_asks s p stands (context_of c) (fields_of c)) e c) (acted s e c) self.old.shared.globals.rows (config_of s self.new) result }
+        ensures start { start_of self.new ≡ start_of self.old }
+        ensures aside { aside_in self.new ≡ aside_in self.old }
+        ensures mark { stood_of self.new ≡ stood_of self.old }
+    {
+        match self.next_of_assignment(story, here, name) {
+            Some(next) => self.assign_at_once(story, here, name, next),
+            None => self.act(story, here, Some(content)),
+        }
+    }
+
+    // The place after the one where flow is, where a value can be assigned at once to the global of a name: that is there and holds no
+    // pointer, a value lies on the stack, and no mark stands.
+    #[inline(always)]
+    fn next_of_assignment(&self, story: &Story, here: Spot, name: &Shared<Text>) -> Option<Spot>
+        ensures { IfSome result (λ next. AssignsAtOnce (story_tree story.now) self.now name.now next) }
+    {
+        let next = next_of(story.tree(), &self.flow.threads)?;
+        let _value = top(&self.flow.stack)?;
+        if self.shared.globals.is_marked() || self.flow.stack.is_marked() {
+            return None;
+        }
+        let global = self
+            .shared
+            .globals
+            .get_at(name.as_str(), number_of(story, here))?;
+        if is_pointer(global) {
+            return None;
+        }
+        Some(next)
+    }
+
+    // What lies on the stack is assigned so, and flow goes on. There is no fault.
+    #[inline(always)]
+    fn assign_at_once(
+        &mut self,
+        story: &Story,
+        here: Spot,
+        name: &Shared<Text>,
+        next: Spot,
+    ) -> Result<StepEnd, Fault>
+        requires can { AssignsAtOnce (story_tree story.now) self.old name.now next }
+        requires room { 2 ≤ threads_spare self.old.flow.threads }
+        ensures ends { (asks : Bool) → let s = story_tree story.now in let c = config_of s self.old in
+            StepEnds asks (acted s (effects.assign name.now (context_of c) (fields_of c)) c) self.old.shared.globals.rows (config_of s self.new) result }
+        ensures start { start_of self.new ≡ start_of self.old }
+        ensures aside { aside_in self.new ≡ aside_in self.old }
+        ensures mark { stood_of self.new ≡ stood_of self.old }
+    {
+        let Some(value) = take(&mut self.flow.stack)? else {
+            return Err(Fault::StackEmpty);
+        };
+        self.shared
+            .globals
+            .put(name.as_str(), number_of(story, here), value)?;
         self.go_to_next(story, next);
         Ok(StepEnd::Went)
     }
@@ -692,4 +790,10 @@ fn may_enter(to: Option<Landing>) -> bool
         Some(to) => to.enters,
         None => false,
     }
+}
+
+fn is_pointer(value: &Value) -> bool
+    ensures { result ≡ is_pointer (Some value.now) }
+{
+    matches!(value, Value::Pointer(_, _))
 }

@@ -88,7 +88,7 @@ impl Changes {
         ensures more { self.old.slots ≤ self.new.slots }
         ensures slots { OnOk result ((value : Value) → length (store name.now value globals.now) ≤ self.new.slots) }
     {
-        if is_marked(&self.marked, place) {
+        if self.is_noted(place) {
             return Ok(());
         }
         self.make_slot(place)?;
@@ -99,8 +99,43 @@ impl Changes {
 
     /// Gives the global of a name, which may have a number, a value, and notes before what it was, where that was not noted
     /// since the moment. The one error is a refused request for memory, which is made only for a new global, and leaves the globals
-    /// as they were.
+    /// as they were. Most globals are found by their number, and were noted.
+    #[inline(always)]
     pub(crate) fn put(
+        &mut self,
+        globals: &mut Table,
+        name: &str,
+        number: Option<usize>,
+        value: Value,
+    ) -> Result<(), AllocError>
+        requires slots { length globals.old ≤ self.old.slots }
+        ensures ok { OnOk result (globals.new ≡ store name.now value globals.old) }
+        ensures noted { OnOk result (self.new.noted ≡ with_noted name.now globals.old self.old.noted) }
+        ensures err { OnErr result (globals.new ≡ globals.old) }
+        ensures memory { OnErr result (is_some (stored name.now globals.old) ≡ false) }
+        ensures tracks { (start : Values) → Tracks start self.old.noted globals.old → Tracks start self.new.noted globals.new }
+        ensures slots { length globals.new ≤ self.new.slots }
+    {
+        if let Some((found, _)) = globals.found(name, number) {
+            if self.is_noted(found) {
+                return globals.put_over(found, name, number, value);
+            }
+        }
+        self.put_any(globals, name, number, value)
+    }
+
+    // Whether it was noted what the global of a number was, which then has a slot.
+    #[inline(always)]
+    fn is_noted(&self, number: usize) -> bool
+        ensures noted { result ≡ is_some (noted_at number self.now.noted) }
+        ensures slot { result ≡ true → number < self.now.slots }
+    {
+        is_marked(&self.marked, number)
+    }
+
+    // As `put`, of any global, wherever it is found.
+    #[inline(never)]
+    fn put_any(
         &mut self,
         globals: &mut Table,
         name: &str,
@@ -119,7 +154,7 @@ impl Changes {
         if index >= globals.len() {
             return self.put_new(globals, name, number, value);
         }
-        if is_marked(&self.marked, index) {
+        if self.is_noted(index) {
             return globals.put_over(index, name, number, value);
         }
         self.put_first(globals, index, value);
@@ -143,7 +178,7 @@ impl Changes {
         ensures slots { length globals.new ≤ self.new.slots }
     {
         let next = globals.len();
-        if is_marked(&self.marked, next) {
+        if self.is_noted(next) {
             return globals.add_at(name, number, value);
         }
         self.make_slot(next)?;

@@ -43,7 +43,7 @@ pub returns-in_err-end-in-Some-clause-passes : goal.returns-in_err-end-in-Some-c
 returns-in_err-end-in-Some-clause-passes c b =
     let s = story_tree c.args.story.now in
     let old = c.args.self.now in
-    let new = c.act.new.self in
+    let new = c.act_here.new.self in
     let f = c.in_err-end-in-Some.field-0.0 in
     let other : is_some (call_at (Some (leaf c.in-Some.content.now))) ≡ false = search rules in
     let is : c.from_residual.result ≡ Err f = search rules in
@@ -53,4 +53,4 @@ returns-in_err-end-in-Some-clause-passes c b =
 pub returns-in_ok-end-in-Some-clause-passes : goal.returns-in_ok-end-in-Some-clause-passes
 returns-in_ok-end-in-Some-clause-passes c b =
     let other : is_some (call_at (Some (leaf c.in-Some.content.now))) ≡ false = search rules in
-    passes_there (goal.at.returns-in_ok-end-in-Some-clause-passes c).In-Some b c.act.new.self (Ok c.in_ok-end-in-Some.end) other c.in_ok-end-in-Some.ensures.ends
+    passes_there (goal.at.returns-in_ok-end-in-Some-clause-passes c).In-Some b c.act_here.new.self (Ok c.in_ok-end-in-Some.end) other c.in_ok-end-in-Some.ensures.ends
