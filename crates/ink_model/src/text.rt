@@ -37,6 +37,14 @@ impl Text {
         Text { string }
     }
 
+    /// The text as a string, in the same memory.
+    pub fn into_string(self) -> String
+        ensures { string_bytes result ≡ self }
+    {
+        let Text { string } = self;
+        string
+    }
+
     /// The text itself.
     pub fn as_str(&self) -> &str
         ensures { result.now ≡ self.now }
