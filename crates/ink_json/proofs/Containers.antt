@@ -1,13 +1,14 @@
 -- Reading content element by element and key by key, beside its faults and its tree.
-use Rattle.std.proofs.Common.{◌≡◌, ℕ, ◌+◌, ◌≤◌, List, [], ◌∷◌, ◌++◌, map, Bool, true, false, cond, Option, Some, None, Ok, Err, refl, sym, ap, ◌∙◌, append_assoc, arith}
+use Rattle.std.proofs.Common.{◌≡◌, ℕ, ◌+◌, ◌≤◌, List, [], ◌∷◌, ◌++◌, map, Bool, true, false, not, cond, Option, Some, None, Ok, Err, refl, sym, ap, ◌∙◌, append_assoc, arith}
 use Rattle.serde_json.specs.Data.{Data, null, boolean, number, string, array, object, Items, no_items, item, Members, no_members, member}
+use Rattle.json_tape.specs.Other.{has_other}
 use Rattle.json_tape.specs.Value.{json_data, members_of, Entry, members_data}
 use Rattle.json_tape.specs.Size.{size, items_size}
-use Rattle.json_tape.proofs.Conditions.{both}
+use Rattle.json_tape.proofs.Conditions.{both, neither}
 use Rattle.ink_model.specs.declared.version.InkVersion.{InkVersion}
-use Rattle.ink_model.specs.Tree.{StoryTree, container, Keyed}
+use Rattle.ink_model.specs.Tree.{StoryTree, container, Keyed, no_keys}
 use Rattle.ink_model.specs.declared.limits.TheConstants.{MAX_NESTING}
-use Rattle.ink_model.specs.Grammar.{under, first, own, own_after, is_empty, is_last, are_flags, member_of, flags_key, flags_of, name_in, name_of, is_misnamed, is_taken, with_name, is_own, content, faults, faults_inside, faults_keyed, faults_by, tree_of, content_of, keyed_in, keyed_last, keyed_by}
+use Rattle.ink_model.specs.Grammar.{under, first, own, own_after, is_empty, is_last, are_flags, member_of, name_key, flags_key, flags_of, name_in, name_of, is_misnamed, is_taken, with_name, is_own, content, faults, faults_inside, faults_keyed, faults_by, tree_of, content_of, keyed_in, keyed_last, keyed_by}
 use Rattle.ink_model.specs.declared.fault.Failure.{Failure}
 use Rattle.ink_model.specs.declared.fault.Failure.TheVariants.{OutOfMemory, Refused}
 use Rattle.ink_model.specs.declared.fault.ReadRefusal.{ReadRefusal}
@@ -134,6 +135,14 @@ keyed_members version nesting taken (number n) = (refl, refl)
 keyed_members version nesting taken (string s) = (refl, refl)
 keyed_members version nesting taken (array ds) = (refl, refl)
 keyed_members version nesting taken (object ms) = (refl, refl)
+
+-- nor does an object that has nothing but keys of its own
+pub own_only : (version : InkVersion) (nesting : ℕ) (taken : List (List ℕ)) (ms : Members) → has_other name_key flags_key ms ≡ false → (faults_by version nesting taken ms ≡ []) × (keyed_by version ms ≡ no_keys)
+own_only version nesting taken no_members e = (refl, refl)
+own_only version nesting taken (member k d ms) e =
+    let two = neither (not (is_own k)) (has_other name_key flags_key ms) e in
+    let own : is_own k ≡ true = grind (arith, two.0) in
+    rw own (own_only version nesting taken ms two.1)
 
 -- one key more
 module _ (version : InkVersion) (nesting : ℕ) (e : Entry) (more : List Entry) (name : List ℕ) (misnamed : Bool) (is : name ≡ e.0.now) (named : is_own name ≡ false) where

@@ -85,6 +85,14 @@ twice false = refl
 pub holds_more : (old new : Given) (taken : List (List ℕ)) (k : Bor (List ℕ)) → new.names.keys ≡ insert_key name_order old.names.keys (ending k.now, k) → Holds old taken → Holds new (taken ++ k.now ∷ [])
 holds_more old new taken k e h = λ q. ap (among q) e ∙ inserted q k old.names.keys ∙ ap (λ b. b || bytes_eq q.now k.now) (h q) ∙ sym (list_any_push (λ n. bytes_eq q.now n) taken k.now)
 
+no_name : (q : Bor (List ℕ)) (xs : List Name) → length xs ≡ 0 → among q xs ≡ false
+no_name q [] e = refl
+no_name q (x ∷ xs) e = absurd cc
+
+-- where none was given, no name was
+pub none_given : (given : Given) (taken : List (List ℕ)) (q : Bor (List ℕ)) → length given.names.keys ≡ 0 → Holds given taken → false ≡ is_taken taken (Some q.now)
+none_given given taken q e h = sym (no_name q given.names.keys e) ∙ h q
+
 -- a name that is not new was given before
 pub given_before : (old : Given) (taken : List (List ℕ)) (k : Bor (List ℕ)) (new : Bool) → new ≡ not (contains_by (name_order (ending k.now, k)) old.names) → Holds old taken → not new ≡ is_taken taken (Some k.now)
 given_before old taken k new e h = ap not e ∙ twice (contains_by (name_order (ending k.now, k)) old.names) ∙ h k

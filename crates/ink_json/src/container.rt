@@ -21,7 +21,7 @@ use crate::leaf::{read_number, read_string};
 use crate::names::Given;
 use crate::nodes::Nodes;
 use crate::object::read_object_leaf;
-use crate::own::{copy_name, is_own, label_of, read_own};
+use crate::own::{copy_name, has_names, is_own, label_of, read_own};
 use crate::texts::Texts;
 use ink_model::{Cause, Content, InkVersion, Leaf, MAX_NESTING};
 use json_tape::value::{Items, Kind, Value};
@@ -277,6 +277,9 @@ fn read_last<'a>(
     ensures { (taken : List (List ℕ)) → Holds names.now taken → ListsByKey nodes.old nodes.new number result
         (first (faults_keyed context.version context.nesting taken (json_data last.now)) (keyed_last context.version (json_data last.now))) }
 {
+    if !has_names(last) {
+        return Ok(0);
+    }
     let keys = last.members(alloc)?;
     read_keyed(alloc, texts, nodes, number, &keys, context, names)
 }

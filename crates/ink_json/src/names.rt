@@ -29,6 +29,9 @@ impl<'v> Given<'v> {
     pub(crate) fn has(&self, name: &'v str) -> bool
         ensures { (taken : List (List ℕ)) → Holds self.now taken → result ≡ is_taken taken (Some name.now) }
     {
+        if self.names.is_empty() {
+            return false;
+        }
         self.names.contains(&(ending(name), name))
     }
 

@@ -1,7 +1,8 @@
 //! What a container's last element says of the container itself.
 
 ghost use Rattle.std.specs.Prelude.{◌≡◌, false, true, not, MatchOption, Some, None, option_map, if◌then◌else◌, IfOk};
-ghost use Rattle.json_tape.specs.Value.{json_data};
+ghost use Rattle.json_tape.specs.Other.{has_other};
+ghost use Rattle.json_tape.specs.Value.{json_data, members_of};
 ghost use Rattle.ink_model.specs.Grammar.{own_of, is_last, are_flags, flags_of, is_name, name_in, member_of, flags_key, name_key, is_own};
 ghost use Rattle.ink_json.specs.Reading.{IsLabel, is_whole};
 
@@ -122,6 +123,13 @@ fn label_in<'a>(last: &Value<'_, 'a>) -> Label<'a>
         sound: name.is_some(),
         name,
     }
+}
+
+/// Whether a last element has a member whose key may be the name of a container.
+pub(crate) fn has_names(last: &Value<'_, '_>) -> bool
+    ensures { result ≡ has_other name_key flags_key (members_of (json_data last.now)) }
+{
+    last.has_other("#n", "#f")
 }
 
 /// Whether a key is no name of a container.

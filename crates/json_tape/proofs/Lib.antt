@@ -10,3 +10,4 @@ pub mod Tokens
 pub mod Elements
 pub mod Rise
 pub mod Left
+pub mod Others

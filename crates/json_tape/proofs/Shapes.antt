@@ -295,15 +295,18 @@ no_members_of (string s) e = refl
 no_members_of (array ds) e = refl
 no_members_of (object ms) e = absurd cc
 
-members_begin : (ts rest : List Token) → is_readable ts ≡ true → ((j : json.Json) → BeginsWith ts j → (ms : json.Members) × (j ≡ json.object ms) × InMembers rest ms) → AreLeft rest no_members (members_of (data_of ts))
+pub members_begin : (ts rest : List Token) → is_readable ts ≡ true → ((j : json.Json) → BeginsWith ts j → (ms : json.Members) × (j ≡ json.object ms) × InMembers rest ms) → AreLeft rest no_members (members_of (data_of ts))
 members_begin ts rest h is = let all = object_of ts h rest is in (all.0, all.1, all.3 ∙ ap (λ d. Some (members_of d)) (sym all.4))
 
 pub members_all : (ts rest : List Token) (es : List Entry) → es ≡ [] → is_readable ts ≡ true → ((j : json.Json) → BeginsWith ts j → (ms : json.Members) × (j ≡ json.object ms) × InMembers rest ms)
     → AreLeft rest (members_data es) (members_of (data_of ts))
 members_all ts rest es none h is = subst (λ xs. AreLeft rest (members_data xs) (members_of (data_of ts))) (sym none) (members_begin ts rest h is)
 
+pub no_members_value : (ts : List Token) → is_readable ts ≡ true → ((j : json.Json) → BeginsWith ts j → find.as_object j ≡ None) → members_of (data_of ts) ≡ no_members
+no_members_value ts h is = no_members_of (data_of ts) (value_no_object ts h is)
+
 pub no_members_in : (ts : List Token) (es : List Entry) → es ≡ [] → is_readable ts ≡ true → ((j : json.Json) → BeginsWith ts j → find.as_object j ≡ None) → members_data es ≡ members_of (data_of ts)
-no_members_in ts es none h is = ap members_data none ∙ sym (no_members_of (data_of ts) (value_no_object ts h is))
+no_members_in ts es none h is = ap members_data none ∙ sym (no_members_value ts h is)
 
 pub members_next : (rest new e : List Token) (k : List ℕ) (found all : Members) → AreLeft rest found all → NextMember rest (Some (k, e)) new → (is_readable e ≡ true) × AreLeft new (put k (data_of e) found) all
 members_next rest new e k found all left steps =

@@ -7,3 +7,4 @@ pub mod Tape
 pub mod Rise
 pub mod Shape
 pub mod Text
+pub mod Other

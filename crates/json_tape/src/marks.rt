@@ -39,7 +39,7 @@ impl Marks {
     }
 }
 
-// The slot of a name.
+// The slot of a name. The keys that say what an object of a story is have slots of their own.
 #[inline(always)]
 fn slot(name: &str) -> usize
     ensures slot { result ≡ slot name.now }
@@ -52,5 +52,5 @@ fn slot(name: &str) -> usize
     }
     let first = bytes[0] as usize;
     let last = bytes[len - 1] as usize;
-    (len % SLOTS + 10 * first + 3 * last) % SLOTS
+    (len % SLOTS + first + first / 8 + 2 * last) % SLOTS
 }

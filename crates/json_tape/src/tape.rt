@@ -14,6 +14,9 @@ use json::{Invalid, MAX_DEPTH, Node, Reader, Scratch, Token};
 use std::alloc::{AllocError, Global};
 use std::marker::Model;
 
+/// A text has a token for each four of its bytes at most, as a rule.
+const BYTES_OF_A_TOKEN: usize = 4;
+
 /// What stands at a place of a tape: a bracket, a text of some kind, or one of the three words.
 #[derive(Clone, Copy, Drop)]
 enum Tag {
@@ -53,14 +56,14 @@ impl<'a> Model for Entries<'a> {
 }
 
 impl<'a> Entries<'a> {
-    /// None yet. Takes no memory.
-    fn new(alloc: Global) -> Entries<'a>
+    /// None yet, with room for those of a text of so many bytes, as a rule: where that much memory is refused, less may do.
+    fn for_text(alloc: Global, len: usize) -> Entries<'a>
         ensures { result ≡ [] }
     {
         Entries {
-            tags: Vec::new(alloc),
-            numbers: Vec::new(alloc),
-            texts: Vec::new(alloc),
+            tags: with_room(alloc, len / BYTES_OF_A_TOKEN),
+            numbers: with_room(alloc, len / BYTES_OF_A_TOKEN),
+            texts: with_room(alloc, len / (2 * BYTES_OF_A_TOKEN)),
             digits: [0; 10],
         }
     }
@@ -142,6 +145,15 @@ impl<'a> Entries<'a> {
     {
         node(&self.texts, self.tags[at], self.numbers[at])
     }
+}
+
+/// An empty list, with room for so many where there is memory for it.
+fn with_room<T: Drop>(alloc: Global, count: usize) -> Vec<T>
+    ensures { result.items ≡ [] }
+{
+    let mut list = Vec::new(alloc);
+    let _ = list.reserve(count);
+    list
 }
 
 /// The digit that a text is.
@@ -367,7 +379,7 @@ impl<'a> Tape<'a> {
             (λ tape. (tape ≡ tokens text.now) × IsSome (document text.now))) }
     {
         let mut reader = Reader::new(text, scratch)?;
-        let mut nodes = Entries::new(alloc);
+        let mut nodes = Entries::for_text(alloc, text.len());
         match value(&mut reader, &mut nodes, MAX_DEPTH) {
             Ok(()) => {}
             Err(Stop::Invalid) => return Ok(None),

@@ -6,6 +6,7 @@ ghost use Rattle.serde_json.specs.Data.{no_items, item};
 ghost use Rattle.serde_json.specs.Find.{get, as_bool, as_str, as_array, as_object, as_number, as_u64};
 ghost use Rattle.json_tape.specs.Marks.{AreMarked};
 ghost use Rattle.json_tape.specs.Number.{num};
+ghost use Rattle.json_tape.specs.Other.{is_other, has_other};
 ghost use Rattle.json_tape.specs.Spelled.{is_readable, are_sound, data_of, held};
 
 use crate::element::{self, Element};
@@ -81,6 +82,14 @@ fn are_sound(tape: &Tape<'_>) -> bool
         }
     }
     true
+}
+
+// Whether a name is another than these two.
+#[inline(always)]
+fn is_other(name: &str, first: &str, second: &str) -> bool
+    ensures { result ≡ is_other first.now second.now name.now }
+{
+    name != first && name != second
 }
 
 impl<'t, 'a> Value<'t, 'a> {
@@ -159,6 +168,21 @@ impl<'t, 'a> Value<'t, 'a> {
             Some(mut members) => members.next().is_none(),
             None => false,
         }
+    }
+
+    /// Whether it is an object that has a member of another name than these two.
+    pub fn has_other(&self, first: &str, second: &str) -> bool
+        ensures { result ≡ has_other first.now second.now (members_of (json_data self.now)) }
+    {
+        let Some(mut members) = self.element.members() else {
+            return false;
+        };
+        while let Some((name, _element)) = members.next() {
+            if is_other(name, first, second) {
+                return true;
+            }
+        }
+        false
     }
 
     /// Which names the members may have, where it is an object.

@@ -1,17 +1,17 @@
-use Rattle.std.proofs.Common.{◌≡◌, ◌+◌, ◌++◌, [], true, false, cond, None, Ok, length, refl, ap, sym, subst, ◌∙◌, arith}
+use Rattle.std.proofs.Common.{◌≡◌, ◌+◌, ◌++◌, [], true, false, cond, None, Ok, length, refl, ap, ap₂, sym, subst, ◌∙◌, arith}
 use Rattle.std.proofs.lemmas.List.{append-nil}
 use Rattle.std.proofs.lemmas.Result.{err_from_is_err_and}
 use Rattle.serde_json.specs.Data.{array, item}
 use Rattle.json_tape.specs.Size.{items_size, members_size}
-use Rattle.json_tape.specs.Value.{json_data, items_left, Entry, members_data}
+use Rattle.json_tape.specs.Value.{json_data, items_left, members_of, Entry, members_data}
 use Rattle.json_tape.proofs.Counts.{size_positive}
 use Rattle.ink_model.specs.Grammar.{with_name, name_of, name_in, flags_of, own_of, own_after, content, content_of, tree_of, faults_inside, faults_keyed, faults_by, keyed_in, keyed_last, keyed_by, first}
-use Rattle.ink_model.specs.Tree.{container, count, key, tree}
+use Rattle.ink_model.specs.Tree.{container, count, key, tree, no_keys}
 use Rattle.ink_model.specs.View.{count_keys}
 use Rattle.ink_model.specs.declared.content.Leaf.{Leaf}
 use Rattle.ink_json.specs.Listing.{Lists, nodes_from, nodes_by_key, nodes_inside}
 use Rattle.ink_json.specs.Reading.{IsFirst, is_whole}
-use Rattle.ink_json.proofs.Containers.{first_ok, fails_first, keyed_takes, container_takes, container_stops, container_read, keyed_is, keyed_members, last_within, element_goes, element_stops, own_key_faults, key_stops, key_goes}
+use Rattle.ink_json.proofs.Containers.{own_only, first_ok, fails_first, keyed_takes, container_takes, container_stops, container_read, keyed_is, keyed_members, last_within, element_goes, element_stops, own_key_faults, key_stops, key_goes}
 use Rattle.ink_json.proofs.Growing.{container_listed, grown, inside_listed, keys_within, last_grown, next_key, opened_listed, own_key}
 use Rattle.ink_json.proofs.Listing.{by_key_more, from_more}
 use Rattle.ink_json.proofs.container.+content.Goals as goal
@@ -144,6 +144,12 @@ read_elements-loop-next-preserved t c =
     }
 
 -- ---- the containers by key
+
+pub read_last-returns-then-not-has_names : goal.read_last-returns-then-not-has_names
+read_last-returns-then-not-has_names t c = λ taken held.
+    let k = keyed_members c.args.context.version c.args.context.nesting taken (json_data c.args.last.now) in
+    let none = own_only c.args.context.version c.args.context.nesting taken (members_of (json_data c.args.last.now)) (sym c.has_names.ensures ∙ c.if-not-has_names.true) in
+    (no_keys, ap₂ (λ fs ks. first fs ks) (k.0 ∙ none.0) (k.1 ∙ none.1), refl, sym (append-nil c.args.nodes.now))
 
 pub read_last-returns-in_err-keys : goal.read_last-returns-in_err-keys
 read_last-returns-in_err-keys t c = λ taken held.
