@@ -1,17 +1,18 @@
 -- Where functions' texts start among marks, and which newlines were settled before the last mark.
-use Rattle.std.proofs.Common.{◌≡◌, ◌∙◌, ℕ, Bool, true, false, not, ◌&&◌, ◌||◌, cond, eqb, List, [], ◌∷◌, ◌++◌, drop, length, reverse, if◌then◌else◌, Option, None, Some, refl, sym, ap, subst}
-use Rattle.std.proofs.Math.Seq.{drop-append_seam}
-use Rattle.std.proofs.lemmas.List.{nil_from_length, reverse-append}
+use Rattle.std.proofs.Common.{◌≡◌, ◌∙◌, ℕ, Bool, true, false, not, ◌&&◌, ◌||◌, cond, eqb, List, [], ◌∷◌, ◌++◌, drop, get_or, length, reverse, take, ◌<◌, ◌+◌, arith, if◌then◌else◌, Option, None, Some, refl, sym, ap, subst}
+use Rattle.std.proofs.Math.Seq.{drop-append_seam, take-append_seam}
+use Rattle.std.proofs.lemmas.List.{append-nil, append_assoc, length-append, length-reverse, nil_from_length, reverse-append, reverse-reverse, length-take-le, take-append-drop, take_more}
 use Rattle.ink_model.specs.Shown.{clear, ends, newlines_before, some}
 use Rattle.ink_model.specs.declared.mark.Mark.{Mark}
 use Rattle.ink_model.specs.declared.mark.Mark.TheVariants.{Text, Blank, Newline, Glue, Tag, Enter, Leave}
 use Rattle.ink_out.specs.declared.enters.Enters.{Enters}
+use Rattle.ink_out.specs.declared.enters.Start.{Start}
 use Rattle.ink_out.specs.declared.state.State.{State}
 use Rattle.ink_out.specs.declared.tracker.Hides.{Hides}
 use Rattle.ink_out.specs.declared.tracker.Hides.TheVariants.{Near, Any, Never}
 use Rattle.ink_out.specs.declared.tracker.Tracker.{Tracker}
 use Rattle.ink_out.specs.declared.tracker.Waiting.{Waiting}
-use Rattle.ink_out.specs.Stands.{IsStateOf, Knows, Sees, Stands, started, starts_of}
+use Rattle.ink_out.specs.Stands.{IsStateOf, Knows, Leads, Sees, Stands, started, starts_of}
 use Rattle.ink_out.specs.Tracks.{Tracks, enter_at, hidden_by, settled_after, settled_by, waiting, waiting_at, waits}
 
 pub started_at : (n : ℕ) (before : List Mark) → started n (starts_of before) ≡ enter_at n before
@@ -23,6 +24,55 @@ started_at n (Newline ∷ before) = started_at n before
 started_at n (Glue ∷ before) = started_at n before
 started_at n (Tag t ∷ before) = started_at n before
 started_at n (Leave k ∷ before) = started_at n before
+
+-- ---- starts that are passed
+
+pub leads_all : (behind before : List Mark) → Leads (reverse (starts_of (behind ++ before))) before
+leads_all [] before = ([], sym (append-nil (reverse (starts_of before))))
+leads_all (Enter k ∷ behind) before =
+    let start : Start = record { number = k; at = length (behind ++ before) } in
+    let (ahead, is) = leads_all behind before in
+    (ahead ++ start ∷ [], reverse-append (start ∷ []) (starts_of (behind ++ before)) ∙ ap (λ xs. xs ++ start ∷ []) is ∙ append_assoc (reverse (starts_of before)) ahead (start ∷ []))
+leads_all (Text t ∷ behind) before = leads_all behind before
+leads_all (Blank t ∷ behind) before = leads_all behind before
+leads_all (Newline ∷ behind) before = leads_all behind before
+leads_all (Glue ∷ behind) before = leads_all behind before
+leads_all (Tag t ∷ behind) before = leads_all behind before
+leads_all (Leave k ∷ behind) before = leads_all behind before
+
+-- those of marks are those of each beginning of them, and of marks behind it
+pub leads_from : (enters : Enters) (marks : List Mark) (at : ℕ) → Knows enters (reverse marks) → Leads enters.starts.items (reverse (take at marks))
+leads_from enters marks at knows =
+    let turned : reverse marks ≡ reverse (drop at marks) ++ reverse (take at marks) = ap reverse (sym (take-append-drop at marks)) ∙ reverse-append (take at marks) (drop at marks) in
+    let all : enters.starts.items ≡ reverse (starts_of (reverse (drop at marks) ++ reverse (take at marks))) = sym (reverse-reverse enters.starts.items) ∙ ap reverse knows.starts ∙ ap (λ ms. reverse (starts_of ms)) turned in
+    rw all (leads_all (reverse (drop at marks)) (reverse (take at marks)))
+
+-- the marks up to an index, the nearest first, and the one there
+pub next_mark : (marks : List Mark) (at : ℕ) (m : Mark) → at < length marks → m ≡ get_or marks at m → reverse (take (at + 1) marks) ≡ m ∷ reverse (take at marks)
+next_mark marks at m within is = ap reverse (take_more marks at m within) ∙ reverse-append (take at marks) (get_or marks at m ∷ []) ∙ ap (λ x. x ∷ reverse (take at marks)) (sym is)
+
+pub marks_before : (marks : List Mark) (at : ℕ) → at < length marks → at ≡ length (reverse (take at marks))
+marks_before marks at within =
+    let turned = length-reverse (take at marks) in
+    let len = length-take-le at marks (omega arith) in
+    omega (arith, turned, len)
+
+-- one more of them was passed
+pub passes_one : (starts : List Start) (before : List Mark) (n count : ℕ) → Leads starts (Enter n ∷ before) → count ≡ length (starts_of before) → count < length starts
+passes_one starts before n count leads is =
+    let start : Start = record { number = n; at = length before } in
+    let len = ap length leads.1 in
+    let parts = length-append (reverse (starts_of (Enter n ∷ before))) leads.0 in
+    let turned = length-reverse (start ∷ starts_of before) in
+    omega (arith, len, parts, turned, is)
+
+-- the last of those that were passed is the last of the marks
+pub passed_started : (starts : List Start) (before : List Mark) (n count : ℕ) → Leads starts before → count ≡ length (starts_of before) → started n (reverse (take count starts)) ≡ enter_at n before
+passed_started starts before n count leads is =
+    let turned = reverse (starts_of before) in
+    let len : count ≡ length turned = is ∙ sym (length-reverse (starts_of before)) in
+    let first : take count starts ≡ turned = ap (λ k. take k starts) len ∙ ap (take (length turned)) leads.1 ∙ take-append_seam turned leads.0 in
+    ap (λ xs. started n (reverse xs)) first ∙ ap (started n) (reverse-reverse (starts_of before)) ∙ started_at n before
 
 -- ---- the newlines that were settled before a mark
 

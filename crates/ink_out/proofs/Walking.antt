@@ -13,11 +13,11 @@ use Rattle.ink_out.specs.declared.tracker.Waiting.{Waiting}
 use Rattle.ink_out.specs.declared.tracker.Tracker.{Tracker}
 use Rattle.ink_out.specs.Tracks.{since, hidden_by, waits, waiting_at, reached, reach_of, Fits, Tracks, settled_by}
 use Rattle.std.specs.Borrow.{Bor}
-use Rattle.ink_out.specs.declared.enters.Enters.{Enters}
+use Rattle.ink_out.specs.declared.enters.Start.{Start}
 use Rattle.ink_out.specs.declared.walk.Walk.{Walk}
 use Rattle.ink_out.specs.declared.cleaning.Shown.{Shown}
 use Rattle.ink_out.specs.Cleaning.{Holds}
-use Rattle.ink_out.specs.Stands.{Knows}
+use Rattle.ink_out.specs.Stands.{Passes, Passing}
 use Rattle.ink_out.specs.Walks.{Walks, held_at, glue_at, held_text, pile_text, left_pile, is_at, now_text, pile_now, Falls}
 use Rattle.ink_out.proofs.Covers.{since_more, since_here, passes_reached}
 use Rattle.ink_out.proofs.Tracking.{or_nothing}
@@ -241,8 +241,8 @@ quiet_pile before after o (p ∷ ps) q = rw (quiet_pile before after o ps q, qui
 
 -- ---- the walk
 
-pub walk_plain : {cleans : Bool} → (m : Mark) (before : List Mark) (w : Walk) (next : Tracker) (enters : Enters) (glue : ℕ) → Smooth m before → ((after : List Mark) → newlines_before (m ∷ before) after ≡ newlines_before before (m ∷ after)) → ((after : List Mark) → text_before (m ∷ before) after ≡ text_before before (m ∷ after)) → (w.glue ≡ glue_at before → glue ≡ glue_at (m ∷ before)) → Knows enters (m ∷ before) → ((settled : List ℕ) → Tracks before w.tracker settled → Tracks (m ∷ before) next settled) → Walks cleans before w → Walks cleans (m ∷ before) record { tracker = next; enters = enters; glue = glue; held = w.held; shown = w.shown }
-walk_plain m before w next enters glue smooth over texts g knows tracks k =
+pub walk_plain : {cleans : Bool} {starts : List Start} → (m : Mark) (before : List Mark) (w : Walk) (next : Tracker) (passed : Passing) (glue : ℕ) → Smooth m before → ((after : List Mark) → newlines_before (m ∷ before) after ≡ newlines_before before (m ∷ after)) → ((after : List Mark) → text_before (m ∷ before) after ≡ text_before before (m ∷ after)) → (w.glue ≡ glue_at before → glue ≡ glue_at (m ∷ before)) → Passes starts passed (m ∷ before) → ((settled : List ℕ) → Tracks before w.tracker settled → Tracks (m ∷ before) next settled) → Walks cleans starts before w → Walks cleans starts (m ∷ before) record { tracker = next; passed = passed; glue = glue; held = w.held; shown = w.shown }
+walk_plain m before w next passed glue smooth over texts g knows tracks k =
     let t' = tracks k.settled k.tracks in
     record {
       settled = k.settled;
@@ -260,7 +260,7 @@ walk_plain m before w next enters glue smooth over texts g knows tracks k =
     }
 
 -- one more that waits
-walk_held : {cleans : Bool} → (m : Mark) (before : List Mark) (w : Walk) (next : Tracker) (p : Held) → held_at p ≡ length before → glue_at (m ∷ before) ≡ glue_at before → Knows w.enters (m ∷ before) → (settled : List ℕ) → Tracks (m ∷ before) next settled → ((after : List Mark) → text_before (m ∷ before) after ≡ text_before before (m ∷ after) ++ written before m after) → ((after : List Mark) → pile_text before w.tracker.newline w.held (m ∷ after) ++ written before m after ≡ pile_text (m ∷ before) next.newline (p ∷ w.held) after) → Walks cleans before w → Walks cleans (m ∷ before) record { tracker = next; enters = w.enters; glue = w.glue; held = p ∷ w.held; shown = w.shown }
+walk_held : {cleans : Bool} {starts : List Start} → (m : Mark) (before : List Mark) (w : Walk) (next : Tracker) (p : Held) → held_at p ≡ length before → glue_at (m ∷ before) ≡ glue_at before → Passes starts w.passed (m ∷ before) → (settled : List ℕ) → Tracks (m ∷ before) next settled → ((after : List Mark) → text_before (m ∷ before) after ≡ text_before before (m ∷ after) ++ written before m after) → ((after : List Mark) → pile_text before w.tracker.newline w.held (m ∷ after) ++ written before m after ≡ pile_text (m ∷ before) next.newline (p ∷ w.held) after) → Walks cleans starts before w → Walks cleans starts (m ∷ before) record { tracker = next; passed = w.passed; glue = w.glue; held = p ∷ w.held; shown = w.shown }
 walk_held m before w next p at glued knows settled tracks shows piles k =
     record {
       settled = settled;
@@ -277,7 +277,7 @@ walk_held m before w next p at glued knows settled tracks shows piles k =
           ∙ ap (λ cs. k.written ++ cs) (piles after);
     }
 
-pub walk_blank : {cleans : Bool} → (before : List Mark) (w : Walk) (next : Tracker) (at : ℕ) (text : Bor (List ℕ)) → at ≡ length before → ((settled : List ℕ) → Tracks before w.tracker settled → Tracks (kinds.Blank text.now ∷ before) next settled) → Walks cleans before w → Walks cleans (kinds.Blank text.now ∷ before) record { tracker = next; enters = w.enters; glue = w.glue; held = Blank at w.tracker.broken text ∷ w.held; shown = w.shown }
+pub walk_blank : {cleans : Bool} {starts : List Start} → (before : List Mark) (w : Walk) (next : Tracker) (at : ℕ) (text : Bor (List ℕ)) → at ≡ length before → ((settled : List ℕ) → Tracks before w.tracker settled → Tracks (kinds.Blank text.now ∷ before) next settled) → Walks cleans starts before w → Walks cleans starts (kinds.Blank text.now ∷ before) record { tracker = next; passed = w.passed; glue = w.glue; held = Blank at w.tracker.broken text ∷ w.held; shown = w.shown }
 walk_blank before w next at text here tracks k =
     let m = kinds.Blank text.now in
     let t' = tracks k.settled k.tracks in
@@ -287,15 +287,15 @@ walk_blank before w next at text here tracks k =
       sym (pile_over m before after w.tracker.newline next.newline w.held (smooth_blank text.now before)
           (λ at l. ap (is_among at) (same_waiting m before after w.tracker next k.settled refl k.tracks t')) k.falls),
     ) refl in
-    rw here (walk_held m before w next (Blank (length before) w.tracker.broken text) refl refl record { starts = k.knows.starts } k.settled t' (λ after. refl) piles k)
+    rw here (walk_held m before w next (Blank (length before) w.tracker.broken text) refl refl record { same = k.knows.same; count = k.knows.count } k.settled t' (λ after. refl) piles k)
 
-pub walk_newline : {cleans : Bool} → (before : List Mark) (w : Walk) (next : Tracker) (at : ℕ) → at ≡ length before → ((settled : List ℕ) → Tracks before w.tracker settled → Tracks (kinds.Newline ∷ before) next settled) → Walks cleans before w → Walks cleans (kinds.Newline ∷ before) record { tracker = next; enters = w.enters; glue = w.glue; held = Newline at ∷ w.held; shown = w.shown }
+pub walk_newline : {cleans : Bool} {starts : List Start} → (before : List Mark) (w : Walk) (next : Tracker) (at : ℕ) → at ≡ length before → ((settled : List ℕ) → Tracks before w.tracker settled → Tracks (kinds.Newline ∷ before) next settled) → Walks cleans starts before w → Walks cleans starts (kinds.Newline ∷ before) record { tracker = next; passed = w.passed; glue = w.glue; held = Newline at ∷ w.held; shown = w.shown }
 walk_newline before w next at here tracks k =
     let t' = tracks k.settled k.tracks in
-    rw here (walk_held kinds.Newline before w next (Newline (length before)) refl refl record { starts = k.knows.starts } k.settled t' (λ after. refl)
+    rw here (walk_held kinds.Newline before w next (Newline (length before)) refl refl record { same = k.knows.same; count = k.knows.count } k.settled t' (λ after. refl)
     (λ after. pile_newline before after w.tracker next k.settled w.held k.tracks t' k.falls) k)
 
-pub walk_leave : {cleans : Bool} → (n : Option ℕ) (before : List Mark) (w : Walk) (next : Tracker) (reach : Option ℕ) → reach ≡ reach_of n before → ((settled : List ℕ) → Tracks before w.tracker settled → Tracks (kinds.Leave n ∷ before) next settled) → Walks cleans before w → Walks cleans (kinds.Leave n ∷ before) record { tracker = next; enters = w.enters; glue = w.glue; held = left_pile reach w.held; shown = w.shown }
+pub walk_leave : {cleans : Bool} {starts : List Start} → (n : Option ℕ) (before : List Mark) (w : Walk) (next : Tracker) (reach : Option ℕ) → reach ≡ reach_of n before → ((settled : List ℕ) → Tracks before w.tracker settled → Tracks (kinds.Leave n ∷ before) next settled) → Walks cleans starts before w → Walks cleans starts (kinds.Leave n ∷ before) record { tracker = next; passed = w.passed; glue = w.glue; held = left_pile reach w.held; shown = w.shown }
 walk_leave n before w next reach e tracks k =
     let m = kinds.Leave n in
     let t' = tracks k.settled k.tracks in
@@ -305,7 +305,7 @@ walk_leave n before w next reach e tracks k =
       written = k.written;
       holds = k.holds;
       tracks = t';
-      knows = record { starts = k.knows.starts };
+      knows = record { same = k.knows.same; count = k.knows.count };
       glue = k.glue;
       falls = falls_less (length before) (suc (length before)) (left_pile (reach_of n before) w.held) (omega arith) (left_falls (reach_of n before) (length before) w.held k.falls);
       text = λ after.
@@ -315,7 +315,7 @@ walk_leave n before w next reach e tracks k =
           (pile_left n before after w.tracker.newline next.newline (length before) w.held (same_waiting m before after w.tracker next k.settled refl k.tracks t') (omega arith) k.falls);
     }
 
-pub walk_text : {cleans : Bool} → (before : List Mark) (w : Walk) (shown : Shown) (next : Tracker) (text : List ℕ) → ((written : List ℕ) → Holds cleans w.shown written → Holds cleans shown ((written ++ pile_now w.tracker.newline w.glue w.held) ++ text)) → ((settled : List ℕ) → Tracks before w.tracker settled → Tracks (kinds.Text text ∷ before) next (settled_by w.tracker.newline settled)) → Walks cleans before w → Walks cleans (kinds.Text text ∷ before) record { tracker = next; enters = w.enters; glue = 0; held = []; shown = shown }
+pub walk_text : {cleans : Bool} {starts : List Start} → (before : List Mark) (w : Walk) (shown : Shown) (next : Tracker) (text : List ℕ) → ((written : List ℕ) → Holds cleans w.shown written → Holds cleans shown ((written ++ pile_now w.tracker.newline w.glue w.held) ++ text)) → ((settled : List ℕ) → Tracks before w.tracker settled → Tracks (kinds.Text text ∷ before) next (settled_by w.tracker.newline settled)) → Walks cleans starts before w → Walks cleans starts (kinds.Text text ∷ before) record { tracker = next; passed = w.passed; glue = 0; held = []; shown = shown }
 walk_text before w shown next text holds tracks k =
     let written = (k.written ++ pile_now w.tracker.newline w.glue w.held) ++ text in
     record {
@@ -323,7 +323,7 @@ walk_text before w shown next text holds tracks k =
       written = written;
       holds = holds k.written k.holds;
       tracks = tracks k.settled k.tracks;
-      knows = record { starts = k.knows.starts };
+      knows = record { same = k.knows.same; count = k.knows.count };
       glue = refl;
       falls = tt;
       text = λ after.
@@ -334,7 +334,7 @@ walk_text before w shown next text holds tracks k =
     }
 
 -- what was written, and what waits, is all that is shown
-pub walk_end : {cleans : Bool} → (before : List Mark) (w : Walk) (k : Walks cleans before w) → k.written ++ pile_now w.tracker.newline w.glue w.held ≡ text_before before []
+pub walk_end : {cleans : Bool} {starts : List Start} → (before : List Mark) (w : Walk) (k : Walks cleans starts before w) → k.written ++ pile_now w.tracker.newline w.glue w.held ≡ text_before before []
 walk_end before w k =
     ap (λ g. k.written ++ pile_now w.tracker.newline g w.held) k.glue
     ∙ ap (λ cs. k.written ++ cs) (sym (quiet_pile before [] w.tracker.newline w.held quiet_end))

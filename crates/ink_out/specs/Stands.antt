@@ -1,5 +1,5 @@
 -- What is known of the marks of a section.
-use Rattle.std.specs.Prelude.{◌≡◌, ℕ, ◌<◌, nat_le, List, [], ◌∷◌, length, reverse, Option, None, Some, Bool, false, ◌==◌, if◌then◌else◌}
+use Rattle.std.specs.Prelude.{◌≡◌, ℕ, ◌<◌, nat_le, List, [], ◌∷◌, ◌++◌, length, reverse, Option, None, Some, Bool, false, ◌==◌, if◌then◌else◌}
 use Rattle.ink_model.specs.declared.mark.Mark.{Mark}
 use Rattle.ink_model.specs.declared.mark.Mark.TheVariants.{Text, Tag, Enter}
 use Rattle.ink_out.specs.declared.enters.Enters.{Enters}
@@ -44,6 +44,20 @@ starts_of (m ∷ before) = starts_of before
 -- the numbers entered
 pub record Knows (enters : Enters) (before : List Mark) : Type 0 where
   pub starts : reverse enters.starts.items ≡ starts_of before
+
+-- so many of these starts were passed
+pub record Passing : Type 0 where
+  pub starts : List Start
+  pub count : ℕ
+
+-- of all these starts, those of some marks were passed
+pub record Passes (starts : List Start) (passed : Passing) (before : List Mark) : Type 0 where
+  pub same : passed.starts ≡ starts
+  pub count : passed.count ≡ length (starts_of before)
+
+-- these starts are those of some marks, and of marks behind them
+abbrev pub Leads : List Start → List Mark → Type 0
+Leads starts before = (ahead : List Start) × (starts ≡ reverse (starts_of before) ++ ahead)
 
 -- a section's marks and its settled newlines, both the oldest first
 pub record Sees (marks : List Mark) (settled : List ℕ) (state : State) (enters : Enters) : Type 0 where

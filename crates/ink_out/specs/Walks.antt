@@ -9,7 +9,8 @@ use Rattle.ink_out.specs.declared.tracker.Waiting.{Waiting}
 use Rattle.ink_out.specs.declared.walk.Walk.{Walk}
 use Rattle.ink_out.specs.Tracks.{since, waiting_at, reached, Tracks}
 use Rattle.ink_out.specs.Cleaning.{Holds}
-use Rattle.ink_out.specs.Stands.{Knows}
+use Rattle.ink_out.specs.Stands.{Passes}
+use Rattle.ink_out.specs.declared.enters.Start.{Start}
 
 abbrev pub held_at : Held → ℕ
 held_at (Blank at broken text) = at
@@ -61,12 +62,12 @@ abbrev pub Falls : ℕ → List Held → Type 0
 Falls n [] = Unit {0}
 Falls n (p ∷ ps) = (held_at p < n) × Falls (held_at p) ps
 
-pub record Walks (cleans : Bool) (before : List Mark) (w : Walk) : Type 0 where
+pub record Walks (cleans : Bool) (starts : List Start) (before : List Mark) (w : Walk) : Type 0 where
   pub settled : List ℕ
   pub written : List ℕ
   pub holds : Holds cleans w.shown written
   pub tracks : Tracks before w.tracker settled
-  pub knows : Knows w.enters before
+  pub knows : Passes starts w.passed before
   pub glue : w.glue ≡ glue_at before
   pub falls : Falls (length before) w.held
   pub text : (after : List Mark) → text_before before after ≡ written ++ pile_text before w.tracker.newline w.held after

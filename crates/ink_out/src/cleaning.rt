@@ -24,10 +24,23 @@ pub(crate) fn cleaned(alloc: Global, text: &str) -> Result<Text, AllocError>
 pub(crate) const MOST_ROOM: usize = 4_096;
 
 /// Room for a text of so many bytes at the most. The one error is a refused request for memory.
-pub(crate) fn room_for(alloc: Global, most: usize) -> Result<String, AllocError>
+fn room_for(alloc: Global, most: usize) -> Result<String, AllocError>
     ensures { IfOk result (λ room. string_bytes room ≡ []) }
 {
     String::with_capacity(alloc, most.min(MOST_ROOM))
+}
+
+/// This room, where it is enough for so many bytes, and else one of just that size. The one error is a refused request for memory.
+#[inline(always)]
+pub(crate) fn room_in(alloc: Global, room: String, len: usize) -> Result<String, AllocError>
+    requires { string_bytes room ≡ [] }
+    ensures { IfOk result (λ room. string_bytes room ≡ []) }
+{
+    if len <= room.capacity() {
+        return Ok(room);
+    }
+    drop(room);
+    String::with_capacity(alloc, len)
 }
 
 /// What stands on a line before a character.

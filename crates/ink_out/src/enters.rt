@@ -1,13 +1,15 @@
 //! Where functions' texts start in a section.
 
-ghost use Rattle.std.specs.Prelude.{◌≡◌, List, [], ◌∷◌, length, reverse, OnOk, OnErr};
+ghost use Rattle.std.specs.Prelude.{◌≡◌, ℕ, List, [], ◌∷◌, length, reverse, OnOk, OnErr};
 ghost use Rattle.ink_model.specs.declared.mark.Mark.{Mark};
 ghost use Rattle.ink_model.specs.declared.mark.Mark.TheVariants as kinds;
-ghost use Rattle.ink_out.specs.Stands.{Knows, started};
+ghost use Rattle.ink_out.specs.Stands.{Knows, Leads, Passes, started};
 ghost use Rattle.ink_out.specs.Tracks.{reach_of};
+ghost use Rattle.ink_out.specs.declared.enters.Start.{Start};
 
 use crate::kept::{Form, Kept};
 use std::alloc::{AllocError, Global};
+use std::marker::Model;
 
 /// A number, and the index of its start.
 #[derive(Clone, Copy)]
@@ -78,6 +80,60 @@ impl Enters {
     {
         match number {
             Some(number) => last_start(self.starts.as_slice(), number),
+            None => None,
+        }
+    }
+}
+
+impl Enters {
+    /// The starts, of which none is passed yet.
+    #[inline(always)]
+    pub(crate) fn unpassed(&self) -> Passed<'_>
+        ensures { Passes self.now.starts.items result [] }
+    {
+        Passed {
+            starts: self.starts.as_slice(),
+            count: 0,
+        }
+    }
+}
+
+/// How many of the starts of a section stand before a mark, in a walk over its marks. It takes no memory.
+#[derive(Drop)]
+pub(crate) struct Passed<'e> {
+    starts: &'e [Start],
+    count: usize,
+}
+
+impl<'e> Model for Passed<'e> {
+    ghost use Rattle.std.specs.Prelude.{◌≤◌, length};
+    ghost use Rattle.ink_out.specs.Stands.{Passing};
+
+    ghost Value = { Passing };
+
+    ghost view = { λ p. record { starts = p.starts.now; count = p.count } };
+
+    ghost invariant = { λ p. p.count ≤ length p.starts.now };
+}
+
+impl<'e> Passed<'e> {
+    /// Goes past a start.
+    #[inline(always)]
+    pub(crate) fn pass(&mut self)
+        ensures { (starts : List Start) (before : List Mark) (n : ℕ) → Leads starts (kinds.Enter n ∷ before) → Passes starts self.old before → Passes starts self.new (kinds.Enter n ∷ before) }
+    {
+        if self.count < self.starts.len() {
+            self.count += 1;
+        }
+    }
+
+    /// How far back the end of a function's text reaches, as `Enters` says it of the marks that were passed.
+    #[inline(always)]
+    pub(crate) fn reach(&self, number: Option<u64>) -> Option<usize>
+        ensures { (starts : List Start) (before : List Mark) → Leads starts before → Passes starts self.now before → result ≡ reach_of number before }
+    {
+        match number {
+            Some(number) => last_start(&self.starts[..self.count], number),
             None => None,
         }
     }

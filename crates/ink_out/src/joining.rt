@@ -7,7 +7,7 @@ ghost use Rattle.ink_model.specs.Output.{is_text};
 ghost use Rattle.ink_model.specs.declared.mark.Mark.TheVariants as kinds;
 ghost use Rattle.ink_out.specs.Joined.{texts_of};
 
-use crate::cleaning::{MOST_ROOM, Shown, clean_len};
+use crate::cleaning::{MOST_ROOM, Shown, clean_len, room_in};
 use crate::kept::{Form, Kept};
 use ink_model::Text;
 use itoa::Buffer;
@@ -29,12 +29,18 @@ pub(crate) fn texts_of_line(marks: &[Kept]) -> Option<(&[Kept], usize)>
     Some((texts, len))
 }
 
-/// Texts of so many bytes at the most, with a newline behind them, cleaned. The one error is a refused request for memory, which is
-/// made once.
-pub(crate) fn joined(alloc: Global, texts: &[Kept], most: usize) -> Result<Text, AllocError>
+/// Texts of so many bytes at the most, with a newline behind them, cleaned, in this room where it is enough. The one error is a
+/// refused request for memory, which is made once.
+pub(crate) fn joined(
+    alloc: Global,
+    room: String,
+    texts: &[Kept],
+    most: usize,
+) -> Result<Text, AllocError>
+    requires { string_bytes room ≡ [] }
     ensures { IfOk result (λ line. line ≡ clean (texts_of texts.now ++ 10 ∷ [])) }
 {
-    let mut line = String::with_capacity(alloc, most.saturating_add(1))?;
+    let mut line = room_in(alloc, room, most.saturating_add(1))?;
     push_texts(&mut line, texts)?;
     match clean_len(line.as_str()) {
         Some(len) => {

@@ -9,6 +9,7 @@ mod kept;
 mod opened;
 mod output;
 mod pile;
+mod rooms;
 mod section;
 mod state;
 mod tags;

@@ -26,6 +26,7 @@ use crate::cleaning::cleaned;
 use crate::cutting::{Piece, cut_text, is_cut};
 use crate::kept::{Form, Kept, Words};
 use crate::opened::{Kind, Opened, note, note_all, note_below, note_in, open_state};
+use crate::rooms::Rooms;
 use crate::section::Section;
 use crate::undo::{OutputPair, note_number, put_back};
 use ink_model::{Fault, MAX_SECTIONS, MAX_TEXT, Seq, Shared, Text, Value};
@@ -43,6 +44,8 @@ pub struct Output {
     /// One that was closed, to be opened again without a request for memory.
     spare: Option<Opened>,
     trail: Trail<OutputPair>,
+    /// What was handed out and came back, to be handed out again without a request for memory.
+    rooms: Rooms,
     alloc: Global,
 }
 
@@ -55,6 +58,7 @@ impl Drop for Output {
             next_enter: _,
             spare: _,
             trail: _,
+            rooms: _,
             alloc: _,
         } = self;
     }
@@ -87,6 +91,7 @@ impl Output {
             next_enter: 0,
             spare: None,
             trail: Trail::new(alloc),
+            rooms: Rooms::new(alloc),
             alloc,
         }
     }
@@ -495,7 +500,7 @@ impl Output {
         ensures text { IfOk result (λ text. text ≡ clean (shown_text self.now.page.line)) }
         ensures memory { OnErr result (shows_more self.now.page.line ≡ true) }
     {
-        self.line.text(self.alloc)
+        self.line.text(self.alloc, String::new(self.alloc))
     }
 
     /// The line's tags, in order. The one error is a refused request for memory, which is never made where there are none.
@@ -503,7 +508,47 @@ impl Output {
         ensures tags { IfOk result (λ texts. texts ≡ tags self.now.page.line) }
         ensures none { tags self.now.page.line ≡ [] → IsOk result }
     {
-        self.line.tags(self.alloc)
+        self.line.tags(Vec::new(self.alloc))
+    }
+
+    /// The line's text, cleaned, in the memory of one that came back where that is enough. The one error is a refused request for
+    /// memory, which is made only where more than blanks is shown.
+    pub fn hand_text(&mut self) -> Result<Text, AllocError>
+        ensures text { IfOk result (λ text. text ≡ clean (shown_text self.old.page.line)) }
+        ensures memory { OnErr result (shows_more self.old.page.line ≡ true) }
+        ensures page { self.new.page ≡ self.old.page }
+        ensures trail { self.new.trail ≡ self.old.trail }
+        ensures stood { output_stood self.new ≡ output_stood self.old }
+        ensures spare { output_spare self.new ≡ output_spare self.old }
+    {
+        let room = self.rooms.take_text(self.alloc);
+        self.line.text(self.alloc, room)
+    }
+
+    /// The line's tags, in order, in the memory of a list that came back. The one error is a refused request for memory, which is
+    /// never made where there are none.
+    pub fn hand_tags(&mut self) -> Result<Seq<Shared<Text>>, AllocError>
+        ensures tags { IfOk result (λ texts. texts ≡ tags self.old.page.line) }
+        ensures none { tags self.old.page.line ≡ [] → IsOk result }
+        ensures page { self.new.page ≡ self.old.page }
+        ensures trail { self.new.trail ≡ self.old.trail }
+        ensures stood { output_stood self.new ≡ output_stood self.old }
+        ensures spare { output_spare self.new ≡ output_spare self.old }
+    {
+        let room = self.rooms.take_tags(self.alloc);
+        self.line.tags(room)
+    }
+
+    /// Takes the text and the tags of a line that are of no use any more: their memory is used again for the next line. Takes no
+    /// memory.
+    pub fn reuse(&mut self, text: Text, tags: Seq<Shared<Text>>)
+        ensures page { self.new.page ≡ self.old.page }
+        ensures trail { self.new.trail ≡ self.old.trail }
+        ensures stood { output_stood self.new ≡ output_stood self.old }
+        ensures spare { output_spare self.new ≡ output_spare self.old }
+    {
+        self.rooms.keep_text(text.into_string());
+        self.rooms.keep_tags(tags.into_vec());
     }
 
     /// Takes all away: marks, open sections and numbers, which is two changes of cells. Takes no memory.
@@ -574,6 +619,7 @@ impl Output {
             &mut self.line,
             &mut self.sections,
             &mut self.next_enter,
+            &mut self.spare,
             &mut self.trail,
         )
     }

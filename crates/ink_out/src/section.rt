@@ -1,6 +1,6 @@
 //! A section of marks.
 
-ghost use Rattle.std.specs.Prelude.{ℕ, ◌≡◌, ◌≤◌, ◌+◌, [], ◌∷◌, ◌++◌, length, map, true, vec_len, vec_capacity, IfOk, IfSome, IsOk, OnOk, OnErr};
+ghost use Rattle.std.specs.Prelude.{ℕ, ◌≡◌, ◌≤◌, ◌+◌, [], ◌∷◌, ◌++◌, length, map, string_bytes, true, vec_len, vec_capacity, IfOk, IfSome, IsOk, OnOk, OnErr};
 ghost use Rattle.std.specs.List.{list_any};
 ghost use Rattle.ink_model.specs.Clean.{clean};
 ghost use Rattle.ink_model.specs.Configuration.{Page};
@@ -14,7 +14,7 @@ ghost use Rattle.ink_out.specs.Stands.{IsStateOf, Sees, is_past};
 ghost use Rattle.ink_out.specs.Undo.{GoesBack, Held, output_back, with_open};
 ghost use Rattle.ink_trail.specs.Undo.{Trails, TrailsOrKeeps, but_last, spare, trail_of};
 
-use crate::cleaning::is_clean;
+use crate::cleaning::{is_clean, room_in};
 use crate::cutting::{Piece, has_words};
 use crate::enters::Enters;
 use crate::joining::{is_newline, joined, texts_of_line};
@@ -164,22 +164,23 @@ impl Section {
         is_past(index, self.state.more)
     }
 
-    /// The shown text, cleaned (docs/TEXT.md). The one error is a refused request for memory, which is made only where more than
-    /// blanks is shown.
-    pub(crate) fn text(&self, alloc: Global) -> Result<Text, AllocError>
+    /// The shown text, cleaned (docs/TEXT.md), in this room where it is enough. The one error is a refused request for memory,
+    /// which is made only where more than blanks is shown.
+    pub(crate) fn text(&self, alloc: Global, room: String) -> Result<Text, AllocError>
+        requires { string_bytes room ≡ [] }
         ensures text { IfOk result (λ text. text ≡ clean (shown_text self.now)) }
         ensures memory { OnErr result (shows_more self.now ≡ true) }
     {
         if let Some(text) = self.plain_line() {
-            return line_of(alloc, text);
+            return line_of(alloc, room, text);
         }
         if !self.shows_more() {
-            return Ok(Text::from_string(String::new(alloc)));
+            return Ok(Text::from_string(room));
         }
         let marks = self.marks.as_slice();
         match texts_of_line(marks) {
-            Some((texts, len)) => joined(alloc, texts, len),
-            None => shown_text(alloc, marks, true),
+            Some((texts, len)) => joined(alloc, room, texts, len),
+            None => shown_text(alloc, room, marks, &self.enters, true),
         }
     }
 
@@ -220,7 +221,7 @@ impl Section {
         let mut digits = Buffer::new();
         match self.only_text() {
             Some(words) if is_clean(words.as_str(&mut digits)) => words.to_shared(alloc),
-            _ => Shared::new(alloc, self.text(alloc)?),
+            _ => Shared::new(alloc, self.text(alloc, String::new(alloc))?),
         }
     }
 
@@ -231,7 +232,11 @@ impl Section {
     {
         match self.only_text() {
             Some(words) => words.to_shared(alloc),
-            None => Shared::new(alloc, shown_text(alloc, self.marks.as_slice(), false)?),
+            None => {
+                let room = String::new(alloc);
+                let marks = self.marks.as_slice();
+                Shared::new(alloc, shown_text(alloc, room, marks, &self.enters, false)?)
+            }
         }
     }
 
@@ -249,12 +254,14 @@ impl Section {
         }
     }
 
-    /// The tags, in order. The one error is a refused request for memory, which is never made where there are none.
-    pub(crate) fn tags(&self, alloc: Global) -> Result<Seq<Shared<Text>>, AllocError>
+    /// The tags, in order, in this room for them. The one error is a refused request for memory, which is never made where there
+    /// are none.
+    pub(crate) fn tags(&self, room: Vec<Shared<Text>>) -> Result<Seq<Shared<Text>>, AllocError>
+        requires { room.items ≡ [] }
         ensures tags { IfOk result (λ texts. texts ≡ tags self.now) }
         ensures none { tags self.now ≡ [] → IsOk result }
     {
-        tag_texts(alloc, self.marks.as_slice())
+        tag_texts(room, self.marks.as_slice())
     }
 
     /// Takes all marks away, which takes no memory.
@@ -268,12 +275,13 @@ impl Section {
     }
 }
 
-// A text with a newline behind it. The one error is a refused request for memory.
+// A text with a newline behind it, in this room where it is enough. The one error is a refused request for memory.
 #[inline(always)]
-fn line_of(alloc: Global, text: &str) -> Result<Text, AllocError>
+fn line_of(alloc: Global, room: String, text: &str) -> Result<Text, AllocError>
+    requires { string_bytes room ≡ [] }
     ensures { IfOk result (λ line. line ≡ text.now ++ 10 ∷ []) }
 {
-    let mut line = String::with_capacity(alloc, text.len() + 1)?;
+    let mut line = room_in(alloc, room, text.len() + 1)?;
     line.push_str(text)?;
     line.push_str("\n")?;
     Ok(Text::from_string(line))

@@ -35,11 +35,13 @@ pub(crate) fn note_number(trail: &mut Trail<OutputPair>, number: u64)
     }
 }
 
-/// Puts each pair back, the last first, ends the mark, and answers how many there were.
+/// Puts each pair back, the last first, ends the mark, and answers how many there were. A section that is taken away is the spare
+/// one then.
 pub(crate) fn put_back(
     line: &mut Section,
     sections: &mut Vec<Opened>,
     next_enter: &mut u64,
+    spare: &mut Option<Opened>,
     trail: &mut Trail<OutputPair>,
 ) -> u64
     requires back { GoesBack (vec_capacity sections.old) (trail_of trail.old.undo) (page_of line.old sections.old.items next_enter.old) }
@@ -51,7 +53,7 @@ pub(crate) fn put_back(
 {
     let count = trail.len() as u64;
     while let Some(pair) = trail.take_last() {
-        put_one_back(line, sections, next_enter, pair);
+        put_one_back(line, sections, next_enter, spare, pair);
     }
     trail.forget();
     count
@@ -61,6 +63,7 @@ fn put_one_back(
     line: &mut Section,
     sections: &mut Vec<Opened>,
     next_enter: &mut u64,
+    spare: &mut Option<Opened>,
     pair: OutputPair,
 )
     requires keeps { Keeps pair (output_back pair (page_of line.old sections.old.items next_enter.old)) }
@@ -70,9 +73,7 @@ fn put_one_back(
 {
     match pair {
         OutputPair::Wrote(state) => unwrite(line, sections, state),
-        OutputPair::Began => {
-            let _opened = sections.pop();
-        }
+        OutputPair::Began => *spare = sections.pop(),
         OutputPair::Closed(opened) => sections.push_reserved(opened),
         OutputPair::Numbered(number) => *next_enter = number,
         OutputPair::Line(marks, number) => {

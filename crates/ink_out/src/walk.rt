@@ -1,15 +1,17 @@
 //! The shown text, by one walk over the marks (docs/TEXT.md, "What is shown").
 
-ghost use Rattle.std.specs.Prelude.{◌≡◌, ℕ, List, [], ◌∷◌, Bool, length, IfOk, OnOk};
+ghost use Rattle.std.specs.Prelude.{◌≡◌, ℕ, List, [], ◌∷◌, Bool, length, reverse, IfOk, OnOk, string_bytes};
 ghost use Rattle.ink_model.specs.declared.mark.Mark.{Mark};
 ghost use Rattle.ink_model.specs.declared.mark.Mark.TheVariants as kinds;
 ghost use Rattle.ink_model.specs.Shown.{shown_text, text_before};
 ghost use Rattle.ink_out.specs.Cleaning.{Holds, shown_as};
 ghost use Rattle.ink_out.specs.Kept.{said};
+ghost use Rattle.ink_out.specs.Stands.{Knows, Leads, Passes};
 ghost use Rattle.ink_out.specs.Walks.{Walks};
+ghost use Rattle.ink_out.specs.declared.enters.Start.{Start};
 
-use crate::cleaning::{Shown, room_for};
-use crate::enters::Enters;
+use crate::cleaning::{MOST_ROOM, Shown, room_in};
+use crate::enters::{Enters, Passed};
 use crate::kept::{Form, Kept, Words};
 use crate::pile::{Held, Pile};
 use crate::tracker::Tracker;
@@ -17,12 +19,21 @@ use ink_model::Text;
 use itoa::Buffer;
 use std::alloc::{AllocError, Global};
 
-/// The text that marks show, cleaned or as it is. The one error is a refused request for memory.
-pub(crate) fn shown_text(alloc: Global, marks: &[Kept], cleans: bool) -> Result<Text, AllocError>
+/// The text that marks show whose starts are known, cleaned or as it is, in this room where it is enough. The one error is a
+/// refused request for memory.
+pub(crate) fn shown_text(
+    alloc: Global,
+    room: String,
+    marks: &[Kept],
+    enters: &Enters,
+    cleans: bool,
+) -> Result<Text, AllocError>
+    requires room { string_bytes room ≡ [] }
+    requires starts { Knows enters.now (reverse marks.now) }
     ensures { IfOk result (λ text. text ≡ shown_as cleans (shown_text marks.now)) }
 {
-    let room = room_for(alloc, most_shown(marks))?;
-    let mut walk = Walk::new(alloc, Shown::new(room, cleans));
+    let room = room_in(alloc, room, most_shown(marks).min(MOST_ROOM))?;
+    let mut walk = Walk::new(alloc, enters.unpassed(), Shown::new(room, cleans));
     for (at, mark) in marks.iter().enumerate() {
         walk.add(mark, at)?;
     }
@@ -50,7 +61,7 @@ fn shown_by(mark: &Kept) -> usize {
 #[derive(Drop)]
 struct Walk<'m> {
     tracker: Tracker,
-    enters: Enters,
+    passed: Passed<'m>,
     glue: usize,
     held: Pile<'m>,
     shown: Shown,
@@ -59,12 +70,12 @@ struct Walk<'m> {
 impl<'m> Walk<'m> {
     /// At the start, where nothing is shown yet.
     #[inline(always)]
-    fn new(alloc: Global, shown: Shown) -> Walk<'m>
-        ensures { (cleans : Bool) → Holds cleans shown [] → Walks cleans [] result }
+    fn new(alloc: Global, passed: Passed<'m>, shown: Shown) -> Walk<'m>
+        ensures { (cleans : Bool) (starts : List Start) → Holds cleans shown [] → Passes starts passed.entry [] → Walks cleans starts [] result }
     {
         Walk {
             tracker: Tracker::new(),
-            enters: Enters::new(alloc),
+            passed,
             glue: 0,
             held: Pile::new(alloc),
             shown,
@@ -73,7 +84,7 @@ impl<'m> Walk<'m> {
 
     /// Goes past the mark at an index. The one error is a refused request for memory.
     fn add(&mut self, mark: &'m Kept, at: usize) -> Result<(), AllocError>
-        ensures { OnOk result ((cleans : Bool) (before : List Mark) → at ≡ length before → Walks cleans before self.old → Walks cleans (mark.now ∷ before) self.new) }
+        ensures { OnOk result ((cleans : Bool) (starts : List Start) (before : List Mark) → at ≡ length before → Leads starts (mark.now ∷ before) → Walks cleans starts before self.old → Walks cleans starts (mark.now ∷ before) self.new) }
     {
         match &mark.form {
             Form::Text(words) => self.text(words),
@@ -87,7 +98,10 @@ impl<'m> Walk<'m> {
                 self.tag();
                 Ok(())
             }
-            Form::Enter(_) => self.enter(mark, at),
+            Form::Enter(_) => {
+                self.enter();
+                Ok(())
+            }
             Form::Leave(number) => {
                 self.leave(*number);
                 Ok(())
@@ -98,7 +112,7 @@ impl<'m> Walk<'m> {
     /// The text, where no mark is left. The one error is a refused request for memory.
     #[inline(always)]
     fn finish(mut self) -> Result<Text, AllocError>
-        ensures { IfOk result (λ text. (cleans : Bool) (before : List Mark) → Walks cleans before self.entry → text ≡ shown_as cleans (text_before before [])) }
+        ensures { IfOk result (λ text. (cleans : Bool) (starts : List Start) (before : List Mark) → Walks cleans starts before self.entry → text ≡ shown_as cleans (text_before before [])) }
     {
         let walk = &mut self;
         walk.held
@@ -108,7 +122,7 @@ impl<'m> Walk<'m> {
 
     // A text: nothing hides what waits any more.
     fn text(&mut self, words: &Words) -> Result<(), AllocError>
-        ensures { OnOk result ((cleans : Bool) (before : List Mark) → Walks cleans before self.old → Walks cleans (kinds.Text (said words.now) ∷ before) self.new) }
+        ensures { OnOk result ((cleans : Bool) (starts : List Start) (before : List Mark) → Walks cleans starts before self.old → Walks cleans starts (kinds.Text (said words.now) ∷ before) self.new) }
     {
         self.held
             .write(&mut self.shown, self.tracker.newline, self.glue)?;
@@ -121,7 +135,7 @@ impl<'m> Walk<'m> {
     }
 
     fn blank(&mut self, text: &'m Text, at: usize) -> Result<(), AllocError>
-        ensures { OnOk result ((cleans : Bool) (before : List Mark) → at ≡ length before → Walks cleans before self.old → Walks cleans (kinds.Blank text.now ∷ before) self.new) }
+        ensures { OnOk result ((cleans : Bool) (starts : List Start) (before : List Mark) → at ≡ length before → Walks cleans starts before self.old → Walks cleans starts (kinds.Blank text.now ∷ before) self.new) }
     {
         let blank = Held::Blank {
             at,
@@ -134,7 +148,7 @@ impl<'m> Walk<'m> {
     }
 
     fn newline(&mut self, at: usize) -> Result<(), AllocError>
-        ensures { OnOk result ((cleans : Bool) (before : List Mark) → at ≡ length before → Walks cleans before self.old → Walks cleans (kinds.Newline ∷ before) self.new) }
+        ensures { OnOk result ((cleans : Bool) (starts : List Start) (before : List Mark) → at ≡ length before → Walks cleans starts before self.old → Walks cleans starts (kinds.Newline ∷ before) self.new) }
     {
         self.held.push(Held::Newline { at })?;
         self.tracker.newline(at);
@@ -142,32 +156,31 @@ impl<'m> Walk<'m> {
     }
 
     fn glue(&mut self, at: usize)
-        ensures { (cleans : Bool) (before : List Mark) → at ≡ length before → Walks cleans before self.old → Walks cleans (kinds.Glue ∷ before) self.new }
+        ensures { (cleans : Bool) (starts : List Start) (before : List Mark) → at ≡ length before → Walks cleans starts before self.old → Walks cleans starts (kinds.Glue ∷ before) self.new }
     {
         self.tracker.glue();
         self.glue = at;
     }
 
     fn tag(&mut self)
-        ensures { (cleans : Bool) (before : List Mark) (text : List ℕ) → Walks cleans before self.old → Walks cleans (kinds.Tag text ∷ before) self.new }
+        ensures { (cleans : Bool) (starts : List Start) (before : List Mark) (text : List ℕ) → Walks cleans starts before self.old → Walks cleans starts (kinds.Tag text ∷ before) self.new }
     {
         self.tracker.tag();
     }
 
     // The start of a function's text.
-    fn enter(&mut self, mark: &Kept, at: usize) -> Result<(), AllocError>
-        ensures { OnOk result ((cleans : Bool) (before : List Mark) (n : ℕ) → mark.now ≡ kinds.Enter n → at ≡ length before → Walks cleans before self.old → Walks cleans (kinds.Enter n ∷ before) self.new) }
+    fn enter(&mut self)
+        ensures { (cleans : Bool) (starts : List Start) (before : List Mark) (n : ℕ) → Leads starts (kinds.Enter n ∷ before) → Walks cleans starts before self.old → Walks cleans starts (kinds.Enter n ∷ before) self.new }
     {
-        self.enters.note(mark, at)?;
+        self.passed.pass();
         self.tracker.enter();
-        Ok(())
     }
 
     // The end of a function's text, which hides what waits since its start.
     fn leave(&mut self, number: Option<u64>)
-        ensures { (cleans : Bool) (before : List Mark) → Walks cleans before self.old → Walks cleans (kinds.Leave number ∷ before) self.new }
+        ensures { (cleans : Bool) (starts : List Start) (before : List Mark) → Leads starts before → Walks cleans starts before self.old → Walks cleans starts (kinds.Leave number ∷ before) self.new }
     {
-        let reach = self.enters.reach(number);
+        let reach = self.passed.reach(number);
         self.tracker.leave(reach);
         self.held.leave(reach);
     }

@@ -14,7 +14,7 @@ on_error (Err e) p = p
 
 pub returns-then-not-shows_more-clause-text : goal.returns-then-not-shows_more-clause-text
 returns-then-not-shows_more-clause-text c =
-    c.from_string.ensures ∙ c.new.ensures.bytes ∙ nothing_more c.args.self.now (sym c.shows_more.ensures ∙ c.if-not-shows_more.true)
+    c.from_string.ensures ∙ c.requires ∙ nothing_more c.args.self.now (sym c.shows_more.ensures ∙ c.if-not-shows_more.true)
 
 pub returns-in-None-clause-memory : goal.returns-in-None-clause-memory
 returns-in-None-clause-memory c = on_error c.shown_text.result (sym c.shows_more.ensures ∙ c.if-not-shows_more.false)

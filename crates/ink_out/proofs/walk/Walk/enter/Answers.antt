@@ -6,7 +6,7 @@ use Rattle.ink_out.proofs.Walking.{walk_plain, smooth_enter}
 use Rattle.ink_out.proofs.walk.Walk.enter.Goals as goal
 
 pub returns : goal.returns
-returns c cleans before n is at k =
+returns c cleans starts before n leads k =
     let w = c.args.self.now in
-    walk_plain (kinds.Enter n) before w c.enter.new.self c.note.new.self w.glue (smooth_enter n before) (λ after. refl) (λ after. append-nil (text_before before (kinds.Enter n ∷ after))) (λ g. g)
-    (rw is at (c.in_ok-note.ensures.ok before at k.knows)) (c.enter.ensures before n) k
+    walk_plain (kinds.Enter n) before w c.enter.new.self c.pass.new.self w.glue (smooth_enter n before) (λ after. refl) (λ after. append-nil (text_before before (kinds.Enter n ∷ after))) (λ g. g)
+    (c.pass.ensures starts before n leads k.knows) (c.enter.ensures before n) k

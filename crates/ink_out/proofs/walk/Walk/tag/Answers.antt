@@ -6,7 +6,7 @@ use Rattle.ink_out.proofs.Walking.{walk_plain, smooth_tag}
 use Rattle.ink_out.proofs.walk.Walk.tag.Goals as goal
 
 pub returns : goal.returns
-returns c cleans before text k =
+returns c cleans starts before text k =
     let w = c.args.self.now in
-    walk_plain (kinds.Tag text) before w c.tag.new.self w.enters w.glue (smooth_tag text before) (λ after. refl) (λ after. append-nil (text_before before (kinds.Tag text ∷ after))) (λ g. g)
-    record { starts = k.knows.starts } (c.tag.ensures before text) k
+    walk_plain (kinds.Tag text) before w c.tag.new.self w.passed w.glue (smooth_tag text before) (λ after. refl) (λ after. append-nil (text_before before (kinds.Tag text ∷ after))) (λ g. g)
+    record { same = k.knows.same; count = k.knows.count } (c.tag.ensures before text) k

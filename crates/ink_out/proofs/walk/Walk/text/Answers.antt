@@ -5,7 +5,7 @@ use Rattle.ink_out.proofs.Walking.{walk_text}
 use Rattle.ink_out.proofs.walk.Walk.text.Goals as goal
 
 pub returns : goal.returns
-returns c cleans before k =
+returns c cleans starts before k =
     let w = c.args.self.now in
     rw c.clear.ensures
     (walk_text before w c.push_str.new.self c.text.new.self (said c.args.words.now)
