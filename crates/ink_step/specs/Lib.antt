@@ -9,6 +9,6 @@ pub mod Reaches
 pub mod Steps
 pub mod Runs
 pub mod Finishes
-pub mod Assigns
+pub mod Stores
 pub mod Asked
 pub mod Parts

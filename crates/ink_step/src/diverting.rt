@@ -224,6 +224,7 @@ pub(crate) fn landing_on(story: &Story, path: &Path) -> Option<Landing>
 
 /// The number of the variable that the content at a place reads or assigns, or declares as a global. A global is found by it
 /// without a hash, and is the same whatever it is.
+#[inline(always)]
 pub(crate) fn number_of(story: &Story, here: Spot) -> Option<usize>
     ensures { let s = story_tree story.now in result ≡ variable_number s (place_of s here) }
 {

@@ -2,7 +2,7 @@
 
 ghost use Rattle.ink_value.specs.Undo.{stack_spare, stack_stood};
 ghost use Rattle.ink_stack.specs.Undo.{threads_spare};
-ghost use Rattle.std.specs.Prelude.{◌≡◌, ◌||◌, Bool, List, true, None, Some, Ok, IfSome, OnOk, nat_lt, option_and_then, option_map, ◌≤◌, ◌+◌, IfErr, OnErr, length, ◌&&◌, is_some};
+ghost use Rattle.std.specs.Prelude.{◌≡◌, ◌⊎◌, ◌||◌, Bool, List, true, None, Some, Ok, IfSome, OnOk, nat_lt, option_and_then, option_map, ◌≤◌, ◌+◌, IfErr, OnErr, length, ◌&&◌, is_some};
 ghost use Rattle.ink_check.specs.Words.{story_tree};
 ghost use Rattle.ink_host.specs.Desk.{Grew, bound_by};
 ghost use Rattle.ink_host.specs.Telling.{log_of};
@@ -24,8 +24,9 @@ ghost use Rattle.ink_model.specs.Tree.{StoryTree, at, leaf};
 ghost use Rattle.ink_model.specs.VariableMemory.{is_pointer};
 ghost use Rattle.ink_model.specs.declared.host.Event.{Event as Happening};
 ghost use Rattle.ink_model.specs.declared.limits.TheConstants.{MAX_FRAMES};
+ghost use Rattle.ink_model.specs.declared.scope.Scope.TheVariants as scope;
 ghost use Rattle.ink_stack.specs.Calls.{frame_kind};
-ghost use Rattle.ink_step.specs.Assigns.{AssignsAtOnce};
+ghost use Rattle.ink_step.specs.Stores.{StoresAtOnce};
 ghost use Rattle.ink_step.specs.Marks.{keeps_mark, pressed, presses, stack_lacks, stood_of, takes_there, threads_lack};
 ghost use Rattle.ink_step.specs.Finishes.{Finishes};
 ghost use Rattle.ink_step.specs.Performs.{AsksToStore, Keeps, KeepsChoices, Performs, landing_of, leading, storing_in, unstored};
@@ -276,7 +277,8 @@ impl Machine {
         Ok(StepEnd::Went)
     }
 
-    /// The same of content that holds no other and calls nothing. An assignment has a function of its own, which mostly stores at once.
+    /// The same of content that holds no other and calls nothing. What stores a global has a function of its own, which mostly stores
+    /// at once.
     #[inline(always)]
     fn act_here(&mut self, story: &Story, here: Spot, content: &Leaf) -> Result<StepEnd, Fault>
         requires stands { let s = story_tree story.now in Some content.now ≡ leaf_in (at s (place_of s here)) }
@@ -290,21 +292,23 @@ impl Machine {
         ensures mark { stood_of self.new ≡ stood_of self.old }
     {
         match content {
-            Leaf::Assign(name) => self.act_assigning(story, here, content, name),
+            Leaf::Assign(name) | Leaf::Declare(name) => self.act_storing(
+                story, here, content, name,
+            ),
             _ => self.act(story, here, Some(content)),
         }
     }
 
-    // The same of an assignment.
+    // The same of content that assigns to a name, or declares it as a global.
     #[inline(never)]
-    fn act_assigning(
+    fn act_storing(
         &mut self,
         story: &Story,
         here: Spot,
         content: &Leaf,
         name: &Shared<Text>,
     ) -> Result<StepEnd, Fault>
-        requires is { content.now ≡ Leaf.Assign name.now }
+        requires is { (content.now ≡ Leaf.Assign name.now) ⊎ (content.now ≡ Leaf.Declare name.now) }
         requires stands { let s = story_tree story.now in Some content.now ≡ leaf_in (at s (place_of s here)) }
         requires stack_room { length self.old.flow.stack.items + 2 ≤ stack_spare self.old.flow.stack }
         requires room { MOVING + 8 ≤ threads_spare self.old.flow.threads }
@@ -315,46 +319,69 @@ impl Machine {
         ensures aside { aside_in self.new ≡ aside_in self.old }
         ensures mark { stood_of self.new ≡ stood_of self.old }
     {
-        match self.next_of_assignment(story, here, name) {
-            Some(next) => self.assign_at_once(story, here, name, next),
-            None => self.act(story, here, Some(content)),
+        match self.stored_at_once(story, here, name) {
+            Some((next, index)) => self.store_at_once(story, name, next, index),
+            None => self.act_apart(story, here, content),
         }
     }
 
-    // The place after the one where flow is, where a value can be assigned at once to the global of a name: that is there and holds no
-    // pointer, a value lies on the stack, and no mark stands.
-    #[inline(always)]
-    fn next_of_assignment(&self, story: &Story, here: Spot, name: &Shared<Text>) -> Option<Spot>
-        ensures { IfSome result (λ next. AssignsAtOnce (story_tree story.now) self.now name.now next) }
+    // The same of any such content, by the whole way.
+    #[inline(never)]
+    fn act_apart(&mut self, story: &Story, here: Spot, content: &Leaf) -> Result<StepEnd, Fault>
+        requires stands { let s = story_tree story.now in Some content.now ≡ leaf_in (at s (place_of s here)) }
+        requires stack_room { length self.old.flow.stack.items + 2 ≤ stack_spare self.old.flow.stack }
+        requires room { MOVING + 8 ≤ threads_spare self.old.flow.threads }
+        ensures ends { let s = story_tree story.now in let p = place_of s here in let stands = Some (leaf content.now) in let c = config_of s self.old in
+            let e = effect s p stands (context_of c) (fields_of c) in
+            StepEnds (((takes_there stands && keeps_mark (stood_of self.old)) || pressed s self.new) || acting_asks s (content_asks s p stands (context_of c) (fields_of c)) e c) (acted s e c) self.old.shared.globals.rows (config_of s self.new) result }
+        ensures start { start_of self.new ≡ start_of self.old }
+        ensures aside { aside_in self.new ≡ aside_in self.old }
+        ensures mark { stood_of self.new ≡ stood_of self.old }
     {
-        let next = next_of(story.tree(), &self.flow.threads)?;
-        let _value = top(&self.flow.stack)?;
-        if self.shared.globals.is_marked() || self.flow.stack.is_marked() {
-            return None;
-        }
-        let global = self
-            .shared
-            .globals
-            .get_at(name.as_str(), number_of(story, here))?;
-        if is_pointer(global) {
-            return None;
-        }
-        Some(next)
+        self.act(story, here, Some(content))
     }
 
-    // What lies on the stack is assigned so, and flow goes on. There is no fault.
+    // The place after the one where flow is, and the number of the global of a name in order of declaration, where a value can be stored
+    // in it at once: it is found by its number and holds no pointer, a value that is none lies on the stack, and no mark stands.
     #[inline(always)]
-    fn assign_at_once(
-        &mut self,
+    fn stored_at_once(
+        &self,
         story: &Story,
         here: Spot,
         name: &Shared<Text>,
+    ) -> Option<(Spot, usize)>
+        ensures { IfSome result (λ r. StoresAtOnce (story_tree story.now) self.now name.now r.0 r.1) }
+    {
+        let next = next_of(story.tree(), &self.flow.threads)?;
+        if self.shared.globals.is_marked() || self.flow.stack.is_marked() {
+            return None;
+        }
+        let (index, global) = self
+            .shared
+            .globals
+            .found(name.as_str(), number_of(story, here))?;
+        let value = top(&self.flow.stack)?;
+        if is_pointer(value) || is_pointer(global) {
+            return None;
+        }
+        Some((next, index))
+    }
+
+    // What lies on the stack is stored so, and flow goes on. There is no fault.
+    #[inline(always)]
+    fn store_at_once(
+        &mut self,
+        story: &Story,
+        name: &Shared<Text>,
         next: Spot,
+        index: usize,
     ) -> Result<StepEnd, Fault>
-        requires can { AssignsAtOnce (story_tree story.now) self.old name.now next }
+        requires can { StoresAtOnce (story_tree story.now) self.old name.now next index }
         requires room { 2 ≤ threads_spare self.old.flow.threads }
-        ensures ends { (asks : Bool) → let s = story_tree story.now in let c = config_of s self.old in
+        ensures assigned { (asks : Bool) → let s = story_tree story.now in let c = config_of s self.old in
             StepEnds asks (acted s (effects.assign name.now (context_of c) (fields_of c)) c) self.old.shared.globals.rows (config_of s self.new) result }
+        ensures declared { (asks : Bool) → let s = story_tree story.now in let c = config_of s self.old in
+            StepEnds asks (acted s (effects.declare scope.Global name.now (context_of c) (fields_of c)) c) self.old.shared.globals.rows (config_of s self.new) result }
         ensures start { start_of self.new ≡ start_of self.old }
         ensures aside { aside_in self.new ≡ aside_in self.old }
         ensures mark { stood_of self.new ≡ stood_of self.old }
@@ -362,9 +389,7 @@ impl Machine {
         let Some(value) = take(&mut self.flow.stack)? else {
             return Err(Fault::StackEmpty);
         };
-        self.shared
-            .globals
-            .put(name.as_str(), number_of(story, here), value)?;
+        self.shared.globals.put_at(name.as_str(), index, value);
         self.go_to_next(story, next);
         Ok(StepEnd::Went)
     }

@@ -50,8 +50,23 @@ pub(crate) fn push_variable(
     }
 }
 
-/// A copy of a value is pushed. `TooDeep` where there is no room, which is found before memory is asked for.
+/// A copy of a value is pushed. `TooDeep` where there is no room, which is found before memory is asked for. Most values are numbers,
+/// which share nothing.
+#[inline(always)]
 fn push_copy(alloc: Global, stack: &mut EvalStack, value: &Value) -> Result<(), Fault>
+    ensures stack { Leaves (pushed value.now stack.old.items) stack.old.items stack.new.items result }
+    ensures memory { result ≡ Err Fault.OutOfMemory → has_room stack.old.items ≡ true }
+    ensures mark { stack_stood stack.new ≡ stack_stood stack.old }
+{
+    match value {
+        Value::Int(number) => push(stack, Value::Int(*number)),
+        _ => push_shared(alloc, stack, value),
+    }
+}
+
+// The same of any value.
+#[inline(never)]
+fn push_shared(alloc: Global, stack: &mut EvalStack, value: &Value) -> Result<(), Fault>
     ensures stack { Leaves (pushed value.now stack.old.items) stack.old.items stack.new.items result }
     ensures memory { result ≡ Err Fault.OutOfMemory → has_room stack.old.items ≡ true }
     ensures mark { stack_stood stack.new ≡ stack_stood stack.old }

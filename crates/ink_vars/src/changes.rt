@@ -99,7 +99,7 @@ impl Changes {
 
     /// Gives the global of a name, which may have a number, a value, and notes before what it was, where that was not noted
     /// since the moment. The one error is a refused request for memory, which is made only for a new global, and leaves the globals
-    /// as they were. Most globals are found by their number, and were noted.
+    /// as they were. Most globals are found by their number.
     #[inline(always)]
     pub(crate) fn put(
         &mut self,
@@ -116,12 +116,31 @@ impl Changes {
         ensures tracks { (start : Values) → Tracks start self.old.noted globals.old → Tracks start self.new.noted globals.new }
         ensures slots { length globals.new ≤ self.new.slots }
     {
-        if let Some((found, _)) = globals.found(name, number) {
-            if self.is_noted(found) {
-                return globals.put_over(found, name, number, value);
+        match globals.found(name, number) {
+            Some((index, _)) => {
+                self.put_at(globals, name, index, value);
+                Ok(())
             }
+            None => self.put_any(globals, name, number, value),
         }
-        self.put_any(globals, name, number, value)
+    }
+
+    /// The same of a global that is there, whose number in order of declaration is given. Takes no memory.
+    #[inline(always)]
+    pub(crate) fn put_at(&mut self, globals: &mut Table, name: &str, index: usize, value: Value)
+        requires slots { length globals.old ≤ self.old.slots }
+        requires index { index ≡ number_of name.now globals.old }
+        requires there { is_some (stored name.now globals.old) ≡ true }
+        ensures globals { globals.new ≡ store name.now value globals.old }
+        ensures noted { self.new.noted ≡ with_noted name.now globals.old self.old.noted }
+        ensures tracks { (start : Values) → Tracks start self.old.noted globals.old → Tracks start self.new.noted globals.new }
+        ensures slots { length globals.new ≤ self.new.slots }
+    {
+        if self.is_noted(index) {
+            let _before = globals.swap_at(index, value);
+            return;
+        }
+        self.put_first(globals, index, value);
     }
 
     // Whether it was noted what the global of a number was, which then has a slot.
@@ -133,7 +152,7 @@ impl Changes {
         is_marked(&self.marked, number)
     }
 
-    // As `put`, of any global, wherever it is found.
+    // As `put`, of a global that is looked for by its name.
     #[inline(never)]
     fn put_any(
         &mut self,
@@ -150,14 +169,11 @@ impl Changes {
         ensures tracks { (start : Values) → Tracks start self.old.noted globals.old → Tracks start self.new.noted globals.new }
         ensures slots { length globals.new ≤ self.new.slots }
     {
-        let index = globals.number_at(name, number);
+        let index = globals.number_of(name);
         if index >= globals.len() {
             return self.put_new(globals, name, number, value);
         }
-        if self.is_noted(index) {
-            return globals.put_over(index, name, number, value);
-        }
-        self.put_first(globals, index, value);
+        self.put_at(globals, name, index, value);
         Ok(())
     }
 
@@ -188,6 +204,7 @@ impl Changes {
     }
 
     // Gives the global at an index a value, and notes what it was, which was not noted since the moment. Takes no memory.
+    #[inline(never)]
     fn put_first(&mut self, globals: &mut Table, index: usize, value: Value)
         requires slots { length globals.old ≤ self.old.slots }
         requires there { index < length globals.old }

@@ -1,10 +1,10 @@
 //! The globals of a running story, and what they were at a moment.
 
-ghost use Rattle.std.specs.Prelude.{◌≡◌, ◌≢◌, ◌≤◌, ◌<◌, ◌+◌, ◌⊎◌, ℕ, List, [], Bool, None, Some, false, is_ok, is_some, length, nat_eq, option_map, slice_get, true, unwrap_or, IfOk, IfErr, OnOk, OnErr};
+ghost use Rattle.std.specs.Prelude.{◌≡◌, ◌≢◌, ◌≤◌, ◌<◌, ◌+◌, ◌⊎◌, ℕ, List, [], Bool, None, Some, false, is_ok, is_some, length, nat_eq, option_map, slice_get, true, unwrap_or, IfOk, IfSome, IfErr, OnOk, OnErr};
 ghost use Rattle.std.specs.List.{IsDistinct};
 ghost use Rattle.ink_model.specs.Store.{stored, store};
 ghost use Rattle.ink_trail.specs.Undo.{Begins, Ends, KeepsTrail, TrailsOrKeeps, trail_of, writes_of};
-ghost use Rattle.ink_vars.specs.Changes.{AnswersAs, changed_numbers};
+ghost use Rattle.ink_vars.specs.Changes.{AnswersAs, changed_numbers, number_of};
 ghost use Rattle.ink_vars.specs.Globals.{DifferInName};
 ghost use Rattle.ink_vars.specs.Undo.{global_back, globals_spare, globals_stood};
 
@@ -94,6 +94,15 @@ impl Globals {
         self.table.get_at(name, number)
     }
 
+    /// The global to which the number of a name leads at once, by its number in order of declaration, with its value. None says nothing
+    /// of the name.
+    #[inline(always)]
+    pub fn found(&self, name: &str, number: Option<usize>) -> Option<(usize, &Value)>
+        ensures { IfSome result (λ f. (f.0 ≡ number_of name.now self.now.rows) × (Some f.1.now ≡ stored name.now self.now.rows)) }
+    {
+        self.table.found(name, number)
+    }
+
     /// Whether there is such a global.
     pub fn contains(&self, name: &str) -> bool
         ensures { result ≡ is_some (stored name.now self.now.rows) }
@@ -153,6 +162,21 @@ impl Globals {
             return self.put_marked(name, number, value);
         }
         self.changes.put(&mut self.table, name, number, value)
+    }
+
+    /// The same of a global that is there, whose number in order of declaration is given, while no mark stands. Takes no memory.
+    #[inline(always)]
+    pub fn put_at(&mut self, name: &str, index: usize, value: Value)
+        requires unmarked { globals_stood self.old ≡ None }
+        requires index { index ≡ number_of name.now self.old.rows }
+        requires there { is_some (stored name.now self.old.rows) ≡ true }
+        ensures rows { self.new.rows ≡ store name.now value self.old.rows }
+        ensures start { self.new.start ≡ self.old.start }
+        ensures trail { KeepsTrail self.old.trail self.new.trail }
+        ensures stood { globals_stood self.new ≡ None }
+        ensures spare { globals_spare self.old ≤ globals_spare self.new }
+    {
+        self.changes.put_at(&mut self.table, name, index, value);
     }
 
     // As `put`, while a mark stands.

@@ -160,25 +160,6 @@ impl Table {
         }
     }
 
-    /// Gives the global of a name, which stands at an index, a value. Takes no memory.
-    #[inline(always)]
-    pub(crate) fn put_over(
-        &mut self,
-        index: usize,
-        name: &str,
-        number: Option<usize>,
-        value: Value,
-    ) -> Result<(), AllocError>
-        requires index { index ≡ number_of name.now self.old }
-        requires there { is_some (stored name.now self.old) ≡ true }
-        ensures ok { OnOk result (self.new ≡ store name.now value self.old) }
-        ensures err { OnErr result (self.new ≡ self.old) }
-        ensures memory { OnErr result (is_some (stored name.now self.old) ≡ false) }
-    {
-        self.values[index] = value;
-        Ok(())
-    }
-
     /// Adds a global of a name that no other has, which may have a number: it comes last, and has the slot of the number. The one
     /// error is a refused request for memory, and leaves the globals as they were.
     pub(crate) fn add_at(
