@@ -1,4 +1,4 @@
--- What is said, by the page that a machine lends.
+-- What is said, and that it asks for memory.
 use Rattle.std.proofs.Common.{◌≡◌, ◌≢◌, ◌∙◌, ap, sym, refl, subst, ℕ, List, [], ◌∷◌, Bool, true, false, ◌||◌, Result, Ok, Err, OnErr}
 use Rattle.ink_look.specs.Words.{said, said_asks}
 use Rattle.ink_look.specs.declared.said.Said.{Said}
@@ -6,7 +6,6 @@ use Rattle.ink_model.specs.Choices.{has_any}
 use Rattle.ink_model.specs.Clean.{clean}
 use Rattle.ink_model.specs.Configuration.{Configuration}
 use Rattle.ink_model.specs.Mark.{tags}
-use Rattle.ink_model.specs.Page.{Page}
 use Rattle.ink_model.specs.Shown.{shown_text, shows_more}
 
 abbrev pub saying : List ℕ → List (List ℕ) → Said
@@ -27,15 +26,13 @@ pub on_error : {A E P : Type 0} (r : Result A E) → P → OnErr r P
 on_error (Ok a) p = tt
 on_error (Err e) p = p
 
-module _ (c : Configuration) (page : Page) (lent : page ≡ c.page) where
-  pub said_is : (text : List ℕ) (told : List (List ℕ)) → text ≡ clean (shown_text page.line) → told ≡ tags page.line → saying text told ≡ said c
+module _ (c : Configuration) where
+  pub said_is : (text : List ℕ) (told : List (List ℕ)) → text ≡ clean (shown_text c.page.line) → told ≡ tags c.page.line → saying text told ≡ said c
   unfolding said
-  said_is text told e f =
-      ap (λ t. saying t told) (e ∙ ap (λ p. clean (shown_text p.line)) lent)
-      ∙ ap (saying (clean (shown_text c.page.line))) (f ∙ ap (λ p. tags p.line) lent)
+  said_is text told e f = ap (λ t. saying t told) e ∙ ap (saying (clean (shown_text c.page.line))) f
 
-  pub asks_text : shows_more page.line ≡ true → said_asks c ≡ true
-  asks_text h = or_first _ _ (ap (λ p. shows_more p.line) (sym lent) ∙ h)
+  pub asks_text : shows_more c.page.line ≡ true → said_asks c ≡ true
+  asks_text h = or_first _ _ h
 
-  pub asks_tags : tags page.line ≢ [] → said_asks c ≡ true
-  asks_tags h = or_more (shows_more c.page.line) _ (any_of _ (λ none. h (ap (λ p. tags p.line) lent ∙ none)))
+  pub asks_tags : tags c.page.line ≢ [] → said_asks c ≡ true
+  asks_tags h = or_more (shows_more c.page.line) _ (any_of _ h)

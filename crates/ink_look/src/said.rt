@@ -16,14 +16,14 @@ pub struct Said {
     pub tags: Seq<Shared<Text>>,
 }
 
-/// What a machine has said since it was settled last. The one error is a refused request for memory, which is made only where
-/// more than blanks is shown, or there are tags.
-pub(crate) fn said_by(machine: &Machine) -> Result<Said, AllocError>
-    ensures said { (s : StoryTree) → IfOk result (λ w. w ≡ said (config_of s machine.now)) }
-    ensures memory { (s : StoryTree) → OnErr result (said_asks (config_of s machine.now) ≡ true) }
+/// What a machine has said since it was settled last, in memory that was given back to it, where that is enough. The one error is
+/// a refused request for memory, which is made only where more than blanks is shown, or there are tags.
+pub(crate) fn said_by(machine: &mut Machine) -> Result<Said, AllocError>
+    ensures said { (s : StoryTree) → IfOk result (λ w. w ≡ said (config_of s machine.old)) }
+    ensures memory { (s : StoryTree) → OnErr result (said_asks (config_of s machine.old) ≡ true) }
+    ensures same { machine.new ≡ machine.old }
 {
-    let parts = machine.parts();
-    let text = parts.output.text()?;
-    let tags = parts.output.tags()?;
+    let text = machine.said_text()?;
+    let tags = machine.said_tags()?;
     Ok(Said { text, tags })
 }

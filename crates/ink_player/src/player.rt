@@ -216,6 +216,21 @@ impl<P: PureFn, F: TurnFn, O: Watcher> Player<P, F, O> {
         }
     }
 
+    /// Takes the memory of a passage, for one that is answered later. Nothing else changes. Takes no memory.
+    pub(crate) fn reuse(&mut self, passage: Passage)
+        ensures same { self.new ≡ self.old }
+    {
+        let Passage {
+            text,
+            tags,
+            choices: _,
+            events: _,
+            more: _,
+            loose: _,
+        } = passage;
+        self.machine.reuse(text, tags)
+    }
+
     /// Gives a global a value, and tells its watcher where that is another one (docs/HOST.md, "Telling"). Refused with `Broken`
     /// after a fault, with `BadValue` for void and for a text over its limit, with `NoSuchVariable` where there is no such global,
     /// and with `OutOfMemory` where memory for telling was refused; nothing has changed then. Where the watcher finds no memory

@@ -1,9 +1,9 @@
 //! Sessions over command lines (docs/PROTOCOL.md, "Sessions").
 
-ghost use Rattle.std.specs.Prelude.{◌≡◌, ℕ, List, [], ◌⊎◌, Some, option_map};
+ghost use Rattle.std.specs.Prelude.{◌≡◌, ℕ, List, [], ◌⊎◌, IfOk, Some, option_map};
 ghost use Rattle.ink_host.specs.Desk.{Resting};
 ghost use Rattle.ink_host.specs.Telling.{rests};
-ghost use Rattle.ink_model.specs.Answer.{Refuses, reply_of_events};
+ghost use Rattle.ink_model.specs.Answer.{Refuses, answer, reply_of_events};
 ghost use Rattle.ink_model.specs.Command as ink;
 ghost use Rattle.ink_model.specs.Session.{Does, Set};
 ghost use Rattle.ink_model.specs.Host.{Bindings};
@@ -23,7 +23,7 @@ use ink_host::{PureFn, TurnFn, Watcher};
 use ink_model::{Event, Given, Halt, MAX_INPUT, MAX_LINE, Refusal, Seq};
 use ink_protocol::{
     Ahead, Lent, Line, LineCommand, Outcome, RunFault, Sink, Source, answer_text, fixed_answer,
-    next_line, read_command, write_answer,
+    next_line, passage_text, read_command, write_answer,
 };
 use std::alloc::{AllocError, Global};
 use std::io::{Read, Write};
@@ -187,11 +187,31 @@ fn answer_line<T: Sink, P: PureFn, F: TurnFn, O: Watcher>(
         return write_answer(sink, text.as_bytes());
     }
     let memory = mem::replace(buffer, Vec::new(alloc));
-    let Ok(text) = answer_text(alloc, memory, outcome) else {
+    let Ok(text) = told_text(alloc, memory, player, outcome) else {
         return Err(RunFault::OutOfMemory);
     };
     *buffer = text;
     write_answer(sink, buffer.as_slice())
+}
+
+// The answer, in the memory of a buffer. A passage goes back to the player, so that a later one is made in its memory.
+fn told_text<P: PureFn, F: TurnFn, O: Watcher>(
+    alloc: Global,
+    buffer: Vec<u8>,
+    player: &mut Player<P, F, O>,
+    outcome: Outcome,
+) -> Result<Vec<u8>, AllocError>
+    ensures text { (saved : Data) → HasTextOf saved outcome → IfOk result (λ line. line.items ≡ answer (reply_by saved outcome)) }
+    ensures same { player.new ≡ player.old }
+{
+    match outcome {
+        Outcome::Passage(Ok(passage)) => {
+            let text = passage_text(alloc, buffer, &passage);
+            player.reuse(passage);
+            text
+        }
+        other => answer_text(alloc, buffer, other),
+    }
 }
 
 // Performs the command of a line, unless memory is refused for reading it, or the path in it.

@@ -48,7 +48,8 @@ reply_by saved (outcome.Landing r) = reply_of_landing r
 reply_by saved (outcome.Saved r) = reply_of_text saved r
 reply_by saved (outcome.Refused r) = Refuses r
 
--- a save that was made
-abbrev pub is_saved : Outcome → Bool
-is_saved (outcome.Saved (Ok saved)) = true
-is_saved r = false
+-- a passage, or a save that was made: their answers are written in ways of their own
+abbrev pub is_long : Outcome → Bool
+is_long (outcome.Passage (Ok passage)) = true
+is_long (outcome.Saved (Ok saved)) = true
+is_long r = false

@@ -11,7 +11,7 @@ ghost use Rattle.ink_model.specs.Events.{call_data, event_data};
 ghost use Rattle.ink_model.specs.Host.{value_given};
 ghost use Rattle.ink_model.specs.ValueJson.{value_data};
 ghost use Rattle.ink_protocol.specs.Answers.{choices_front, outcome_tokens, passage_line, quiet_middle, values_text};
-ghost use Rattle.ink_protocol.specs.Replies.{HasTextOf, IsTextOf, is_saved, reply_by, reply_of_text};
+ghost use Rattle.ink_protocol.specs.Replies.{HasTextOf, IsTextOf, is_long, reply_by, reply_of_text};
 ghost use Rattle.ink_tokens.specs.Tokens.{Added, data_tokens};
 
 use ink_model::{Event, Fault, Given, Halt, Passage, Refusal, Seq, Shared, Shown, Text, Value};
@@ -71,6 +71,23 @@ fn done_text() -> &'static str
     "{\"events\":[]}\n"
 }
 
+/// A passage that a running command returned, as the line that is written, its newline at the end, in the memory of a buffer
+/// whose bytes go. The one error is a refused request for memory.
+pub fn passage_text(
+    alloc: Global,
+    buffer: Vec<u8>,
+    passage: &Passage,
+) -> Result<Vec<u8>, AllocError>
+    ensures { IfOk result (λ line. line.items ≡ answer (Tells passage.now)) }
+{
+    let mut empty = buffer;
+    empty.clear();
+    match middle_of(passage) {
+        Some(middle) => quiet_text(alloc, empty, passage, middle),
+        None => loud_text(alloc, empty, passage),
+    }
+}
+
 /// What a command's call returned, as the line that is written, its newline at the end, in the memory of a buffer whose
 /// bytes go. The one error is a refused request for memory.
 pub fn answer_text(alloc: Global, buffer: Vec<u8>, outcome: Outcome) -> Result<Vec<u8>, AllocError>
@@ -78,11 +95,8 @@ pub fn answer_text(alloc: Global, buffer: Vec<u8>, outcome: Outcome) -> Result<V
 {
     let mut empty = buffer;
     empty.clear();
-    if let Some((front, number)) = told_number(&outcome) {
-        return number_text(empty, front, number);
-    }
-    match quiet_passage(&outcome) {
-        Some((passage, middle)) => passage_text(alloc, empty, passage, middle),
+    match told_number(&outcome) {
+        Some((front, number)) => number_text(empty, front, number),
         None => replied_text(alloc, empty, outcome),
     }
 }
@@ -111,19 +125,7 @@ fn number_text(empty: Vec<u8>, front: &str, number: i32) -> Result<Vec<u8>, Allo
     Ok(text)
 }
 
-// The passage that a running command returned, if it has no events and no tags, and what stands between its choices and its text.
-fn quiet_passage(outcome: &Outcome) -> Option<(&Passage, &'static str)>
-    ensures { (saved : Data) → IfSome result (λ told. answer (reply_by saved outcome.now) ≡ passage_line told.0.now told.1.now) }
-{
-    match outcome {
-        Outcome::Passage(Ok(passage)) => match middle_of(passage) {
-            Some(middle) => Some((passage, middle)),
-            None => None,
-        },
-        _ => None,
-    }
-}
-
+// What stands between the choices of a passage and its text, if it has no events and no tags.
 fn middle_of(passage: &Passage) -> Option<&'static str>
     ensures { IfSome result (λ middle. answer (Tells passage.now) ≡ passage_line passage.now middle.now) }
 {
@@ -158,8 +160,8 @@ fn quiet_middle(loose: bool, more: bool) -> &'static str
     }
 }
 
-// An answer that tells a passage, with the writer of JSON for its choices and its text alone.
-fn passage_text(
+// The answer that tells such a passage, with the writer of JSON for its choices and its text alone.
+fn quiet_text(
     alloc: Global,
     empty: Vec<u8>,
     passage: &Passage,
@@ -239,11 +241,24 @@ fn written_behind(before: Vec<u8>, text: &str) -> Result<Vec<u8>, AllocError>
     Ok(out.into_inner())
 }
 
+// The answer that tells any passage.
+fn loud_text(alloc: Global, empty: Vec<u8>, passage: &Passage) -> Result<Vec<u8>, AllocError>
+    requires { empty.items ≡ [] }
+    ensures { IfOk result (λ line. line.items ≡ answer (Tells passage.now)) }
+{
+    let mut out = Writer::new(empty);
+    write_passage(alloc, &mut out, passage)?;
+    let mut line = out.into_inner();
+    line.push(b'\n')?;
+    Ok(line)
+}
+
 fn replied_text(alloc: Global, empty: Vec<u8>, outcome: Outcome) -> Result<Vec<u8>, AllocError>
     requires { empty.items ≡ [] }
     ensures { (saved : Data) → HasTextOf saved outcome → IfOk result (λ line. line.items ≡ answer (reply_by saved outcome)) }
 {
     match outcome {
+        Outcome::Passage(Ok(passage)) => passage_text(alloc, empty, &passage),
         Outcome::Saved(saved) => save_text(alloc, empty, saved),
         told => written_text(alloc, empty, told),
     }
@@ -275,10 +290,10 @@ fn saved_text(empty: Vec<u8>, text: &str) -> Result<Vec<u8>, AllocError>
     Ok(line)
 }
 
-// The answer of what is no save.
+// The answer of what is neither a passage nor a save.
 fn written_text(alloc: Global, empty: Vec<u8>, outcome: Outcome) -> Result<Vec<u8>, AllocError>
     requires empty { empty.items ≡ [] }
-    requires told { is_saved outcome ≡ false }
+    requires told { is_long outcome ≡ false }
     ensures { (saved : Data) → IfOk result (λ line. line.items ≡ answer (reply_by saved outcome)) }
 {
     let mut out = Writer::new(empty);
@@ -299,11 +314,10 @@ pub fn print_values(alloc: Global, values: &[Value]) -> Result<Vec<u8>, AllocErr
 }
 
 fn write_reply(alloc: Global, out: &mut Writer, outcome: Outcome) -> Result<(), AllocError>
-    requires { is_saved outcome ≡ false }
+    requires { is_long outcome ≡ false }
     ensures { (saved : Data) → OnOk result (Added out.old out.new (data_tokens (reply_data (reply_by saved outcome)))) }
 {
     match outcome {
-        Outcome::Passage(Ok(passage)) => write_passage(alloc, out, &passage),
         Outcome::Events(Ok(events)) => write_acts(alloc, out, events.as_slice()),
         Outcome::Value(Ok(value)) => write_shown(alloc, out, &value),
         Outcome::Visits(Ok(visits)) => write_visits(out, visits),
@@ -314,7 +328,7 @@ fn write_reply(alloc: Global, out: &mut Writer, outcome: Outcome) -> Result<(), 
         | Outcome::Landing(Err(refusal))
         | Outcome::Saved(Err(refusal))
         | Outcome::Refused(refusal) => write_refusal(out, refusal),
-        Outcome::Saved(Ok(_)) => unreachable!(),
+        Outcome::Passage(Ok(_)) | Outcome::Saved(Ok(_)) => unreachable!(),
     }
 }
 

@@ -12,7 +12,7 @@ mod parse;
 mod watched;
 mod word;
 
-pub use answer::{Outcome, answer_text, fixed_answer, print_values};
+pub use answer::{Outcome, answer_text, fixed_answer, passage_text, print_values};
 pub use command::{LineCommand, read_command};
 pub use fault::RunFault;
 pub use input::{Ahead, ReadFailed, Source};

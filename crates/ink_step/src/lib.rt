@@ -21,6 +21,7 @@ mod own;
 mod parts;
 mod questions;
 mod running;
+mod saying;
 mod sections;
 mod step;
 mod storing;

@@ -1,4 +1,4 @@
-use Rattle.std.proofs.Common.{◌≡◌, ◌∙◌, false, rules, subst, sym, Err, inl}
+use Rattle.std.proofs.Common.{◌≡◌, ◌∙◌, ap, false, rules, subst, sym, Err, inl}
 use Rattle.ink_check.specs.Words.{story_tree}
 use Rattle.ink_host.specs.Desk.{bound_by}
 use Rattle.ink_look.proofs.Comes.{comes_to, comes_to_fault, falls_after}
@@ -6,11 +6,11 @@ use Rattle.ink_look.proofs.running.through.Goals as goal
 use Rattle.ink_look.specs.Ends.{RunsThrough}
 use Rattle.ink_look.specs.Words.{said, said_asks}
 use Rattle.ink_model.specs.declared.fault.Fault.TheVariants.{OutOfMemory}
-use Rattle.ink_step.specs.Marks.{Stood, keeps_mark, pressed}
+use Rattle.ink_step.specs.Marks.{Stood, keeps_mark, pressed, stood_of}
 use Rattle.ink_step.proofs.Marks.{not_pressed}
 use Rattle.ink_step.specs.Runs.{RunFalls}
 use Rattle.ink_step.specs.Refusals.{RunStopsAtRefusal}
-use Rattle.ink_step.specs.Words.{config_of}
+use Rattle.ink_step.specs.Words.{config_of, start_of}
 
 pub returns-in_err-run-clause-runs : goal.returns-in_err-run-clause-runs
 returns-in_err-run-clause-runs g c =
@@ -35,8 +35,12 @@ returns-in_err-said-clause-runs g c =
     let old = config_of s c.args.machine.now in
     let new = config_of s c.run.new.self in
     let ran = c.in_ok-run.ensures.runs in
-    let is : c.from_residual-in_err-said.result ≡ Err OutOfMemory = search rules in
-    (ran.0, ran.1, subst (RunsThrough said said_asks s b old ran.0 new) (sym is) (falls_after s b ran.0 old (config_of s c.begin.new.self) (c.begin.ensures.begun s) new ran.2 (c.in_err-said.ensures.memory s)))
+    let is : c.from_residual-in_err-said.result ≡ Err OutOfMemory = search rules in (
+      ran.0,
+      ran.1,
+      rw c.said_by.ensures.same
+          (subst (RunsThrough said said_asks s b old ran.0 new) (sym is) (falls_after s b ran.0 old (config_of s c.begin.new.self) (c.begin.ensures.begun s) new ran.2 (c.in_err-said.ensures.memory s))),
+    )
 
 pub returns-clause-runs : goal.returns-clause-runs
 returns-clause-runs g c =
@@ -46,7 +50,7 @@ returns-clause-runs g c =
       ran.0,
       ran.1,
       comes_to s b ran.0 (config_of s c.args.machine.now) (config_of s c.begin.new.self) (c.begin.ensures.begun s) (config_of s c.run.new.self) (config_of s c.settle.new.self) _
-          ran.2 (c.in_ok-said.ensures.said s) (c.settle.ensures.settled s),
+          ran.2 (c.in_ok-said.ensures.said s) (rw c.said_by.ensures.same at c.settle.ensures.settled s),
     )
 
 -- changes are counted from the beginning
@@ -54,17 +58,17 @@ pub returns-in_err-run-clause-start : goal.returns-in_err-run-clause-start
 returns-in_err-run-clause-start g c = c.in_err-run.ensures.start ∙ c.begin.ensures.start
 
 pub returns-in_err-said-clause-start : goal.returns-in_err-said-clause-start
-returns-in_err-said-clause-start g c = c.in_ok-run.ensures.start ∙ c.begin.ensures.start
+returns-in_err-said-clause-start g c = ap start_of c.said_by.ensures.same ∙ c.in_ok-run.ensures.start ∙ c.begin.ensures.start
 
 pub returns-clause-start : goal.returns-clause-start
-returns-clause-start g c = c.settle.ensures.start ∙ c.in_ok-run.ensures.start ∙ c.begin.ensures.start
+returns-clause-start g c = c.settle.ensures.start ∙ ap start_of c.said_by.ensures.same ∙ c.in_ok-run.ensures.start ∙ c.begin.ensures.start
 
 -- no mark stands
 pub returns-in_err-run-clause-mark : goal.returns-in_err-run-clause-mark
 returns-in_err-run-clause-mark g c = c.in_err-run.ensures.mark ∙ c.begin.ensures.mark
 
 pub returns-in_err-said-clause-mark : goal.returns-in_err-said-clause-mark
-returns-in_err-said-clause-mark g c = c.in_ok-run.ensures.mark ∙ c.begin.ensures.mark
+returns-in_err-said-clause-mark g c = ap stood_of c.said_by.ensures.same ∙ c.in_ok-run.ensures.mark ∙ c.begin.ensures.mark
 
 -- a turn function that was refused memory ended the run
 pub returns-in_err-run-clause-refusals : goal.returns-in_err-run-clause-refusals
