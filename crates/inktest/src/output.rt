@@ -12,7 +12,7 @@ use std::fmt::Display;
 /// function; `g` is glue; `e` and `l` begin and end a function, `l:NUMBER` one that the mark of this number begins; `s` and
 /// `#` open a string and a tag, `/s` and `/#` close one, `#:TEXT` is a tag that is given whole; `c` clears; `mark` starts a mark,
 /// `back` goes back to it and answers how many changes were noted, `forget` ends it; `shown:INDEX`, `more:INDEX`, `len`, `depth`,
-/// `newline`, `ends` and `writes` ask. Behind `=` stands what the call answers, else it may be anything but a fault.
+/// `newline`, `ends` and `writes` ask; `hand` hands the line out and gives its memory back. Behind `=` stands what the call answers, else it may be anything but a fault.
 pub(crate) fn answer(said: &mut Report, row: &str) -> Result<(), NoAnswer> {
     let mut output = Output::new(said.alloc());
     answer_calls(said, &mut output, row)
@@ -162,6 +162,7 @@ fn ask(came: &mut Report, output: &mut Output, call: &str) -> Result<(), NoAnswe
         "e" => enter(came, output),
         "/s" => close_string(came, output),
         "/#" => hand(came, output.close_tag()?),
+        "hand" => hand_line(came, output),
         "back" => tell(came, output.back()),
         "writes" => tell(came, output.writes()),
         "len" => tell(came, output.len()),
@@ -184,6 +185,16 @@ fn enter(came: &mut Report, output: &mut Output) -> Result<(), NoAnswer> {
 fn close_string(came: &mut Report, output: &mut Output) -> Result<(), NoAnswer> {
     let text = output.close_string()?;
     came.encode(text.as_str());
+    Ok(())
+}
+
+/// The text and the tags of the line, whose memory is used again.
+fn hand_line(came: &mut Report, output: &mut Output) -> Result<(), NoAnswer> {
+    let text = output.hand_text()?;
+    let tags = output.hand_tags()?;
+    came.encode(text.as_str());
+    show_tags(came, tags.as_slice());
+    output.reuse(text, tags);
     Ok(())
 }
 
