@@ -11,6 +11,7 @@ mod output;
 mod pile;
 mod rooms;
 mod section;
+mod spares;
 mod state;
 mod tags;
 mod tracker;

@@ -28,7 +28,8 @@ use crate::kept::{Form, Kept, Words};
 use crate::opened::{Kind, Opened, note, note_all, note_below, note_in, open_state};
 use crate::rooms::Rooms;
 use crate::section::Section;
-use crate::undo::{OutputPair, note_number, put_back};
+use crate::spares::Spares;
+use crate::undo::{OutputPair, let_go, note_number, put_back};
 use ink_model::{Fault, MAX_SECTIONS, MAX_TEXT, Seq, Shared, Text, Value};
 use ink_trail::Trail;
 use std::alloc::{AllocError, Global};
@@ -41,9 +42,11 @@ pub struct Output {
     line: Section,
     sections: Vec<Opened>,
     next_enter: u64,
-    /// One that was closed, to be opened again without a request for memory.
-    spare: Option<Opened>,
+    /// Those that were closed, to be opened again without a request for memory.
+    spares: Spares,
     trail: Trail<OutputPair>,
+    /// The trail may hold sections that were closed while a mark stood.
+    holds_closed: bool,
     /// What was handed out and came back, to be handed out again without a request for memory.
     rooms: Rooms,
     alloc: Global,
@@ -56,8 +59,9 @@ impl Drop for Output {
             line: _,
             sections: _,
             next_enter: _,
-            spare: _,
+            spares: _,
             trail: _,
+            holds_closed: _,
             rooms: _,
             alloc: _,
         } = self;
@@ -89,8 +93,9 @@ impl Output {
             line: Section::new(alloc),
             sections: Vec::new(alloc),
             next_enter: 0,
-            spare: None,
+            spares: Spares::new(alloc),
             trail: Trail::new(alloc),
+            holds_closed: false,
             rooms: Rooms::new(alloc),
             alloc,
         }
@@ -275,9 +280,10 @@ impl Output {
         if self.depth() >= MAX_SECTIONS {
             return Err(Fault::TooDeep);
         }
+        self.spares.make_room()?;
         self.sections.reserve(1)?;
         self.trail.add(OutputPair::Began, 1)?;
-        let opened = Opened::again(self.spare.take(), self.alloc, kind);
+        let opened = Opened::again(self.spares.take(), self.alloc, kind);
         self.sections.push_reserved(opened);
         Ok(())
     }
@@ -365,7 +371,7 @@ impl Output {
         if self.trail.is_marked() {
             return self.close_marked();
         }
-        self.spare = self.sections.pop();
+        self.spares.keep(self.sections.pop());
         Ok(())
     }
 
@@ -379,6 +385,7 @@ impl Output {
         self.trail.ready(1)?;
         if let Some(opened) = self.sections.pop() {
             self.trail.note(OutputPair::Closed(opened), 1);
+            self.holds_closed = true;
         }
         Ok(())
     }
@@ -395,7 +402,7 @@ impl Output {
             return self.close_with_marked(mark);
         }
         note_below(&mut self.line, &mut self.sections, mark)?;
-        self.spare = self.sections.pop();
+        self.spares.keep(self.sections.pop());
         Ok(())
     }
 
@@ -415,6 +422,7 @@ impl Output {
             Ok(()) => {
                 self.trail.note(OutputPair::Closed(top), 1);
                 self.trail.note(OutputPair::Wrote(state), 1);
+                self.holds_closed = true;
                 Ok(())
             }
             Err(fault) => {
@@ -619,7 +627,7 @@ impl Output {
             &mut self.line,
             &mut self.sections,
             &mut self.next_enter,
-            &mut self.spare,
+            &mut self.spares,
             &mut self.trail,
         )
     }
@@ -630,6 +638,11 @@ impl Output {
         ensures trail { Ends self.old.trail self.new.trail }
         ensures stood { output_stood self.new ≡ None }
     {
+        if self.holds_closed {
+            self.holds_closed = false;
+            let_go(&mut self.spares, &mut self.trail);
+            return;
+        }
         self.trail.forget();
     }
 

@@ -8,6 +8,7 @@ ghost use Rattle.ink_trail.specs.Undo.{Ends, but_last, spare, trail_of, undone, 
 
 use crate::opened::Opened;
 use crate::section::Section;
+use crate::spares::Spares;
 use crate::state::State;
 use ink_trail::Trail;
 
@@ -35,13 +36,13 @@ pub(crate) fn note_number(trail: &mut Trail<OutputPair>, number: u64)
     }
 }
 
-/// Puts each pair back, the last first, ends the mark, and answers how many there were. A section that is taken away is the spare
-/// one then.
+/// Puts each pair back, the last first, ends the mark, and answers how many there were. A section that is taken away is
+/// kept, to be opened again.
 pub(crate) fn put_back(
     line: &mut Section,
     sections: &mut Vec<Opened>,
     next_enter: &mut u64,
-    spare: &mut Option<Opened>,
+    spares: &mut Spares,
     trail: &mut Trail<OutputPair>,
 ) -> u64
     requires back { GoesBack (vec_capacity sections.old) (trail_of trail.old.undo) (page_of line.old sections.old.items next_enter.old) }
@@ -53,7 +54,7 @@ pub(crate) fn put_back(
 {
     let count = trail.len() as u64;
     while let Some(pair) = trail.take_last() {
-        put_one_back(line, sections, next_enter, spare, pair);
+        put_one_back(line, sections, next_enter, spares, pair);
     }
     trail.forget();
     count
@@ -63,7 +64,7 @@ fn put_one_back(
     line: &mut Section,
     sections: &mut Vec<Opened>,
     next_enter: &mut u64,
-    spare: &mut Option<Opened>,
+    spares: &mut Spares,
     pair: OutputPair,
 )
     requires keeps { Keeps pair (output_back pair (page_of line.old sections.old.items next_enter.old)) }
@@ -73,7 +74,7 @@ fn put_one_back(
 {
     match pair {
         OutputPair::Wrote(state) => unwrite(line, sections, state),
-        OutputPair::Began => *spare = sections.pop(),
+        OutputPair::Began => spares.keep(sections.pop()),
         OutputPair::Closed(opened) => sections.push_reserved(opened),
         OutputPair::Numbered(number) => *next_enter = number,
         OutputPair::Line(marks, number) => {
@@ -82,6 +83,19 @@ fn put_one_back(
         }
         OutputPair::Sections(list) => *sections = list,
     }
+}
+
+/// Ends the mark, and keeps the sections that were closed under it, to be opened again. Takes no memory.
+#[inline(never)]
+pub(crate) fn let_go(spares: &mut Spares, trail: &mut Trail<OutputPair>)
+    ensures { Ends trail.old trail.new }
+{
+    while let Some(pair) = trail.take_last() {
+        if let OutputPair::Closed(opened) = pair {
+            spares.keep(Some(opened));
+        }
+    }
+    trail.forget();
 }
 
 // Takes the last mark of what is open back, by the state before it.

@@ -8,7 +8,7 @@ ghost use Rattle.ink_model.specs.Acceptance.{lands_to, written_target};
 ghost use Rattle.ink_model.specs.Effect.{Fields, Lands, or_fault};
 ghost use Rattle.ink_model.specs.Page.{Page};
 ghost use Rattle.ink_model.specs.Step.Diverts as rules;
-ghost use Rattle.ink_model.specs.Step.Diverts.{condition, divert, divert_to, leaving_fields, led_to};
+ghost use Rattle.ink_model.specs.Step.Diverts.{condition, divert, divert_to, leaving_fields};
 ghost use Rattle.ink_model.specs.Store.{Values};
 ghost use Rattle.ink_model.specs.Variables.{read};
 ghost use Rattle.ink_model.specs.declared.value.Value.TheVariants.{Target};
@@ -55,7 +55,8 @@ pub(crate) fn divert(
     }
 }
 
-// Flow lands where a divert leads, with the faults of `destination`.
+// Flow lands where a divert leads: by a written path, or by what a variable is read as. `BadTarget` where that is nowhere, and
+// before that `BadPointer` where the variable holds a pointer that leads nowhere.
 #[inline(always)]
 fn land(
     story: &Story,
@@ -88,7 +89,7 @@ fn land(
     }
 }
 
-// Flow lands where the target leads that a variable is read as, with the faults of `landing_in`.
+// Flow lands where the target leads that a variable is read as, with the faults of `landing_held`.
 #[inline(never)]
 fn land_in(
     story: &Story,
@@ -131,32 +132,9 @@ pub(crate) fn is_wanted(conditional: bool, stack: &mut EvalStack) -> Result<bool
     wanted
 }
 
-/// Where a divert, a call or a tunnel leads: by a written path, or by what a variable is read as. `BadTarget` where that is
-/// nowhere, and before that `BadPointer` where the variable holds a pointer that leads nowhere.
+/// The landing of a written path, which enters containers around.
 #[inline(always)]
-pub(crate) fn destination(
-    story: &Story,
-    here: Spot,
-    to: &Destination,
-    globals: &Globals,
-    threads: &Threads<Spot>,
-) -> Result<Landing, Fault>
-    requires { let s = story_tree story.now in written_target s (place_of s here) ≡ lands_to s (place_of s here) to.now }
-    ensures { let s = story_tree story.now in (rest : Rest)
-        → led_as s result ≡ led_to s (place_of s here) (seen_by s threads.now.threads rest) to.now globals.now.rows }
-{
-    match to {
-        Destination::Path(_) => match written_landing(story, here) {
-            Some(place) => Ok(entering(place)),
-            None => Err(Fault::BadTarget),
-        },
-        Destination::Variable(name) => landing_in(story, here, globals, threads, name.as_str()),
-    }
-}
-
-// The landing of a written path, which enters containers around.
-#[inline(always)]
-fn entering(place: Spot) -> Landing
+pub(crate) fn entering(place: Spot) -> Landing
     ensures { result ≡ record { place = place; enters = true } }
 {
     Landing {
@@ -167,22 +145,8 @@ fn entering(place: Spot) -> Landing
 
 /// Where the target leads that a variable is read as. `BadPointer` where the pointer that it holds leads nowhere; `BadTarget`
 /// where it is no target, or the target leads nowhere.
-#[inline(never)]
-fn landing_in(
-    story: &Story,
-    here: Spot,
-    globals: &Globals,
-    threads: &Threads<Spot>,
-    name: &str,
-) -> Result<Landing, Fault>
-    ensures { let s = story_tree story.now in led_as s result ≡ rules.led_by s (read globals.now.rows threads.now.threads.thread name.now) }
-{
-    landing_held(story, here, globals, threads, name)
-}
-
-// The same without a call.
 #[inline(always)]
-fn landing_held(
+pub(crate) fn landing_held(
     story: &Story,
     here: Spot,
     globals: &Globals,

@@ -137,6 +137,7 @@ pub(crate) fn land(threads: &mut Threads<Spot>, place: Spot) -> StepEnd
 /// A frame is pushed where flow is, and flow lands in it; a function has its mark in the text. `TooDeep` where the thread has
 /// 1,000 frames, for more than 100,000 marks in the line, and where no number is left for the mark; `OutOfMemory` for a refused
 /// request for memory.
+#[inline(always)]
 pub(crate) fn call(
     threads: &mut Threads<Spot>,
     output: &mut Output,
@@ -319,6 +320,7 @@ fn enter(threads: &mut Threads<Spot>, output: &mut Output, kind: CallKind) -> Re
 /// Pops a frame of this kind, with the mark where it is a function's. `BadPop` where the top frame is of another kind or the
 /// only one, else `BadMode` where another number of strings and tags is open than at its push, else `TooDeep` for more than
 /// 100,000 marks in the line, and `OutOfMemory` for a refused request for memory.
+#[inline(always)]
 fn leave(threads: &mut Threads<Spot>, output: &mut Output, kind: FrameKind) -> Result<(), Fault>
     requires room { 1 ≤ threads_spare threads.old }
     ensures flow { (s : StoryTree) (values : List Data) → let ts = map_threads (place_of s) threads.old.threads in let w : Written = record { stack = values; page = output.old.page } in

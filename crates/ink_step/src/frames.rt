@@ -1,18 +1,22 @@
 //! Calls, tunnels and the returns of tunnels (docs/FRAMES.md).
 
 ghost use Rattle.ink_value.specs.Undo.{stack_spare, stack_stood};
-ghost use Rattle.std.specs.Prelude.{◌≡◌, ℕ, Bool, false, Option, ◌≤◌, ◌+◌};
+ghost use Rattle.std.specs.Prelude.{◌≡◌, ℕ, Bool, false, List, Option, ◌≤◌, ◌+◌};
 ghost use Rattle.ink_check.specs.Words.{story_tree};
 ghost use Rattle.ink_model.specs.Acceptance.{lands_to, written_target};
+ghost use Rattle.ink_model.specs.Effect.{Calls, Fields, or_fault};
 ghost use Rattle.ink_model.specs.Page.{Page};
-ghost use Rattle.ink_model.specs.Step.Calls.{call, led_back, return_tunnel};
+ghost use Rattle.ink_model.specs.Step.Calls.{call, call_to, led_back, return_tunnel};
+ghost use Rattle.ink_model.specs.Step.Diverts.{led_by};
 ghost use Rattle.ink_model.specs.Store.{Values};
+ghost use Rattle.ink_model.specs.Variables.{read};
+ghost use Rattle.ink_model.specs.declared.value.Value.{Value as Data};
 ghost use Rattle.ink_stack.specs.Calls.{frame_kind};
 ghost use Rattle.ink_step.specs.Performs.{Performs, fields, leading, led_back_as};
 ghost use Rattle.ink_step.specs.Words.{Rest, seen_by};
 ghost use Rattle.ink_tree.specs.Nodes.{place_of};
 
-use crate::diverting::{destination, is_wanted, landing_on};
+use crate::diverting::{entering, is_wanted, landing_held, landing_on, written_landing};
 use crate::operands::{drop_top, top};
 use crate::transfer::{Landing, Transfer};
 use ink_check::Story;
@@ -45,14 +49,67 @@ pub(crate) fn call(
     ensures mark { stack_stood stack.new ≡ stack_stood stack.old }
 {
     match is_wanted(conditional, stack) {
-        Ok(true) => match destination(story, here, to, globals, threads) {
-            Ok(landing) => {
-                *transfer = Transfer::Call(kind, landing);
+        Ok(true) => lead(story, here, kind, to, globals, threads, transfer),
+        Ok(false) => Ok(()),
+        Err(fault) => Err(fault),
+    }
+}
+
+// Flow lands, in a frame of this kind, where a call or a tunnel leads: by a written path, or by what a variable is read as.
+// `BadTarget` where that is nowhere, and before that `BadPointer` where the variable holds a pointer that leads nowhere.
+#[inline(always)]
+fn lead(
+    story: &Story,
+    here: Spot,
+    kind: CallKind,
+    to: &Destination,
+    globals: &Globals,
+    threads: &Threads<Spot>,
+    transfer: &mut Transfer<'_>,
+) -> Result<(), Fault>
+    requires { let s = story_tree story.now in written_target s (place_of s here) ≡ lands_to s (place_of s here) to.now }
+    ensures { let s = story_tree story.now in (evaluating : Bool) (fresh : Option ℕ) (stack : List Data) (page : Page) (rest : Rest) → let f = fields evaluating fresh stack page globals.now.rows in
+        Performs s false (call_to (frame_kind kind) s (place_of s here) (seen_by s threads.now.threads rest) to.now f) f (leading result transfer.new) }
+{
+    match to {
+        Destination::Path(_) => match written_landing(story, here) {
+            Some(place) => {
+                *transfer = Transfer::Call(kind, entering(place));
                 Ok(())
             }
-            Err(fault) => Err(fault),
+            None => Err(Fault::BadTarget),
         },
-        Ok(false) => Ok(()),
+        Destination::Variable(name) => lead_in(
+            story,
+            here,
+            kind,
+            globals,
+            threads,
+            name.as_str(),
+            transfer,
+        ),
+    }
+}
+
+// Flow lands so where the target leads that a variable is read as, with the faults of `landing_held`.
+#[inline(never)]
+fn lead_in(
+    story: &Story,
+    here: Spot,
+    kind: CallKind,
+    globals: &Globals,
+    threads: &Threads<Spot>,
+    name: &str,
+    transfer: &mut Transfer<'_>,
+) -> Result<(), Fault>
+    ensures { let s = story_tree story.now in (new : Fields)
+        → Performs s false (or_fault (led_by s (read globals.now.rows threads.now.threads.thread name.now)) (λ l. Calls (frame_kind kind) l new)) new (leading result transfer.new) }
+{
+    match landing_held(story, here, globals, threads, name) {
+        Ok(landing) => {
+            *transfer = Transfer::Call(kind, landing);
+            Ok(())
+        }
         Err(fault) => Err(fault),
     }
 }

@@ -437,7 +437,10 @@ impl Machine {
             Transfer::Store(..) => self.finish_stored(story, transfer),
             Transfer::Call(kind, to) => self.finish_call(story, *kind, to),
             Transfer::Return(kind, to) => self.finish_return(story, *kind, *to),
-            _ => self.finish_other(story, transfer),
+            Transfer::Next => self.finish_next(story),
+            Transfer::Fork => self.finish_fork(story),
+            Transfer::Done => self.finish_done(story),
+            Transfer::End => self.finish_other(story, transfer),
         }
     }
 
@@ -514,6 +517,45 @@ impl Machine {
         ensures mark { stood_of self.new ≡ stood_of self.old }
     {
         let mut transfer = Transfer::Return(kind, to);
+        self.finish_by(story, &mut transfer)
+    }
+
+    // The same after the last content of a container, from which flow goes on.
+    #[inline(never)]
+    fn finish_next(&mut self, story: &Story) -> Result<StepEnd, Fault>
+        requires room { MOVING + 4 ≤ threads_spare self.old.flow.threads }
+        ensures ends { Finishes (story_tree story.now) self.old Transfer.Next self.new result }
+        ensures start { start_of self.new ≡ start_of self.old }
+        ensures aside { aside_in self.new ≡ aside_in self.old }
+        ensures mark { stood_of self.new ≡ stood_of self.old }
+    {
+        let mut transfer = Transfer::Next;
+        self.finish_by(story, &mut transfer)
+    }
+
+    // The same where a thread forks.
+    #[inline(never)]
+    fn finish_fork(&mut self, story: &Story) -> Result<StepEnd, Fault>
+        requires room { MOVING + 4 ≤ threads_spare self.old.flow.threads }
+        ensures ends { Finishes (story_tree story.now) self.old Transfer.Fork self.new result }
+        ensures start { start_of self.new ≡ start_of self.old }
+        ensures aside { aside_in self.new ≡ aside_in self.old }
+        ensures mark { stood_of self.new ≡ stood_of self.old }
+    {
+        let mut transfer = Transfer::Fork;
+        self.finish_by(story, &mut transfer)
+    }
+
+    // The same at the end of a thread.
+    #[inline(never)]
+    fn finish_done(&mut self, story: &Story) -> Result<StepEnd, Fault>
+        requires room { MOVING + 4 ≤ threads_spare self.old.flow.threads }
+        ensures ends { Finishes (story_tree story.now) self.old Transfer.Done self.new result }
+        ensures start { start_of self.new ≡ start_of self.old }
+        ensures aside { aside_in self.new ≡ aside_in self.old }
+        ensures mark { stood_of self.new ≡ stood_of self.old }
+    {
+        let mut transfer = Transfer::Done;
         self.finish_by(story, &mut transfer)
     }
 
