@@ -1,8 +1,9 @@
 -- Steps of a loop that looks for a line, by what a step of the machine comes to.
-use Rattle.std.proofs.Common.{◌≡◌, ◌∙◌, ◌||◌, ap, sym, refl, subst, length, ℕ, suc, List, [], Bool, true, false, Option, None, Some, Result, Ok, Err}
-use Rattle.ink_model.specs.Line.{is_call}
+use Rattle.std.proofs.Common.{◌≡◌, ◌∙◌, ◌||◌, ap, arith, sym, refl, subst, length, nat_le, if◌then◌else◌, ◌≤◌, ◌<◌, ℕ, suc, List, [], Bool, true, false, Option, None, Some, Result, Ok, Err}
+use Rattle.std.proofs.lemmas.Bool.{leb-true}
+use Rattle.ink_model.specs.Line.{at_least, is_call}
 use Rattle.ink_line.specs.Look.{Looking, Over, Search, kept_at, look_on, looked, looked_by, looked_on, newline_between}
-use Rattle.ink_line.proofs.Opens.{is_open, open_is}
+use Rattle.ink_line.proofs.Opens.{is_open, open_is, shown_below}
 use Rattle.ink_look.specs.Looking.{FindsAs, MarksHere, StandsAs, StepsOn, found_of, newline_from, search_after, stepped}
 use Rattle.ink_look.specs.declared.looking.Looked.{Looked}
 use Rattle.ink_look.specs.declared.looking.Looked.TheVariants as after
@@ -11,6 +12,8 @@ use Rattle.ink_model.specs.Asks.{asks}
 use Rattle.ink_model.specs.Configuration.{Configuration}
 use Rattle.ink_model.specs.Host.{Bound}
 use Rattle.ink_model.specs.Move.{Outcome, Next, Stop, Faults}
+use Rattle.ink_model.specs.Output.{is_line}
+use Rattle.ink_model.specs.Page.{Page}
 use Rattle.ink_model.specs.Run.{Made, Moment, At, Stopped, came, moment_after}
 use Rattle.ink_model.specs.Shown.{is_shown, more_from, open_newline}
 use Rattle.ink_model.specs.Step.{Stepped, Comes, Wants, step}
@@ -130,6 +133,22 @@ stands_past ms newline other shown = (shown, by (more_from ms (suc newline)) ref
     by false e = absurd (other (is_open ms newline shown e))
 
 -- ---- a newline that a step is found to have
+
+-- none where it left no mark
+pub none_new : (marks : ℕ) (page : Page) → length page.line ≤ marks → newline_from marks page ≡ None
+none_new marks page few = by (is_line page.sections)
+  where
+    at_last : (i : ℕ) → i < length page.line → (b : Bool) → nat_le marks i ≡ b → (if b then Some i else None) ≡ None
+    at_last i within true is = absurd (omega (arith, few, within, leb-true marks i is))
+    at_last i within false is = refl
+
+    last : (o : Option ℕ) → open_newline page.line ≡ o → at_least marks o ≡ None
+    last None is = refl
+    last (Some i) is = at_last i (shown_below page.line i (open_is page.line i is).0) (nat_le marks i) refl
+
+    by : (b : Bool) → (if b then at_least marks (open_newline page.line) else None) ≡ None
+    by true = last (open_newline page.line) refl
+    by false = refl
 
 module _ (kept new : Configuration) where
   pub kept_found : (o : Option ℕ) → MarksHere (found_of o) kept new → (left : List (Option Given)) (all : List Made) → kept_at (At new left all) o ≡ search_after (found_of o) kept new left all

@@ -224,11 +224,14 @@ fn found(machine: &mut Machine, marks: usize) -> Looked
     }
 }
 
-// With the line alone open, its newline from an index on that is shown last.
+// With the line alone open, its newline from an index on that is shown last. Most steps leave no mark there.
 #[inline(always)]
 fn newline_since(output: &Output, marks: usize) -> Option<usize>
     ensures { result ≡ newline_from marks output.now.page }
 {
+    if output.len() <= marks {
+        return None;
+    }
     if output.depth() > 0 {
         return None;
     }

@@ -69,14 +69,16 @@ one_left texts at m written all within is rest =
     ap (λ (n : Mark). written ++ texts_of (n ∷ drop (at + 1) texts)) is ∙ sym (at_drop_more (λ ms. written ++ texts_of ms) texts at m within) ∙ rest
 
 -- a mark that is no text says nothing
-pub not_said : (f : Form) (rest : List Mark) → ((w : Words) → f ≡ forms.Text w → ⊥) → texts_of (mark_of f ∷ rest) ≡ texts_of rest
-not_said (forms.Text w) rest text = absurd (text w refl)
-not_said (forms.Blank t) rest text = refl
-not_said forms.Newline rest text = refl
-not_said forms.Glue rest text = refl
-not_said (forms.Tag t) rest text = refl
-not_said (forms.Enter n) rest text = refl
-not_said (forms.Leave n) rest text = refl
+pub not_said : (f : Form) (rest : List Mark) → ((w : Words) → f ≡ forms.Text w → ⊥) → ((t : List ℕ) → f ≡ forms.Part t → ⊥) → texts_of (mark_of f ∷ rest) ≡ texts_of rest
+not_said (forms.Text w) rest text part = absurd (text w refl)
+not_said (forms.Part p) rest text part = absurd (part p refl)
+not_said (forms.Blank t) rest text part = refl
+not_said (forms.BlankPart p) rest text part = refl
+not_said forms.Newline rest text part = refl
+not_said forms.Glue rest text part = refl
+not_said (forms.Tag t) rest text part = refl
+not_said (forms.Enter n) rest text part = refl
+not_said (forms.Leave n) rest text part = refl
 
 -- when no text is left to be joined
 pub all_joined : (at : ℕ) (texts : List Mark) (line all : List ℕ) → length texts ≤ at → line ++ texts_of (drop at texts) ≡ all → line ≡ all

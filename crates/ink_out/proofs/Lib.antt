@@ -14,3 +14,4 @@ pub mod Undoing
 pub mod Marks
 pub mod Joined
 pub mod Printed
+pub mod Parts

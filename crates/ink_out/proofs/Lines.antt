@@ -1,9 +1,9 @@
 -- A text cleaned in one walk, which keeps what stands on the line before a character.
-use Rattle.std.proofs.Common.{◌≡◌, ℕ, suc, ◌<◌, ◌≤◌, ◌+◌, ◌-◌, zero, ◌⊎◌, Bool, true, false, not, cond, if◌then◌else◌, List, [], ◌∷◌, ◌++◌, Option, None, Some, map, filter, length, take, drop, get_or, refl, sym, ap, ◌∙◌, arith, inl, inr}
+use Rattle.std.proofs.Common.{◌≡◌, ℕ, suc, ◌<◌, ◌≤◌, zero, ◌⊎◌, Bool, true, false, not, cond, if◌then◌else◌, List, [], ◌∷◌, ◌++◌, Option, None, Some, map, filter, length, take, drop, get_or, refl, sym, ap, ◌∙◌, arith, inl, inr}
 use Rattle.std.specs.List.{list_any, prefix_len}
 use Rattle.std.specs.Str.{IsUtf8, IsCharBoundary}
 use Rattle.std.proofs.lemmas.Bool.{cases_lt, or_parts, not-false, not-true}
-use Rattle.std.proofs.lemmas.List.{append-nil, append_assoc, take-append-drop, length-drop, length-take-le, get_or-drop, get_or-take}
+use Rattle.std.proofs.lemmas.List.{append-nil, append_assoc, take-append-drop, length-take-le, get_or-take}
 use Rattle.std.proofs.Math.Seq.{drop-length, take-length}
 use Rattle.std.proofs.lemmas.List.Sums.{prefix_len-le-length, prefix_len_passes, prefix_len_stops}
 use Rattle.std.proofs.lemmas.Str.{IsCharBoundary-end, IsCharBoundary-before_ascii, IsCharBoundary-after_ascii}
@@ -169,46 +169,9 @@ word_cleaned cs more before n some e =
 pub first_word : (cs : List ℕ) (n : ℕ) → n ≡ word_of cs → AreWords cs n
 first_word cs n e = record { within = word_within cs n e; cleaned = λ some before more. word_cleaned cs more before n some e; ends = ends_at cs n e }
 
--- a text is parted at a space
-parted : (cs : List ℕ) (n k m w : ℕ) → k ≡ n + 1 → m ≡ n + 1 + w → n < length cs → get_or cs n 0 ≡ 32
-    → (drop n cs ≡ 32 ∷ drop k cs) × (take m cs ≡ take n cs ++ 32 ∷ take w (drop k cs)) × (drop m cs ≡ drop w (drop k cs))
-parted [] n k m w one more h e = absurd (omega (arith, h))
-parted cs n zero m w one more h e = absurd (omega (arith, one))
-parted cs n k zero w one more h e = absurd (omega (arith, more))
-parted (c ∷ cs) zero (suc k) (suc m) w one more h e =
-    let none : k ≡ 0 = omega (arith, one) in
-    let same : m ≡ w = omega (arith, more) in
-    rw (none, same) (ap (λ b. b ∷ cs) e, ap (λ b. b ∷ take w cs) e, refl)
-parted (c ∷ cs) (suc n) (suc k) (suc m) w one more h e =
-    let rest = parted cs n k m w (omega (arith, one)) (omega (arith, more)) (omega (arith, h)) e in
-    (rest.0, ap (λ bs. c ∷ bs) rest.1, rest.2)
-
--- a word stands there
-word_some : (cs : List ℕ) → 0 < length cs → is_white (get_or cs 0 0) ≡ false → 0 < word_of cs
-word_some [] some filled = absurd (omega (arith, some))
-word_some (c ∷ cs) some filled = rw filled (omega arith)
-
--- a space and one more word behind words
-pub next_word : (cs : List ℕ) (n w : ℕ) → 0 < n → AreWords cs n → n + 1 < length cs → get_or cs n 0 ≡ 32 → is_white (get_or cs (n + 1) 0) ≡ false → w ≡ word_of (drop (n + 1) cs)
-    → AreWords cs (n + 1 + w)
-next_word cs n w some words room space_at filled e =
-    let rest = drop (n + 1) cs in
-    let first = first_word rest w e in
-    let cut = parted cs n (n + 1) (n + 1 + w) w refl refl (omega (arith, room)) space_at in
-    let left : length rest ≡ length cs - (n + 1) = length-drop (n + 1) cs in
-    let same : n + 1 + 0 ≡ n + 1 = omega arith in
-    let more_than_none : 0 < w = omega (arith, e, word_some rest (omega (arith, left, room)) (ap is_white (get_or-drop (n + 1) cs 0 0) ∙ ap (λ k. is_white (get_or cs k 0)) same ∙ filled)) in
-    record {
-      within = omega (arith, first.within, left, room);
-      cleaned = λ h before more.
-          words.cleaned some before more
-          ∙ ap (λ bs. space before ++ (take n cs ++ bs)) (ap (λ bs. cleaned_on Word (bs ++ more)) cut.0 ∙ first.cleaned more_than_none Gap more)
-          ∙ ap (λ bs. space before ++ bs) (sym (append_assoc (take n cs) (32 ∷ take w rest) (cleaned_on Word (drop w rest ++ more))) ∙ rw (cut.1, cut.2) refl);
-      ends = elim first.ends [
-        | inl is ↦ inl (omega (arith, is, left, room))
-        | inr white ↦ inr (ap is_white (sym (get_or-drop (n + 1) cs w 0)) ∙ white)
-      ];
-    }
+-- so many bytes are words, whatever stands behind them
+abbrev pub Passed : List ℕ → ℕ → Type 0
+Passed cs n = (before : Before) (more : List ℕ) → cleaned_on before (cs ++ more) ≡ space before ++ (take n cs ++ cleaned_on Word (drop n cs ++ more))
 
 pub words_step : (out cs more : List ℕ) (before : Before) (n : ℕ) → 0 < n → AreWords cs n → ((out ++ space before) ++ take n cs) ++ cleaned_on Word (drop n cs ++ more) ≡ out ++ cleaned_on before (cs ++ more)
 words_step out cs more before n some words =

@@ -22,14 +22,16 @@ use Rattle.ink_out.proofs.Tracking.{or_nothing}
 -- ---- the last text or tag
 
 -- a mark that is no text and no tag
-pub more_same : (f : Form) (before : List Mark) → ((w : Words) → f ≡ forms.Text w → ⊥) → ((t : List ℕ) → f ≡ forms.Tag t → ⊥) → more_at (mark_of f ∷ before) ≡ more_at before
-more_same (forms.Text w) before text tag = absurd (text w refl)
-more_same (forms.Tag t) before text tag = absurd (tag t refl)
-more_same (forms.Blank t) before text tag = refl
-more_same forms.Newline before text tag = refl
-more_same forms.Glue before text tag = refl
-more_same (forms.Enter n) before text tag = refl
-more_same (forms.Leave n) before text tag = refl
+pub more_same : (f : Form) (before : List Mark) → ((w : Words) → f ≡ forms.Text w → ⊥) → ((t : List ℕ) → f ≡ forms.Part t → ⊥) → ((t : List ℕ) → f ≡ forms.Tag t → ⊥) → more_at (mark_of f ∷ before) ≡ more_at before
+more_same (forms.Text w) before text part tag = absurd (text w refl)
+more_same (forms.Part p) before text part tag = absurd (part p refl)
+more_same (forms.Tag t) before text part tag = absurd (tag t refl)
+more_same (forms.Blank t) before text part tag = refl
+more_same (forms.BlankPart p) before text part tag = refl
+more_same forms.Newline before text part tag = refl
+more_same forms.Glue before text part tag = refl
+more_same (forms.Enter n) before text part tag = refl
+more_same (forms.Leave n) before text part tag = refl
 
 -- ---- the settled newlines
 
@@ -88,7 +90,9 @@ among_here xs end i n some fits f at =
 
 pub knows_piece : (p : Piece) (enters : Enters) (before : List Mark) → Knows enters before → Knows enters (piece_mark p ∷ before)
 knows_piece (pieces.Text t) enters before k = record { starts = k.starts }
+knows_piece (pieces.Part p) enters before k = record { starts = k.starts }
 knows_piece (pieces.Blank t) enters before k = record { starts = k.starts }
+knows_piece (pieces.BlankPart p) enters before k = record { starts = k.starts }
 knows_piece pieces.Newline enters before k = record { starts = k.starts }
 
 pub sees_more : (marks : List Mark) (settled next_settled : List ℕ) (state next : State) (enters noted : Enters) (m : Mark) → reverse next_settled ≡ settled_after m state.tracker.newline (reverse settled) → (Stands (reverse marks) (reverse settled) state → Stands (m ∷ reverse marks) (settled_after m state.tracker.newline (reverse settled)) next) → Knows noted (m ∷ reverse marks) → Sees marks settled state enters → Sees (marks ++ m ∷ []) next_settled next noted

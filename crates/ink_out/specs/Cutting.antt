@@ -14,5 +14,7 @@ is_space White = is_white
 
 abbrev pub piece_mark : Piece → Mark
 piece_mark (pieces.Text t) = kinds.Text t
+piece_mark (pieces.Part p) = kinds.Text p
 piece_mark (pieces.Blank t) = kinds.Blank t
+piece_mark (pieces.BlankPart p) = kinds.Blank p
 piece_mark pieces.Newline = kinds.Newline

@@ -17,7 +17,9 @@ said (words.Truth b) = truth_text b
 
 abbrev pub mark_of : Form → Mark
 mark_of (forms.Text w) = kinds.Text (said w)
+mark_of (forms.Part p) = kinds.Text p
 mark_of (forms.Blank t) = kinds.Blank t
+mark_of (forms.BlankPart p) = kinds.Blank p
 mark_of forms.Newline = kinds.Newline
 mark_of forms.Glue = kinds.Glue
 mark_of (forms.Tag t) = kinds.Tag t

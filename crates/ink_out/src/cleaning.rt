@@ -152,8 +152,15 @@ fn words_len(text: &[u8]) -> usize
     if len == 0 {
         return 0;
     }
-    'words: while goes_on(text, len) {
-        len += 1 + word_len(&text[len + 1..]);
+    let mut at = len;
+    'words: while at < text.len() {
+        let byte = text[at];
+        if !is_white(byte) {
+            len = at + 1;
+        } else if byte != b' ' || at > len {
+            return len;
+        }
+        at += 1;
     }
     len
 }
@@ -178,15 +185,6 @@ pub(crate) fn clean_len(text: &str) -> Option<usize>
         return None;
     }
     Some(len)
-}
-
-/// Whether one space stands at an index, and a word behind it.
-#[inline(always)]
-fn goes_on(text: &[u8], at: usize) -> bool
-    requires { at ≤ length text.now }
-    ensures { result ≡ true → (at + 1 < length text.now) × (get_or text.now at 0 ≡ 32) × (is_white (get_or text.now (at + 1) 0) ≡ false) }
-{
-    at + 1 < text.len() && text[at] == b' ' && !is_white(text[at + 1])
 }
 
 /// How many bytes a text begins with that are no blank and no newline.

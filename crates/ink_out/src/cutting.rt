@@ -1,7 +1,8 @@
 //! Cutting a written text into marks (docs/TEXT.md, "Cutting").
 
-ghost use Rattle.std.specs.Prelude.{◌≡◌, ◌≢◌, ◌<◌, [], ◌∷◌, ◌++◌, ◌||◌, length, map, not, IfOk, OnOk, IfSome, is_some, slice_index};
+ghost use Rattle.std.specs.Prelude.{◌≡◌, ◌≢◌, ◌<◌, ◌≤◌, ◌-◌, [], ◌∷◌, ◌++◌, ◌||◌, drop, length, map, not, take, IfOk, OnOk, IfSome, is_some, slice_index};
 ghost use Rattle.std.specs.List.{list_any, prefix_len, suffix_len};
+ghost use Rattle.std.specs.Str.{IsCharBoundary};
 ghost use Rattle.ink_model.specs.Mark.{cut, cut_end, piece};
 ghost use Rattle.ink_model.specs.Output.{is_text};
 ghost use Rattle.ink_model.specs.Bytes.{has_newline, is_blank, is_newline, is_white, leading, trailing, trimmed, without};
@@ -9,7 +10,9 @@ ghost use Rattle.ink_model.specs.declared.mark.Mark.{Mark};
 ghost use Rattle.ink_out.specs.Cutting.{is_space, piece_mark};
 
 use crate::kept::{Form, Kept, Words};
+use crate::part::Part;
 use ink_model::{Shared, Text};
+use smallvec::SmallVec;
 use std::alloc::{AllocError, Global};
 
 /// Spaces and tabs, or these and newlines.
@@ -31,12 +34,24 @@ impl Space {
     }
 }
 
-/// What a written text is cut into: pieces, and newlines at its ends.
+/// What a written text is cut into: pieces, and newlines at its ends. A piece is a text of its own, or a part of the text.
 #[derive(Drop)]
 pub(crate) enum Piece {
     Text(Shared<Text>),
+    Part(Part),
     Blank(Shared<Text>),
+    BlankPart(Part),
     Newline,
+}
+
+/// The pieces of a text: a piece, a newline, a piece, a newline and a piece at the most, which take no memory.
+pub(crate) type Pieces = SmallVec<Piece, 5>;
+
+/// What an empty place among pieces holds.
+impl Default for Piece {
+    fn default() -> Self {
+        Piece::Newline
+    }
 }
 
 impl Piece {
@@ -53,12 +68,40 @@ impl Piece {
         }
     }
 
+    /// The piece of such a text that is a part of a longer one, which is not copied. The one error is a count of owners that is
+    /// full, or, for a text over 4 GiB, a refused request for memory.
+    fn part(alloc: Global, text: &Shared<Text>, from: usize, to: usize) -> Result<Piece, AllocError>
+        requires order { from ≤ to }
+        requires from { IsCharBoundary text.now from }
+        requires to { IsCharBoundary text.now to }
+        ensures { take (to - from) (drop from text.now) ≢ [] → IfOk result (λ one. piece_mark one ∷ [] ≡ piece (take (to - from) (drop from text.now))) }
+    {
+        let Some(part) = Part::of(text, from, to)? else {
+            return Piece::copied(alloc, &text.as_str()[from..to]);
+        };
+        if has_words(part.as_str().as_bytes()) {
+            Ok(Piece::Part(part))
+        } else {
+            Ok(Piece::BlankPart(part))
+        }
+    }
+
+    // The same of a text that is copied. The one error is a refused request for memory.
+    #[cold]
+    #[inline(never)]
+    fn copied(alloc: Global, text: &str) -> Result<Piece, AllocError>
+        ensures { text.now ≢ [] → IfOk result (λ one. piece_mark one ∷ [] ≡ piece text.now) }
+    {
+        let copy = Shared::new(alloc, Text::from_str(alloc, text)?)?;
+        Piece::whole(&copy)
+    }
+
     /// A text, and no blanks or newline.
     #[inline(always)]
     pub(crate) fn is_text(&self) -> bool
         ensures { result ≡ is_text (piece_mark self.now) }
     {
-        matches!(self, Piece::Text(_))
+        matches!(self, Piece::Text(_) | Piece::Part(_))
     }
 
     /// The mark that it leaves.
@@ -68,7 +111,9 @@ impl Piece {
     {
         let form = match self {
             Piece::Text(text) => Form::Text(Words::Text(text)),
+            Piece::Part(part) => Form::Part(part),
             Piece::Blank(text) => Form::Blank(text),
+            Piece::BlankPart(part) => Form::BlankPart(part),
             Piece::Newline => Form::Newline,
         };
         Kept { form }
@@ -90,65 +135,91 @@ pub(crate) fn is_cut(text: &str) -> bool
     split_start(text).is_some() || split_end(text).is_some()
 }
 
-/// The pieces of a written text (docs/TEXT.md, "Cutting"). The one error is a refused request for memory.
+/// The pieces of a written text (docs/TEXT.md, "Cutting"). The one error is a refused request for memory, or a count of owners that
+/// is full.
 #[tactic(auto, unfolding(ink_model::specs::Mark::cut))]
-pub(crate) fn cut_text(alloc: Global, text: &str) -> Result<Vec<Piece>, AllocError>
+pub(crate) fn cut_text(alloc: Global, text: &Shared<Text>) -> Result<Pieces, AllocError>
     ensures { IfOk result (λ pieces. map piece_mark pieces.items ≡ cut text.now) }
 {
-    let mut pieces = Vec::new(alloc);
-    match split_start(text) {
+    let mut pieces = SmallVec::new(alloc);
+    match split_start(text.as_str()) {
         Some((before, after)) => {
-            push_line(alloc, &mut pieces, before)?;
-            push_end(alloc, &mut pieces, after)?;
+            push_line(alloc, &mut pieces, text, 0, before)?;
+            push_end(alloc, &mut pieces, text, after)?;
             Ok(pieces)
         }
         None => {
-            push_end(alloc, &mut pieces, text)?;
+            push_end(alloc, &mut pieces, text, 0)?;
             Ok(pieces)
         }
     }
 }
 
-/// Adds the pieces of what follows a white beginning. The one error is a refused request for memory.
-fn push_end(alloc: Global, pieces: &mut Vec<Piece>, text: &str) -> Result<(), AllocError>
-    ensures { OnOk result (map piece_mark pieces.new.items ≡ map piece_mark pieces.old.items ++ cut_end text.now) }
+/// Adds the pieces of what follows a white beginning. The one error is as above.
+fn push_end(
+    alloc: Global,
+    pieces: &mut Pieces,
+    text: &Shared<Text>,
+    from: usize,
+) -> Result<(), AllocError>
+    requires { IsCharBoundary text.now from }
+    ensures { OnOk result (map piece_mark pieces.new.items ≡ map piece_mark pieces.old.items ++ cut_end (drop from text.now)) }
 {
-    match split_end(text) {
+    let end = text.as_str().len();
+    match split_end(&text.as_str()[from..]) {
         Some((before, after)) => {
-            push_line(alloc, pieces, before)?;
-            push_piece(alloc, pieces, after)
+            push_line(alloc, pieces, text, from, from + before)?;
+            push_piece(alloc, pieces, text, from + after, end)
         }
-        None => push_piece(alloc, pieces, text),
+        None => push_piece(alloc, pieces, text, from, end),
     }
 }
 
-/// Adds a piece, and a newline. The one error is a refused request for memory.
-fn push_line(alloc: Global, pieces: &mut Vec<Piece>, text: &str) -> Result<(), AllocError>
-    ensures { OnOk result (map piece_mark pieces.new.items ≡ map piece_mark pieces.old.items ++ (piece text.now ++ Mark.Newline ∷ [])) }
+/// Adds a piece, and a newline. The one error is as above.
+fn push_line(
+    alloc: Global,
+    pieces: &mut Pieces,
+    text: &Shared<Text>,
+    from: usize,
+    to: usize,
+) -> Result<(), AllocError>
+    requires order { from ≤ to }
+    requires from { IsCharBoundary text.now from }
+    requires to { IsCharBoundary text.now to }
+    ensures { OnOk result (map piece_mark pieces.new.items ≡ map piece_mark pieces.old.items ++ (piece (take (to - from) (drop from text.now)) ++ Mark.Newline ∷ [])) }
 {
-    push_piece(alloc, pieces, text)?;
+    push_piece(alloc, pieces, text, from, to)?;
     pieces.push(Piece::Newline)?;
     Ok(())
 }
 
-/// Adds a piece, if it is not empty. The one error is a refused request for memory.
-fn push_piece(alloc: Global, pieces: &mut Vec<Piece>, text: &str) -> Result<(), AllocError>
-    ensures { OnOk result (map piece_mark pieces.new.items ≡ map piece_mark pieces.old.items ++ piece text.now) }
+/// Adds a piece, if it is not empty. The one error is as above.
+fn push_piece(
+    alloc: Global,
+    pieces: &mut Pieces,
+    text: &Shared<Text>,
+    from: usize,
+    to: usize,
+) -> Result<(), AllocError>
+    requires order { from ≤ to }
+    requires from { IsCharBoundary text.now from }
+    requires to { IsCharBoundary text.now to }
+    ensures { OnOk result (map piece_mark pieces.new.items ≡ map piece_mark pieces.old.items ++ piece (take (to - from) (drop from text.now))) }
 {
-    if text.is_empty() {
+    if text.as_str()[from..to].is_empty() {
         return Ok(());
     }
-    let part = Shared::new(alloc, Text::from_str(alloc, text)?)?;
-    pieces.push(Piece::whole(&part)?)?;
+    pieces.push(Piece::part(alloc, text, from, to)?)?;
     Ok(())
 }
 
-/// Where a text begins with white that holds a newline: what stands before the first newline there, and after the
-/// last.
-fn split_start(text: &str) -> Option<(&str, &str)>
+/// Where a text begins with white that holds a newline: where the first newline there stands, and where what follows the last
+/// begins.
+fn split_start(text: &str) -> Option<(usize, usize)>
     ensures found { is_some result ≡ has_newline (leading is_white text.now) }
-    ensures before { IfSome result (λ parts. parts.0.now ≡ leading is_blank text.now) }
-    ensures after { IfSome result (λ parts. parts.1.now ≡ trailing is_blank (leading is_white text.now) ++ without is_white text.now) }
+    ensures before { IfSome result (λ at. take at.0 text.now ≡ leading is_blank text.now) }
+    ensures after { IfSome result (λ at. drop at.1 text.now ≡ trailing is_blank (leading is_white text.now) ++ without is_white text.now) }
+    ensures edges { IfSome result (λ at. IsCharBoundary text.now at.0 × IsCharBoundary text.now at.1) }
 {
     let first = leading(text, Space::Blank);
     if !is_newline_at(text, first) {
@@ -156,14 +227,15 @@ fn split_start(text: &str) -> Option<(&str, &str)>
     }
     let white = leading(text, Space::White);
     let after = white - trailing(&text[..white], Space::Blank);
-    Some((&text[..first], &text[after..]))
+    Some((first, after))
 }
 
-/// Where a text ends with white that holds a newline: what stands before the first newline there, and after the last.
-fn split_end(text: &str) -> Option<(&str, &str)>
+/// Where a text ends with white that holds a newline: where the first newline there stands, and where what follows the last begins.
+fn split_end(text: &str) -> Option<(usize, usize)>
     ensures found { is_some result ≡ has_newline (trailing is_white text.now) }
-    ensures before { IfSome result (λ parts. parts.0.now ≡ trimmed is_white text.now ++ leading is_blank (trailing is_white text.now)) }
-    ensures after { IfSome result (λ parts. parts.1.now ≡ trailing is_blank text.now) }
+    ensures before { IfSome result (λ at. take at.0 text.now ≡ trimmed is_white text.now ++ leading is_blank (trailing is_white text.now)) }
+    ensures after { IfSome result (λ at. drop at.1 text.now ≡ trailing is_blank text.now) }
+    ensures edges { IfSome result (λ at. IsCharBoundary text.now at.0 × IsCharBoundary text.now at.1) }
 {
     let after = text.len() - trailing(text, Space::Blank);
     if after == 0 || !is_newline_at(text, after - 1) {
@@ -171,7 +243,7 @@ fn split_end(text: &str) -> Option<(&str, &str)>
     }
     let white = text.len() - trailing(text, Space::White);
     let first = white + leading(&text[white..], Space::Blank);
-    Some((&text[..first], &text[after..]))
+    Some((first, after))
 }
 
 /// How many bytes of a kind a text begins with.

@@ -62,8 +62,10 @@ fn push_texts(line: &mut String, texts: &[Kept]) -> Result<(), AllocError>
 {
     let mut digits = Buffer::new();
     for mark in texts {
-        if let Form::Text(words) = &mark.form {
-            line.push_str(words.as_str(&mut digits))?;
+        match &mark.form {
+            Form::Text(words) => line.push_str(words.as_str(&mut digits))?,
+            Form::Part(part) => line.push_str(part.as_str())?,
+            _ => {}
         }
     }
     Ok(())
@@ -78,8 +80,10 @@ fn cleaned_line(room: String, texts: &[Kept]) -> Result<Text, AllocError>
     let mut shown = Shown::new(room, true);
     let mut digits = Buffer::new();
     for mark in texts {
-        if let Form::Text(words) = &mark.form {
-            shown.push_str(words.as_str(&mut digits))?;
+        match &mark.form {
+            Form::Text(words) => shown.push_str(words.as_str(&mut digits))?,
+            Form::Part(part) => shown.push_str(part.as_str())?,
+            _ => {}
         }
     }
     shown.push_str("\n")?;
@@ -94,6 +98,7 @@ fn texts_len(marks: &[Kept]) -> Option<usize>
     for mark in marks {
         match &mark.form {
             Form::Text(words) => len = len.saturating_add(words.most_len()),
+            Form::Part(part) => len = len.saturating_add(part.as_str().len()),
             _ => return None,
         }
     }

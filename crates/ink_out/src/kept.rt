@@ -4,6 +4,7 @@ ghost use Rattle.std.specs.Prelude.{◌≡◌, IfOk};
 ghost use Rattle.ink_model.specs.Value.{truth_text};
 ghost use Rattle.ink_out.specs.Kept.{said};
 
+use crate::part::Part;
 use ink_model::{Shared, Text};
 use itoa::Buffer;
 use std::alloc::{AllocError, Global};
@@ -28,7 +29,11 @@ impl Model for Kept {
 #[derive(Drop)]
 pub(crate) enum Form {
     Text(Words),
+    /// A text that is a part of a longer one.
+    Part(Part),
     Blank(Shared<Text>),
+    /// Blanks that are a part of a text.
+    BlankPart(Part),
     Newline,
     Glue,
     Tag(Shared<Text>),

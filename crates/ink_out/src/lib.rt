@@ -8,6 +8,7 @@ mod joining;
 mod kept;
 mod opened;
 mod output;
+mod part;
 mod pile;
 mod rooms;
 mod section;

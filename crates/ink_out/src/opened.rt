@@ -14,7 +14,7 @@ ghost use Rattle.ink_out.specs.Undo.{GoesBack, Held, open_marks, output_back, wi
 ghost use Rattle.ink_out.specs.Writing.{Notes, page_of};
 ghost use Rattle.ink_trail.specs.Undo.{TrailsOrKeeps, but_last, spare, trail_of};
 
-use crate::cutting::Piece;
+use crate::cutting::Pieces;
 use crate::kept::Kept;
 use crate::section::Section;
 use crate::state::State;
@@ -90,11 +90,7 @@ impl Opened {
 
     /// Adds the marks of pieces, as `Section::extend` does. The one error is a refused request for memory, and leaves all as it
     /// was.
-    fn extend(
-        &mut self,
-        trail: &mut Trail<OutputPair>,
-        pieces: Vec<Piece>,
-    ) -> Result<(), AllocError>
+    fn extend(&mut self, trail: &mut Trail<OutputPair>, pieces: Pieces) -> Result<(), AllocError>
         ensures ok { OnOk result (self.new ≡ record self.old { marks = self.old.marks ++ map piece_mark pieces.items }) }
         ensures err { OnErr result (self.new ≡ self.old) }
         ensures trail { (page : Page) → TrailsOrKeeps output_back (length pieces.items) (with_open self.old.marks page) trail.old (with_open self.new.marks page) trail.new result }
@@ -232,7 +228,7 @@ pub(crate) fn note_all(
     line: &mut Section,
     sections: &mut [Opened],
     trail: &mut Trail<OutputPair>,
-    pieces: Vec<Piece>,
+    pieces: Pieces,
 ) -> Result<(), Fault>
     ensures page { Notes (map piece_mark pieces.items) line.old sections.old line.new sections.new result }
     ensures within { length line.old ≤ MAX_MARKS → length line.new ≤ MAX_MARKS }

@@ -23,7 +23,7 @@ ghost use Rattle.ink_out.specs.Writing.{Notes, closed, marks_of, page_of, prints
 ghost use Rattle.ink_trail.specs.Undo.{Begins, Ends, KeepsTrail, Trails, TrailsOrKeeps, trail_of, writes_of};
 
 use crate::cleaning::cleaned;
-use crate::cutting::{Piece, cut_text, is_cut};
+use crate::cutting::{Piece, Pieces, cut_text, is_cut};
 use crate::kept::{Form, Kept, Words};
 use crate::opened::{Kind, Opened, note, note_all, note_below, note_in, open_state};
 use crate::rooms::Rooms;
@@ -32,6 +32,7 @@ use crate::spares::Spares;
 use crate::undo::{OutputPair, let_go, note_number, put_back};
 use ink_model::{Fault, MAX_SECTIONS, MAX_TEXT, Seq, Shared, Text, Value};
 use ink_trail::Trail;
+use smallvec::SmallVec;
 use std::alloc::{AllocError, Global};
 use std::marker::Model;
 use std::mem;
@@ -163,7 +164,7 @@ impl Output {
                 line,
                 &mut self.sections,
                 &mut self.trail,
-                written,
+                text,
                 fresh,
             )
         } else {
@@ -720,7 +721,7 @@ fn note_cut(
     line: &mut Section,
     sections: &mut [Opened],
     trail: &mut Trail<OutputPair>,
-    text: &str,
+    text: &Shared<Text>,
     fresh: bool,
 ) -> Result<bool, Fault>
     ensures page { Notes (let_through fresh (cut text.now)) line.old sections.old line.new sections.new result }
@@ -730,7 +731,7 @@ fn note_cut(
     ensures back { (n room : ℕ) → GoesBack room (trail_of trail.old.undo) (page_of line.old sections.old n) → GoesBack room (trail_of trail.new.undo) (page_of line.new sections.new n) }
 {
     let pieces = cut_text(alloc, text)?;
-    let has_text = has_text(&pieces);
+    let has_text = has_text(pieces.as_slice());
     let pieces = let_through(alloc, pieces, fresh)?;
     note_all(line, sections, trail, pieces)?;
     Ok(has_text)
@@ -770,19 +771,23 @@ fn has_text(pieces: &[Piece]) -> bool
 
 /// The pieces that are let through, which newlines before a text are not where the top frame is a `fresh` function. The one
 /// error is a refused request for memory.
-fn let_through(alloc: Global, pieces: Vec<Piece>, mut fresh: bool) -> Result<Vec<Piece>, AllocError>
+fn let_through(alloc: Global, pieces: Pieces, mut fresh: bool) -> Result<Pieces, AllocError>
     ensures { IfOk result (λ kept. map piece_mark kept.items ≡ let_through fresh (map piece_mark pieces.items)) }
 {
     if !fresh {
         return Ok(pieces);
     }
-    let mut kept = Vec::with_capacity(alloc, pieces.len())?;
+    let mut kept = SmallVec::new(alloc);
     for piece in pieces {
         match piece {
             Piece::Newline if fresh => {}
             Piece::Text(text) => {
                 fresh = false;
                 kept.push(Piece::Text(text))?;
+            }
+            Piece::Part(part) => {
+                fresh = false;
+                kept.push(Piece::Part(part))?;
             }
             piece => kept.push(piece)?,
         }

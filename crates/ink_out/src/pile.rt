@@ -6,7 +6,6 @@ ghost use Rattle.ink_out.specs.Walks.{held_at, is_at, left_pile, now_text, pile_
 
 use crate::cleaning::Shown;
 use crate::tracker::{Waiting, is_reached};
-use ink_model::Text;
 use smallvec::SmallVec;
 use std::alloc::{AllocError, Global};
 use std::marker::Model;
@@ -17,7 +16,7 @@ pub(crate) enum Held<'m> {
     Blank {
         at: usize,
         broken: bool,
-        text: &'m Text,
+        text: &'m str,
     },
     Newline {
         at: usize,
@@ -51,7 +50,7 @@ impl<'m> Held<'m> {
     {
         match self {
             Held::Blank { at, broken, .. } if *broken && *at < glue => "",
-            Held::Blank { text, .. } => text.as_str(),
+            Held::Blank { text, .. } => *text,
             Held::Newline { at } if is_at(*at, newline) => "\n",
             Held::Newline { .. } => "",
         }

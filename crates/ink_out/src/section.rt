@@ -15,7 +15,7 @@ ghost use Rattle.ink_out.specs.Undo.{GoesBack, Held, output_back, with_open};
 ghost use Rattle.ink_trail.specs.Undo.{Trails, TrailsOrKeeps, but_last, spare, trail_of};
 
 use crate::cleaning::{is_clean, room_in};
-use crate::cutting::{Piece, has_words};
+use crate::cutting::{Pieces, has_words};
 use crate::enters::Enters;
 use crate::joining::{is_newline, joined, texts_of_line};
 use crate::kept::{Form, Kept, Words};
@@ -86,7 +86,7 @@ impl Section {
     pub(crate) fn extend(
         &mut self,
         trail: &mut Trail<OutputPair>,
-        pieces: Vec<Piece>,
+        pieces: Pieces,
     ) -> Result<(), AllocError>
         ensures ok { OnOk result (self.new ≡ self.old ++ map piece_mark pieces.items) }
         ensures err { OnErr result (self.new ≡ self.old) }
@@ -298,6 +298,7 @@ fn is_filled_blank(mark: &Kept) -> bool
 {
     match &mark.form {
         Form::Blank(text) => has_words(text.as_str().as_bytes()),
+        Form::BlankPart(part) => has_words(part.as_str().as_bytes()),
         _ => false,
     }
 }
@@ -309,7 +310,7 @@ fn append(
     state: &mut State,
     enters: &Enters,
     trail: &mut Trail<OutputPair>,
-    pieces: Vec<Piece>,
+    pieces: Pieces,
 )
     requires marks { vec_len marks.old + length pieces.items ≤ vec_capacity marks.old }
     requires settled { vec_len settled.old + length pieces.items ≤ vec_capacity settled.old }

@@ -38,6 +38,7 @@ impl State {
         self.tracker.add(mark, at, enters);
         match &mark.form {
             Form::Text(_) => self.more = Some(at),
+            Form::Part(_) => self.more = Some(at),
             Form::Tag(_) => self.more = Some(at),
             _ => {}
         }
@@ -69,6 +70,7 @@ pub(crate) fn settle(settled: &mut Vec<usize>, mark: &Kept, newline: Option<Wait
 {
     match (&mark.form, newline) {
         (Form::Text(_), Some(newline)) => settled.push(newline.at).unwrap(),
+        (Form::Part(_), Some(newline)) => settled.push(newline.at).unwrap(),
         _ => {}
     }
 }
@@ -78,7 +80,7 @@ pub(crate) fn unsettle(settled: &mut Vec<usize>, mark: &Kept, newline: Option<Wa
     ensures { (before : List ℕ) → reverse settled.old.items ≡ settled_after mark.now newline before → reverse settled.new.items ≡ before }
 {
     match (&mark.form, newline) {
-        (Form::Text(_), Some(_)) => {
+        (Form::Text(_) | Form::Part(_), Some(_)) => {
             let _settled = settled.pop();
         }
         _ => {}

@@ -79,7 +79,9 @@ impl Tracker {
     {
         match &mark.form {
             Form::Text(_) => self.text(),
+            Form::Part(_) => self.text(),
             Form::Blank(_) => self.blank(at),
+            Form::BlankPart(_) => self.blank(at),
             Form::Newline => self.newline(at),
             Form::Glue => self.glue(),
             Form::Tag(_) => self.tag(),

@@ -13,6 +13,7 @@ ghost use Rattle.ink_out.specs.declared.enters.Start.{Start};
 use crate::cleaning::{MOST_ROOM, Shown, room_in};
 use crate::enters::{Enters, Passed};
 use crate::kept::{Form, Kept, Words};
+use crate::part::Part;
 use crate::pile::{Held, Pile};
 use crate::tracker::Tracker;
 use ink_model::Text;
@@ -50,7 +51,9 @@ fn most_shown(marks: &[Kept]) -> usize {
 fn shown_by(mark: &Kept) -> usize {
     match &mark.form {
         Form::Text(words) => words.most_len(),
+        Form::Part(part) => part.as_str().len(),
         Form::Blank(text) => text.as_str().len(),
+        Form::BlankPart(part) => part.as_str().len(),
         Form::Newline => 1,
         _ => 0,
     }
@@ -88,7 +91,9 @@ impl<'m> Walk<'m> {
     {
         match &mark.form {
             Form::Text(words) => self.text(words),
-            Form::Blank(text) => self.blank(text.get(), at),
+            Form::Part(part) => self.part(part),
+            Form::Blank(text) => self.blank(text.as_str(), at),
+            Form::BlankPart(part) => self.blank(part.as_str(), at),
             Form::Newline => self.newline(at),
             Form::Glue => {
                 self.glue(at);
@@ -124,17 +129,32 @@ impl<'m> Walk<'m> {
     fn text(&mut self, words: &Words) -> Result<(), AllocError>
         ensures { OnOk result ((cleans : Bool) (starts : List Start) (before : List Mark) → Walks cleans starts before self.old → Walks cleans starts (kinds.Text (said words.now) ∷ before) self.new) }
     {
+        let mut digits = Buffer::new();
+        self.say(words.as_str(&mut digits))
+    }
+
+    // Parts are few, so that this stands apart.
+    #[inline(never)]
+    fn part(&mut self, part: &Part) -> Result<(), AllocError>
+        ensures { OnOk result ((cleans : Bool) (starts : List Start) (before : List Mark) → Walks cleans starts before self.old → Walks cleans starts (kinds.Text part.now ∷ before) self.new) }
+    {
+        self.say(part.as_str())
+    }
+
+    #[inline(always)]
+    fn say(&mut self, text: &str) -> Result<(), AllocError>
+        ensures { OnOk result ((cleans : Bool) (starts : List Start) (before : List Mark) → Walks cleans starts before self.old → Walks cleans starts (kinds.Text text.now ∷ before) self.new) }
+    {
         self.held
             .write(&mut self.shown, self.tracker.newline, self.glue)?;
-        let mut digits = Buffer::new();
-        self.shown.push_str(words.as_str(&mut digits))?;
+        self.shown.push_str(text)?;
         self.held.clear();
         self.tracker.text();
         self.glue = 0;
         Ok(())
     }
 
-    fn blank(&mut self, text: &'m Text, at: usize) -> Result<(), AllocError>
+    fn blank(&mut self, text: &'m str, at: usize) -> Result<(), AllocError>
         ensures { OnOk result ((cleans : Bool) (starts : List Start) (before : List Mark) → at ≡ length before → Walks cleans starts before self.old → Walks cleans starts (kinds.Blank text.now ∷ before) self.new) }
     {
         let blank = Held::Blank {

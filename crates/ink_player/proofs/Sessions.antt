@@ -1,5 +1,5 @@
 -- How a session goes on by a line, and how it ends.
-use Rattle.std.proofs.Common.{◌≡◌, ◌⊎◌, ℕ, ◌+◌, ◌<◌, ◌≤◌, List, [], ◌∷◌, ◌++◌, length, true, false, cond, ◌==◌, Option, Result, Ok, Err, ap, ◌∙◌, sym, refl, subst, inl, inr, arith, append_assoc, append-nil, length-append, Some}
+use Rattle.std.proofs.Common.{◌≡◌, ◌⊎◌, ℕ, ◌+◌, ◌<◌, ◌≤◌, List, [], ◌∷◌, ◌++◌, length, true, false, cond, ◌==◌, Option, Result, Ok, Err, OnOk, ap, ◌∙◌, sym, refl, subst, inl, inr, arith, append_assoc, append-nil, length-append, Some}
 use Rattle.std.specs.List.{AllByRecursion}
 use Rattle.std.specs.Option.{option_map}
 use Rattle.std.specs.Io.KnownBytes.{Appends, IsAtEnd}
@@ -23,8 +23,11 @@ use Rattle.ink_protocol.specs.declared.command.LineCommand.{LineCommand}
 use Rattle.ink_protocol.specs.Ends.{Falls, WritesText}
 use Rattle.ink_protocol.specs.Input.{Takes}
 use Rattle.ink_protocol.specs.Lines.{TakesLine, GivesLine}
-use Rattle.ink_player.specs.Serving.{Answered, Answers, RunEnds, Runs, ServesFront, ServesLine, ServesLineBy, ServesLines}
-use Rattle.ink_player.specs.Words.{DealtOf, Scene}
+use Rattle.ink_player.specs.Extents.{GoesOn, running}
+use Rattle.ink_player.specs.declared.passages.Extent.{Extent}
+use Rattle.ink_player.specs.declared.passages.Extent.TheVariants as extent
+use Rattle.ink_player.specs.Serving.{Answered, Answers, IsTold, RunEnds, Runs, ServesFront, ServesLine, ServesLineBy, ServesLines}
+use Rattle.ink_player.specs.Words.{CommandStopsAtRefusal, DealtByRun, DealtOf, Scene, changed}
 use Rattle.ink_protocol.specs.Spelled.{IsLine, spelled, Splits, IsFirst, IsLongInput, HasRoom}
 use Rattle.ink_model.specs.Unread.{TextFails}
 use Rattle.ink_model.specs.declared.limits.TheConstants.{MAX_LINE}
@@ -270,14 +273,14 @@ module _ {P F O : Type 0} (turn_log : F → List Called) (refusals : F → ℕ) 
         → Answer s host line h i old new r
     answers_as text line h i old new r e p = subst (λ l. Answer s host l h i old new r) e p
 
-    -- the text of a reply's answer is written, or a front of it
-    pub answered_by : (line : List ℕ) (h i : Option (List ℕ)) (old new : Scene P F O) (r : Result (Unit {0}) RunFault) (reply : Reply) (text : List ℕ)
-        → Line s host line old reply new → text ≡ answer reply → WritesText h i text r → Answer s host line h i old new r
-    answered_by line h i old new (Ok x) reply text p e w = record { reply = reply; serves = p; appended = subst (Appends h i) e w }
-    answered_by line h i old new (Err fault.Read) reply text p e w = absurd w
-    answered_by line h i old new (Err fault.Write) reply text p e w = record { reply = reply; serves = p; falls = subst (Falls h i) e w }
-    answered_by line h i old new (Err fault.TooLong) reply text p e w = absurd w
-    answered_by line h i old new (Err fault.OutOfMemory) reply text p e w = absurd w
+    -- the answer of the reply that a line came to is told
+    pub answered_by : (line : List ℕ) (h i : Option (List ℕ)) (old new : Scene P F O) (r : Result (Unit {0}) RunFault) (reply : Reply)
+        → Line s host line old reply new → IsTold reply h i r → Answer s host line h i old new r
+    answered_by line h i old new (Ok x) reply p t = record { reply = reply; serves = p; appended = t }
+    answered_by line h i old new (Err fault.Read) reply p t = absurd t
+    answered_by line h i old new (Err fault.Write) reply p t = record { reply = reply; serves = p; falls = t }
+    answered_by line h i old new (Err fault.TooLong) reply p t = absurd t
+    answered_by line h i old new (Err fault.OutOfMemory) reply p t = record { reply = reply; asks = t.0; serves = p; appended = t.1 }
 
   -- with what is bound otherwise spelled
   pub runs_for : (s : StoryTree) (host same : Bindings) (most : ℕ) (unread : List ℕ) (a b h i : Option (List ℕ)) (old new : Scene P F O) (r : Result (Unit {0}) RunFault)
@@ -291,6 +294,19 @@ module _ {P F O : Type 0} (turn_log : F → List Called) (refusals : F → ℕ) 
   pub came : (s : StoryTree) (host : Bindings) (es : List Event) (old : Scene P F O) (reply : Reply) (new : Scene P F O) (k j : Option LineCommand) → k ≡ j → Came s host es (option_map command_by j) old reply new
       → Came s host es (option_map command_by k) old reply new
   came s host es old reply new k j e p = subst (λ x. Came s host es (option_map command_by x) old reply new) (sym e) p
+
+-- a text that was made, where it stands
+pub made_as : {A E : Type 0} (r : Result A E) (items text answer : List ℕ) → text ≡ items → OnOk r (items ≡ answer) → OnOk r (text ≡ answer)
+made_as (Ok v) items text answer same made = same ∙ made
+made_as (Err e) items text answer same made = made
+
+-- the text of a reply's answer is written, or a front of it
+pub told_by : (h i : Option (List ℕ)) (r : Result (Unit {0}) RunFault) (reply : Reply) (text : List ℕ) → text ≡ answer reply → WritesText h i text r → IsTold reply h i r
+told_by h i (Ok x) reply text e w = subst (Appends h i) e w
+told_by h i (Err fault.Read) reply text e w = absurd w
+told_by h i (Err fault.Write) reply text e w = subst (Falls h i) e w
+told_by h i (Err fault.TooLong) reply text e w = absurd w
+told_by h i (Err fault.OutOfMemory) reply text e w = absurd w
 
 -- ---- one command
 
@@ -319,6 +335,22 @@ serves_command s host line k old reply new e es (inr p) =
 pub serves_unread : (s : StoryTree) (host : Bindings) (line : List ℕ) (st : State) → line_asks line ≡ true → Serves s host [] line st (Refuses refusal.OutOfMemory) st
 unfolding Serves
 serves_unread s host line st h = inr (refl, inl (h, (refl, refl)))
+
+-- a command that runs, so far as it goes
+module _ {P F O : Type 0} (turn_log : F → List Called) (refusals : F → ℕ) (state : O → Watching) where
+  pub runs_by : (s : StoryTree) (host : Bindings) (x : Extent) (line : List ℕ) (es : List Event) (old : Scene P F O) (reply : Reply) (new : Scene P F O) → Some (running x) ≡ command_of line
+      → GoesOn x s host es old.state reply new.state → DealtByRun turn_log state (changed old new) old.desk es reply new.desk → CommandStopsAtRefusal refusals old.desk new.desk reply
+      → ServesLineBy turn_log refusals state s host line old reply new
+  runs_by s host extent.Line line es old reply new is goes dealt stops = record {
+    events = es;
+    serves = serves_by s host es line (Some command.Continue) old.state reply new.state is goes;
+    dealt = subst (λ k. DealtOf turn_log refusals state k old es reply new) is (dealt, stops);
+  }
+  runs_by s host extent.Stop line es old reply new is goes dealt stops = record {
+    events = es;
+    serves = serves_by s host es line (Some command.Through) old.state reply new.state is goes;
+    dealt = subst (λ k. DealtOf turn_log refusals state k old es reply new) is (dealt, stops);
+  }
 
 pub none_left : (l : List ℕ) → length l ≡ 0 → l ≡ []
 none_left [] e = refl

@@ -1,7 +1,9 @@
 -- How far a running command goes, and how it ends there (docs/RUNNING.md, "Runs", "Lines").
-use Rattle.std.specs.Prelude.{◌≡◌, ◌⊎◌, List, Bool, Result, Err}
+use Rattle.std.specs.Prelude.{◌≡◌, ◌⊎◌, List, Bool, true, false, Option, Some, Result, Err}
 use Rattle.ink_look.specs.Ends.{EndsWith}
 use Rattle.ink_model.specs.Answer.{Reply}
+use Rattle.ink_model.specs.Command as command
+use Rattle.ink_model.specs.Command.{Command}
 use Rattle.ink_model.specs.Configuration.{Configuration}
 use Rattle.ink_model.specs.Host.{Bindings, Bound}
 use Rattle.ink_model.specs.Line.{EndsLine}
@@ -14,6 +16,8 @@ use Rattle.ink_model.specs.Tree.{StoryTree}
 use Rattle.ink_model.specs.declared.fault.Fault.{Fault}
 use Rattle.ink_model.specs.declared.fault.Fault.TheVariants.{OutOfMemory}
 use Rattle.ink_model.specs.declared.host.Event.{Event}
+use Rattle.ink_protocol.specs.declared.command.LineCommand.{LineCommand}
+use Rattle.ink_protocol.specs.declared.command.LineCommand.TheVariants as line
 use Rattle.ink_player.specs.declared.passages.Extent.{Extent}
 use Rattle.ink_player.specs.declared.passages.Extent.TheVariants as extent
 
@@ -40,3 +44,14 @@ GoesFrom x s h es k old reply new = RunsFrom (λ c made. RunsTo (EndsBy x s h.fu
 
 abbrev pub GoesOn : Extent → StoryTree → Bindings → List Event → State → Reply → State → Type 0
 GoesOn x s h es old reply new = GoesFrom x s h es old.condition old reply new
+
+-- the command that goes so far
+abbrev pub running : Extent → Command
+running extent.Line = command.Continue
+running extent.Stop = command.Through
+
+-- a command that runs the story
+abbrev pub is_running : Option LineCommand → Bool
+is_running (Some line.Continue) = true
+is_running (Some line.Through) = true
+is_running command = false

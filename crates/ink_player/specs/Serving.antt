@@ -24,6 +24,14 @@ use Rattle.ink_player.specs.Words.{DealtOf, Scene}
 use Rattle.ink_player.specs.declared.session.Served.{Served}
 use Rattle.ink_player.specs.declared.session.Served.TheVariants.{More, Done}
 
+-- The answer that tells a reply is written; or its text finds no memory, or it is not all written.
+abbrev pub IsTold : Reply → Option (List ℕ) → Option (List ℕ) → Result (Unit {0}) RunFault → Type 0
+IsTold reply held held' (Ok x) = Appends held held' (answer reply)
+IsTold reply held held' (Err fault.Read) = ⊥
+IsTold reply held held' (Err fault.Write) = Falls held held' (answer reply)
+IsTold reply held held' (Err fault.TooLong) = ⊥
+IsTold reply held held' (Err fault.OutOfMemory) = (answer_asks reply ≡ true) × Appends held held' []
+
 module _ {P F O : Type 0} (turn_log : F → List Called) (refusals : F → ℕ) (state : O → Watching) (s : StoryTree) (h : Bindings) where
   -- ---- lines that are served, with what is bound, by a player and the objects of its host
 

@@ -187,7 +187,7 @@ impl<P: PureFn, F: TurnFn, O: Watcher> Player<P, F, O> {
     }
 
     /// Goes on as far as is asked, and answers the passage.
-    fn go_on(&mut self, extent: Extent) -> Result<Passage, Halt>
+    pub(crate) fn go_on(&mut self, extent: Extent) -> Result<Passage, Halt>
         ensures does { (es : List Happening) × GoesOn extent (story_of self.old) (bindings P.meaning (desk_of self.old)) es (state_of self.old) (reply_of result) (state_of self.new)
             × DealtByRun F.log O.state (told_from (desk_of self.old) (state_of self.old) (globals_of (state_of self.new).condition)) (desk_of self.old) es (reply_of result) (desk_of self.new) }
         ensures refusals { CommandStopsAtRefusal F.refusals (desk_of self.old) (desk_of self.new) (reply_of result) }
@@ -628,22 +628,9 @@ fn end_run<P, F, O>(
     if !all {
         return Err(break_by(desk, broken, Fault::OutOfMemory));
     }
-    let Passage {
-        text,
-        tags,
-        choices,
-        events: _,
-        more,
-        loose,
-    } = passage;
-    Ok(Passage {
-        text,
-        tags,
-        choices,
-        events: desk.take_events(),
-        more,
-        loose,
-    })
+    let mut told = passage;
+    told.events = desk.take_events();
+    Ok(told)
 }
 
 /// What happened at a command that runs nothing. Where not all watchers found memory the player is broken.

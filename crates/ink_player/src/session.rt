@@ -1,26 +1,30 @@
 //! Sessions over command lines (docs/PROTOCOL.md, "Sessions").
 
-ghost use Rattle.std.specs.Prelude.{◌≡◌, ℕ, List, [], ◌⊎◌, IfOk, Some, option_map};
+ghost use Rattle.std.specs.Prelude.{◌≡◌, ℕ, List, [], ◌⊎◌, IfNone, IfSome, OnOk, Some, false, true, option_map};
 ghost use Rattle.ink_host.specs.Desk.{Resting};
 ghost use Rattle.ink_host.specs.Telling.{rests};
-ghost use Rattle.ink_model.specs.Answer.{Refuses, answer, reply_of_events};
+ghost use Rattle.ink_model.specs.Answer.{Refuses, Reply, Tells, answer, answer_asks, reply_of_events, reply_of_halt};
 ghost use Rattle.ink_model.specs.Command as ink;
+ghost use Rattle.ink_model.specs.Command.{command_of};
 ghost use Rattle.ink_model.specs.Session.{Does, Set};
 ghost use Rattle.ink_model.specs.Host.{Bindings};
+ghost use Rattle.ink_model.specs.declared.fault.Refusal.TheVariants as refusal;
 ghost use Rattle.ink_model.specs.declared.host.Event.{Event as Happening};
 ghost use Rattle.ink_protocol.specs.Commands.{command_by};
 ghost use Rattle.ink_protocol.specs.Replies.{HasTextOf, reply_by};
 ghost use Rattle.ink_player.specs.Words.{DealtBy, DealtOf, bindings, desk_of, scene_of, state_of, story_of};
 ghost use Rattle.ink_protocol.specs.Ends.{Reports, reads_fail, writes_fail};
 ghost use Rattle.ink_player.specs.Ends.{EndsNext, EndsOnce};
-ghost use Rattle.ink_player.specs.Serving.{Answers, Runs, ServesLineBy, ServesNext};
+ghost use Rattle.ink_player.specs.Extents.{is_running, running};
+ghost use Rattle.ink_player.specs.Serving.{Answers, IsTold, Runs, ServesNext};
 ghost use Rattle.ink_model.specs.Unread.{TextFails};
 ghost use Rattle.ink_model.specs.declared.limits.TheConstants.{MAX_INPUT};
 ghost use Rattle.serde_json.specs.Data.{Data};
 
+use crate::passages::Extent;
 use crate::player::Player;
 use ink_host::{PureFn, TurnFn, Watcher};
-use ink_model::{Event, Given, Halt, MAX_INPUT, MAX_LINE, Refusal, Seq};
+use ink_model::{Event, Given, Halt, MAX_INPUT, MAX_LINE, Passage, Refusal, Seq};
 use ink_protocol::{
     Ahead, Lent, Line, LineCommand, Outcome, RunFault, Sink, Source, answer_text, fixed_answer,
     next_line, passage_text, read_command, write_answer,
@@ -181,61 +185,147 @@ fn answer_line<T: Sink, P: PureFn, F: TurnFn, O: Watcher>(
     ensures story { story_of player.new ≡ story_of player.old }
     ensures sink { Reports (writes_fail result) (T.failures sink.old) (T.failures sink.new) (T.name sink.old) (T.name sink.new) }
 {
-    let outcome = outcome_of(alloc, player, line);
+    match read_command(alloc, line) {
+        Ok(command) => match extent_of(&command) {
+            Some(extent) => answer_run(alloc, buffer, sink, player, extent),
+            None => answer_command(alloc, buffer, sink, player, command),
+        },
+        Err(AllocError) => refuse_line(alloc, buffer, sink),
+    }
+}
+
+// How far a command runs the story, if it does.
+fn extent_of(command: &Option<LineCommand<'_>>) -> Option<Extent>
+    ensures some { IfSome result (λ extent. option_map command_by command.now ≡ Some (running extent)) }
+    ensures none { IfNone result (is_running command.now ≡ false) }
+{
+    match command {
+        Some(LineCommand::Continue) => Some(Extent::Line),
+        Some(LineCommand::Through) => Some(Extent::Stop),
+        _ => None,
+    }
+}
+
+// Runs as far as is asked, and writes the answer.
+fn answer_run<T: Sink, P: PureFn, F: TurnFn, O: Watcher>(
+    alloc: Global,
+    buffer: &mut Vec<u8>,
+    sink: &mut T,
+    player: &mut Player<P, F, O>,
+    extent: Extent,
+) -> Result<(), RunFault>
+    ensures answers { (line : List ℕ) → Some (running extent) ≡ command_of line → Answers F.log F.refusals O.state (story_of player.old) (bindings P.meaning (desk_of player.old)) line (T.contents sink.old) (T.contents sink.new) (scene_of player.old) (scene_of player.new) result }
+    ensures rest { Resting (rests O.state) (desk_of player.old).watchers → Resting (rests O.state) (desk_of player.new).watchers }
+    ensures story { story_of player.new ≡ story_of player.old }
+    ensures sink { Reports (writes_fail result) (T.failures sink.old) (T.failures sink.new) (T.name sink.old) (T.name sink.new) }
+{
+    match player.go_on(extent) {
+        Ok(passage) => tell_passage(alloc, buffer, sink, player, passage),
+        Err(halt) => tell_halt(alloc, buffer, sink, halt),
+    }
+}
+
+// Writes the answer that tells a passage. Then the passage goes back to the player, so that a later one is made in its memory.
+#[inline(always)]
+fn tell_passage<T: Sink, P: PureFn, F: TurnFn, O: Watcher>(
+    alloc: Global,
+    buffer: &mut Vec<u8>,
+    sink: &mut T,
+    player: &mut Player<P, F, O>,
+    passage: Passage,
+) -> Result<(), RunFault>
+    ensures told { IsTold (Tells passage) (T.contents sink.old) (T.contents sink.new) result }
+    ensures same { player.new ≡ player.old }
+    ensures sink { Reports (writes_fail result) (T.failures sink.old) (T.failures sink.new) (T.name sink.old) (T.name sink.new) }
+{
+    let made = passage_text(alloc, buffer, &passage);
+    player.reuse(passage);
+    write_made(sink, buffer, made)
+}
+
+// Writes the answer of a run that was refused or that a fault ended. Out of the way of a passage.
+#[inline(never)]
+fn tell_halt<T: Sink>(
+    alloc: Global,
+    buffer: &mut Vec<u8>,
+    sink: &mut T,
+    halt: Halt,
+) -> Result<(), RunFault>
+    ensures told { IsTold (reply_of_halt halt) (T.contents sink.old) (T.contents sink.new) result }
+    ensures sink { Reports (writes_fail result) (T.failures sink.old) (T.failures sink.new) (T.name sink.old) (T.name sink.new) }
+{
+    tell(alloc, buffer, sink, Outcome::Passage(Err(halt)))
+}
+
+// Performs a command that runs nothing, and writes the answer.
+#[inline(always)]
+fn answer_command<T: Sink, P: PureFn, F: TurnFn, O: Watcher>(
+    alloc: Global,
+    buffer: &mut Vec<u8>,
+    sink: &mut T,
+    player: &mut Player<P, F, O>,
+    command: Option<LineCommand<'_>>,
+) -> Result<(), RunFault>
+    requires { is_running command ≡ false }
+    ensures answers { (line : List ℕ) → option_map command_by command.entry ≡ command_of line → Answers F.log F.refusals O.state (story_of player.old) (bindings P.meaning (desk_of player.old)) line (T.contents sink.old) (T.contents sink.new) (scene_of player.old) (scene_of player.new) result }
+    ensures rest { Resting (rests O.state) (desk_of player.old).watchers → Resting (rests O.state) (desk_of player.new).watchers }
+    ensures story { story_of player.new ≡ story_of player.old }
+    ensures sink { Reports (writes_fail result) (T.failures sink.old) (T.failures sink.new) (T.name sink.old) (T.name sink.new) }
+{
+    let outcome = perform(player, command);
+    tell(alloc, buffer, sink, outcome)
+}
+
+// Refuses a line for whose reading memory was refused.
+#[inline(never)]
+fn refuse_line<T: Sink>(alloc: Global, buffer: &mut Vec<u8>, sink: &mut T) -> Result<(), RunFault>
+    ensures told { IsTold (Refuses refusal.OutOfMemory) (T.contents sink.old) (T.contents sink.new) result }
+    ensures sink { Reports (writes_fail result) (T.failures sink.old) (T.failures sink.new) (T.name sink.old) (T.name sink.new) }
+{
+    tell(alloc, buffer, sink, Outcome::Refused(Refusal::OutOfMemory))
+}
+
+// Writes the answer that tells what a command's call returned.
+#[inline(always)]
+fn tell<T: Sink>(
+    alloc: Global,
+    buffer: &mut Vec<u8>,
+    sink: &mut T,
+    outcome: Outcome,
+) -> Result<(), RunFault>
+    ensures told { (saved : Data) → HasTextOf saved outcome → IsTold (reply_by saved outcome) (T.contents sink.old) (T.contents sink.new) result }
+    ensures sink { Reports (writes_fail result) (T.failures sink.old) (T.failures sink.new) (T.name sink.old) (T.name sink.new) }
+{
     if let Some(text) = fixed_answer(&outcome) {
         drop(outcome);
         return write_answer(sink, text.as_bytes());
     }
-    let memory = mem::replace(buffer, Vec::new(alloc));
-    let Ok(text) = told_text(alloc, memory, player, outcome) else {
-        return Err(RunFault::OutOfMemory);
-    };
-    *buffer = text;
-    write_answer(sink, buffer.as_slice())
+    let made = answer_text(alloc, buffer, outcome);
+    write_made(sink, buffer, made)
 }
 
-// The answer, in the memory of a buffer. A passage goes back to the player, so that a later one is made in its memory.
-fn told_text<P: PureFn, F: TurnFn, O: Watcher>(
-    alloc: Global,
-    buffer: Vec<u8>,
-    player: &mut Player<P, F, O>,
-    outcome: Outcome,
-) -> Result<Vec<u8>, AllocError>
-    ensures text { (saved : Data) → HasTextOf saved outcome → IfOk result (λ line. line.items ≡ answer (reply_by saved outcome)) }
-    ensures same { player.new ≡ player.old }
+// Writes the text of an answer, if memory for it was found.
+#[inline(always)]
+fn write_made<T: Sink>(
+    sink: &mut T,
+    text: &[u8],
+    made: Result<(), AllocError>,
+) -> Result<(), RunFault>
+    ensures told { (reply : Reply) → answer_asks reply ≡ true → OnOk made (text.now ≡ answer reply) → IsTold reply (T.contents sink.old) (T.contents sink.new) result }
+    ensures sink { Reports (writes_fail result) (T.failures sink.old) (T.failures sink.new) (T.name sink.old) (T.name sink.new) }
 {
-    match outcome {
-        Outcome::Passage(Ok(passage)) => {
-            let text = passage_text(alloc, buffer, &passage);
-            player.reuse(passage);
-            text
-        }
-        other => answer_text(alloc, buffer, other),
+    match made {
+        Ok(()) => write_answer(sink, text),
+        Err(AllocError) => Err(RunFault::OutOfMemory),
     }
 }
 
-// Performs the command of a line, unless memory is refused for reading it, or the path in it.
-fn outcome_of<P: PureFn, F: TurnFn, O: Watcher>(
-    alloc: Global,
-    player: &mut Player<P, F, O>,
-    line: &[u8],
-) -> Outcome
-    ensures serves { (saved : Data) × HasTextOf saved result
-        × ServesLineBy F.log F.refusals O.state (story_of player.old) (bindings P.meaning (desk_of player.old)) line.now (scene_of player.old) (reply_by saved result) (scene_of player.new) }
-    ensures rest { Resting (rests O.state) (desk_of player.old).watchers → Resting (rests O.state) (desk_of player.new).watchers }
-    ensures story { story_of player.new ≡ story_of player.old }
-{
-    match read_command(alloc, line) {
-        Ok(command) => perform(player, command),
-        Err(AllocError) => Outcome::Refused(Refusal::OutOfMemory),
-    }
-}
-
-// Performs a command, unless memory is refused for reading its path.
+// Performs a command that runs nothing, unless memory is refused for reading its path.
 fn perform<P: PureFn, F: TurnFn, O: Watcher>(
     player: &mut Player<P, F, O>,
     command: Option<LineCommand<'_>>,
 ) -> Outcome
+    requires { is_running command ≡ false }
     ensures does { (es : List Happening) × (saved : Data) × HasTextOf saved result
         × (Does (story_of player.old) (bindings P.meaning (desk_of player.old)) es (option_map command_by command.entry) (state_of player.old) (reply_by saved result) (state_of player.new)
         ⊎ ((es ≡ []) × TextFails (option_map command_by command.entry) (state_of player.old) (reply_by saved result) (state_of player.new)))
@@ -244,8 +334,7 @@ fn perform<P: PureFn, F: TurnFn, O: Watcher>(
     ensures story { story_of player.new ≡ story_of player.old }
 {
     match command {
-        Some(LineCommand::Continue) => Outcome::Passage(player.continue_line()),
-        Some(LineCommand::Through) => Outcome::Passage(player.through()),
+        Some(LineCommand::Continue) | Some(LineCommand::Through) => unreachable!(),
         Some(LineCommand::Set { name, value }) => Outcome::Events(set(player, name, value)),
         Some(LineCommand::Get { name }) => Outcome::Value(player.get(name)),
         Some(LineCommand::Visits { path }) => Outcome::Visits(player.visits(path)),

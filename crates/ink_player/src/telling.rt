@@ -76,6 +76,22 @@ pub(crate) fn tell_changed<P: PureFn, F: TurnFn, O: Watcher>(
     ensures functions { desk.new.functions ≡ desk.old.functions }
     ensures rest { Resting (rests O.state) desk.old.watchers → Resting (rests O.state) desk.new.watchers }
 {
+    if desk.has_watchers() {
+        return tell_watchers(desk, machine);
+    }
+    Ok(true)
+}
+
+// The same where somebody may watch. Out of the way of a player that nobody watches.
+#[inline(never)]
+fn tell_watchers<P: PureFn, F: TurnFn, O: Watcher>(
+    desk: &mut Desk<P, F, O>,
+    machine: &Machine,
+) -> Result<bool, AllocError>
+    ensures tells { let cs = told (watches desk.old.watchers) (start_of machine.now) (globals_of machine.now) in TellsWatchers F.log O.state desk.old cs cs result desk.new }
+    ensures functions { desk.new.functions ≡ desk.old.functions }
+    ensures rest { Resting (rests O.state) desk.old.watchers → Resting (rests O.state) desk.new.watchers }
+{
     let changes = machine.told(desk)?;
     tell(desk, changes.as_slice())
 }

@@ -1,13 +1,13 @@
 -- The text of answers.
-use Rattle.std.proofs.Common.{◌≡◌, ◌∙◌, refl, sym, ap, Result, Ok, Err, IfOk, ℕ, ℤ, pos, negsuc, ◌+◌, ◌-◌, List, [], ◌∷◌, ◌++◌, length, take, map, append_assoc, arith, codes, Bool, true, false}
-use Rattle.std.proofs.Math.Seq.{take-append_seam}
+use Rattle.std.proofs.Common.{◌≡◌, ◌∙◌, ◌<◌, ◌≤◌, add-one, drop, get_or, suc, refl, sym, ap, Result, Ok, Err, OnOk, ℕ, ℤ, pos, negsuc, ◌+◌, ◌-◌, List, [], ◌∷◌, ◌++◌, length, take, map, append_assoc, arith, codes, Bool, true, false}
+use Rattle.std.proofs.Math.Seq.{drop-cons, take-append_seam}
 use Rattle.std.proofs.lemmas.Grind.{flat_map-append}
-use Rattle.std.proofs.lemmas.List.{length-append}
+use Rattle.std.proofs.lemmas.List.{drop_all, length-append}
 use Rattle.std.specs.Fmt.{signed_decimal}
 use Rattle.json.specs.Print.{print, quoted, escape, escape_byte}
 use Rattle.json.specs.Written.{Written}
 use Rattle.serde_json.specs.Data.{Data, array, string}
-use Rattle.serde_json.specs.Written.{compact_text}
+use Rattle.serde_json.specs.Written.{comma_if, compact_text, items_text}
 use Rattle.serde_json.proofs.OnLiterals.{serde_json_on_literals}
 use Rattle.ink_model.specs.Answer.{Reply, Acts, Counts, Saves, Shows, Tells, items_of, reply_data, shown_data, answer}
 use Rattle.ink_model.specs.declared.passage.Passage.{Passage}
@@ -52,19 +52,52 @@ pub text_behind : (d : Data) (start end : Written) (before text : List ℕ) → 
 text_behind d start end before text had none added is =
     is ∙ ap (λ b. b ++ print end.tokens) (added.before ∙ had) ∙ ap (λ t. before ++ t) (printed_tokens d start end (print end.tokens) none added refl)
 
--- the text of a string and a newline, and a close: a newline in the place of the quote behind the string, the quote again, and the close
+-- the text of a string and a newline, and a close, where that of the string stands already, without the quote behind it
+pub newline_after : (before front short close line : List ℕ) → short ≡ before ++ 34 ∷ escape front → line ≡ short ++ (codes "\\n\"" ++ close) → line ≡ before ++ (quoted (front ++ 10 ∷ []) ++ close)
+unfolding escape_byte
+newline_after before front short close line kept ends =
+    let again : short ++ codes "\\n\"" ≡ before ++ quoted (front ++ 10 ∷ []) = ap (λ l. l ++ codes "\\n\"") kept ∙ append_assoc before (34 ∷ escape front) (codes "\\n\"")
+    ∙ ap (λ e. before ++ 34 ∷ e) (sym (ap (λ e. e ++ 34 ∷ []) (flat_map-append escape_byte front (10 ∷ [])) ∙ append_assoc (escape front) (92 ∷ 110 ∷ []) (34 ∷ []))) in
+    ends ∙ sym (append_assoc short (codes "\\n\"") close) ∙ ap (λ l. l ++ close) again ∙ append_assoc before (quoted (front ++ 10 ∷ [])) close
+
+-- the same: a newline in the place of the quote behind the string, the quote again, and the close
 pub newline_behind : (before front all short line close : List ℕ) (len : ℕ) → all ≡ before ++ quoted front → len ≡ length all → short ≡ take (len - 1) all → line ≡ short ++ (codes "\\n\"" ++ close)
     → line ≡ before ++ (quoted (front ++ 10 ∷ []) ++ close)
-unfolding escape_byte
 newline_behind before front all short line close len written count cut ends =
     let body : List ℕ = before ++ 34 ∷ escape front in
     let whole : all ≡ body ++ 34 ∷ [] = written ∙ sym (append_assoc before (34 ∷ escape front) (34 ∷ [])) in
     let same : length all ≡ length body + 1 = ap length whole ∙ length-append body (34 ∷ []) in
     let shorter : len - 1 ≡ length body = omega (arith, count, same) in
     let kept : short ≡ body = cut ∙ ap (λ n. take n all) shorter ∙ ap (λ l. take (length body) l) whole ∙ take-append_seam body (34 ∷ []) in
-    let again : short ++ codes "\\n\"" ≡ before ++ quoted (front ++ 10 ∷ []) = ap (λ l. l ++ codes "\\n\"") kept ∙ append_assoc before (34 ∷ escape front) (codes "\\n\"")
-    ∙ ap (λ e. before ++ 34 ∷ e) (sym (ap (λ e. e ++ 34 ∷ []) (flat_map-append escape_byte front (10 ∷ [])) ∙ append_assoc (escape front) (92 ∷ 110 ∷ []) (34 ∷ []))) in
-    ends ∙ sym (append_assoc short (codes "\\n\"") close) ∙ ap (λ l. l ++ close) again ∙ append_assoc before (quoted (front ++ 10 ∷ [])) close
+    newline_after before front short close line kept ends
+
+-- ---- choices
+
+-- a choice of a text alone that stands in JSON as it is
+pub plain_choice : (text : List ℕ) → escape text ≡ text → compact_text (shown_data (record { tags = []; text = text })) ≡ codes "{\"tags\":[],\"text\":\"" ++ (text ++ codes "\"}")
+unfolding serde_json_on_literals
+plain_choice text plain = ap (λ t. codes "{\"tags\":[],\"text\":\"" ++ t) (append_assoc (escape text) (34 ∷ []) (125 ∷ []) ∙ ap (λ t. t ++ codes "\"}") plain)
+
+pub choice_of : (choice : Shown) (text : List ℕ) → choice.tags ≡ [] → text ≡ choice.text → shown_data choice ≡ shown_data (record { tags = []; text = text })
+choice_of choice text none same = ap (λ ts. shown_data (record choice { tags = ts })) none ∙ ap (λ t. shown_data (record { tags = []; text = t })) (sym same)
+
+-- one more, and what is still to come behind it
+pub one_choice : (line : List ℕ) (later : Bool) (i : ℕ) (choices : List Shown) (choice : Shown) (a b all : List ℕ) → i < length choices → choice ≡ get_or choices i choice
+    → a ≡ line ++ comma_if later → b ≡ a ++ compact_text (shown_data choice) → line ++ items_text later (items_of (map shown_data (drop i choices))) ≡ all
+    → b ++ items_text true (items_of (map shown_data (drop (i + 1) choices))) ≡ all
+one_choice line later i choices choice a b all h is comma put was =
+    let text : List ℕ = compact_text (shown_data choice) in
+    let rest : List ℕ = items_text true (items_of (map shown_data (drop (i + 1) choices))) in
+    let next : drop i choices ≡ choice ∷ drop (i + 1) choices = drop-cons choices i choice h ∙ ap (λ x. x ∷ drop (suc i) choices) (sym is) ∙ ap (λ n. choice ∷ drop n choices) (sym (add-one i)) in
+    ap (λ l. l ++ rest) (put ∙ ap (λ l. l ++ text) comma) ∙ append_assoc (line ++ comma_if later) text rest ∙ append_assoc line (comma_if later) (text ++ rest)
+    ∙ ap (λ cs. line ++ items_text later (items_of (map shown_data cs))) (sym next) ∙ was
+
+-- no more
+pub last_choice : (line : List ℕ) (later : Bool) (i : ℕ) (choices : List Shown) (end all : List ℕ) → length choices ≤ i → end ≡ line ++ 93 ∷ []
+    → line ++ items_text later (items_of (map shown_data (drop i choices))) ≡ all → end ≡ all
+last_choice line later i choices end all h ends was = ends ∙ ap (λ cs. line ++ items_text later (items_of (map shown_data cs))) (sym (drop_all i choices h)) ∙ was
+
+-- ---- passages
 
 abbrev quiet : List Shown → List ℕ → Bool → Bool → Passage
 quiet choices text loose more = record { text = text; tags = []; choices = choices; events = []; more = more; loose = loose }
@@ -97,6 +130,6 @@ passage_from p choices text middle a b same_choices same_text front told =
     sym (ap (λ t. b ++ (compact_text (string t) ++ codes "}\n")) same_text ∙ ap (λ x. x ++ closed) b_is ∙ append_assoc (start ++ list) middle closed ∙ append_assoc start list (middle ++ closed))
 
 -- a text that is made is the answer too that is this text
-pub made_as : {A E : Type 0} (items : A → List ℕ) (r : Result A E) (text answer : List ℕ) → IfOk r (λ v. items v ≡ text) → answer ≡ text → IfOk r (λ v. items v ≡ answer)
-made_as items (Ok v) text answer made same = made ∙ sym same
-made_as items (Err e) text answer made same = made
+pub made_as : {A E : Type 0} (r : Result A E) (items text answer : List ℕ) → OnOk r (items ≡ text) → answer ≡ text → OnOk r (items ≡ answer)
+made_as (Ok v) items text answer made same = made ∙ sym same
+made_as (Err e) items text answer made same = made

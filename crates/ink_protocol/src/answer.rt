@@ -2,10 +2,11 @@
 
 ghost use Rattle.std.specs.Fmt.{signed_decimal};
 ghost use Rattle.std.specs.Prelude.{◌≡◌, [], ◌∷◌, ◌++◌, OnOk, IfOk, IfNone, IfSome, true, false, map, codes, pos};
+ghost use Rattle.json.specs.Print.{escape};
 ghost use Rattle.json.specs.Token as tokens;
 ghost use Rattle.serde_json.specs.Data.{Data, array, number, string};
 ghost use Rattle.serde_json.specs.Find.{of_integer};
-ghost use Rattle.serde_json.specs.Written.{compact_text};
+ghost use Rattle.serde_json.specs.Written.{comma_if, compact_text, items_text};
 ghost use Rattle.ink_model.specs.Answer.{answer, answer_asks, refusal_data, reply_data, reply_of_events, reply_of_halt, Acts, Breaks, Counts, Saves, Shows, Tells, items_of, passage_data, shown_data};
 ghost use Rattle.ink_model.specs.Events.{call_data, event_data};
 ghost use Rattle.ink_model.specs.Host.{value_given};
@@ -14,10 +15,12 @@ ghost use Rattle.ink_protocol.specs.Answers.{choices_front, outcome_tokens, pass
 ghost use Rattle.ink_protocol.specs.Replies.{HasTextOf, IsTextOf, is_long, reply_by, reply_of_text};
 ghost use Rattle.ink_tokens.specs.Tokens.{Added, data_tokens};
 
+use crate::plain::is_plain;
 use ink_model::{Event, Fault, Given, Halt, Passage, Refusal, Seq, Shared, Shown, Text, Value};
 use ink_tokens::{put, put_flag, put_integer, put_natural, put_text, write_value};
 use json::{Token, Writer};
 use std::alloc::{AllocError, Global};
+use std::mem;
 
 /// What a command's call returned, or its refusal where none was made.
 #[derive(Drop)]
@@ -71,33 +74,32 @@ fn done_text() -> &'static str
     "{\"events\":[]}\n"
 }
 
-/// A passage that a running command returned, as the line that is written, its newline at the end, in the memory of a buffer
-/// whose bytes go. The one error is a refused request for memory.
+/// A passage that a running command returned, as the line that is written, its newline at the end, in a buffer whose bytes go.
+/// The one error is a refused request for memory.
 pub fn passage_text(
     alloc: Global,
-    buffer: Vec<u8>,
+    buffer: &mut Vec<u8>,
     passage: &Passage,
-) -> Result<Vec<u8>, AllocError>
-    ensures { IfOk result (λ line. line.items ≡ answer (Tells passage.now)) }
+) -> Result<(), AllocError>
+    ensures { OnOk result (buffer.new.items ≡ answer (Tells passage.now)) }
 {
-    let mut empty = buffer;
-    empty.clear();
+    buffer.clear();
     match middle_of(passage) {
-        Some(middle) => quiet_text(alloc, empty, passage, middle),
-        None => loud_text(alloc, empty, passage),
+        Some(middle) => put_quiet(alloc, buffer, passage, middle),
+        None => put_loud(alloc, buffer, passage),
     }
 }
 
-/// What a command's call returned, as the line that is written, its newline at the end, in the memory of a buffer whose
-/// bytes go. The one error is a refused request for memory.
-pub fn answer_text(alloc: Global, buffer: Vec<u8>, outcome: Outcome) -> Result<Vec<u8>, AllocError>
-    ensures { (saved : Data) → HasTextOf saved outcome → IfOk result (λ line. line.items ≡ answer (reply_by saved outcome)) }
+/// What a command's call returned, as the line that is written, its newline at the end, in a buffer whose bytes go. The one
+/// error is a refused request for memory.
+#[inline(always)]
+pub fn answer_text(alloc: Global, buffer: &mut Vec<u8>, outcome: Outcome) -> Result<(), AllocError>
+    ensures { (saved : Data) → HasTextOf saved outcome → OnOk result (buffer.new.items ≡ answer (reply_by saved outcome)) }
 {
-    let mut empty = buffer;
-    empty.clear();
+    buffer.clear();
     match told_number(&outcome) {
-        Some((front, number)) => number_text(empty, front, number),
-        None => replied_text(alloc, empty, outcome),
+        Some((front, number)) => put_number(buffer, front, number),
+        None => put_replied(alloc, buffer, outcome),
     }
 }
 
@@ -113,16 +115,15 @@ fn told_number(outcome: &Outcome) -> Option<(&'static str, i32)>
 }
 
 // An answer that tells a number, without the writer of JSON.
-fn number_text(empty: Vec<u8>, front: &str, number: i32) -> Result<Vec<u8>, AllocError>
-    requires { empty.items ≡ [] }
-    ensures { IfOk result (λ text. text.items ≡ front.now ++ (signed_decimal number ++ codes "}\n")) }
+fn put_number(line: &mut Vec<u8>, front: &str, number: i32) -> Result<(), AllocError>
+    requires { line.old.items ≡ [] }
+    ensures { OnOk result (line.new.items ≡ front.now ++ (signed_decimal number ++ codes "}\n")) }
 {
     let mut digits = itoa::Buffer::new();
-    let mut text = empty;
-    text.extend_from_slice(front.as_bytes())?;
-    text.extend_from_slice(digits.format(number).as_bytes())?;
-    text.extend_from_slice(b"}\n")?;
-    Ok(text)
+    line.extend_from_slice(front.as_bytes())?;
+    line.extend_from_slice(digits.format(number).as_bytes())?;
+    line.extend_from_slice(b"}\n")?;
+    Ok(())
 }
 
 // What stands between the choices of a passage and its text, if it has no events and no tags.
@@ -160,147 +161,215 @@ fn quiet_middle(loose: bool, more: bool) -> &'static str
     }
 }
 
-// The answer that tells such a passage, with the writer of JSON for its choices and its text alone.
-fn quiet_text(
+// The answer that tells such a passage, with the writer of JSON for its choices alone, and for a text that has to be escaped.
+fn put_quiet(
     alloc: Global,
-    empty: Vec<u8>,
+    line: &mut Vec<u8>,
     passage: &Passage,
     middle: &str,
-) -> Result<Vec<u8>, AllocError>
-    requires { empty.items ≡ [] }
-    ensures { IfOk result (λ line. line.items ≡ passage_line passage.now middle.now) }
+) -> Result<(), AllocError>
+    requires { line.old.items ≡ [] }
+    ensures { OnOk result (line.new.items ≡ passage_line passage.now middle.now) }
 {
-    let mut told = choices_text(alloc, empty, passage.choices.as_slice())?;
-    told.extend_from_slice(middle.as_bytes())?;
-    closed_text(told, passage.text.as_str())
+    put_choices(alloc, line, passage.choices.as_slice())?;
+    line.extend_from_slice(middle.as_bytes())?;
+    close_text(alloc, line, passage.text.as_str())
 }
 
 // The front of an answer that tells a passage, with its choices.
-fn choices_text(alloc: Global, empty: Vec<u8>, choices: &[Shown]) -> Result<Vec<u8>, AllocError>
-    requires { empty.items ≡ [] }
-    ensures { IfOk result (λ text. text.items ≡ choices_front choices.now) }
+fn put_choices(alloc: Global, line: &mut Vec<u8>, choices: &[Shown]) -> Result<(), AllocError>
+    requires { line.old.items ≡ [] }
+    ensures { OnOk result (line.new.items ≡ choices_front choices.now) }
 {
-    let mut front = empty;
     if has_none(choices) {
-        front.extend_from_slice(b"{\"choices\":[]")?;
-        return Ok(front);
+        line.extend_from_slice(b"{\"choices\":[]")?;
+        return Ok(());
     }
-    front.extend_from_slice(b"{\"choices\":")?;
-    list_behind(alloc, front, choices)
+    line.extend_from_slice(b"{\"choices\":[")?;
+    put_shown_all(alloc, line, choices)
 }
 
-// The text of a list, behind what is written already.
-#[inline(never)]
-fn list_behind<T: Listed>(
-    alloc: Global,
-    before: Vec<u8>,
-    items: &[T],
-) -> Result<Vec<u8>, AllocError>
-    ensures { IfOk result (λ text. text.items ≡ before.items ++ compact_text (array (items_of (map T.json items.now)))) }
+// Choices, with commas between them and the bracket behind the last, behind what is written already.
+fn put_shown_all(alloc: Global, line: &mut Vec<u8>, choices: &[Shown]) -> Result<(), AllocError>
+    ensures { OnOk result (line.new.items ≡ line.old.items ++ items_text false (items_of (map shown_data choices.now))) }
 {
-    let mut out = Writer::new(before);
-    write_list(alloc, &mut out, items)?;
-    Ok(out.into_inner())
+    let mut later = false;
+    for choice in choices {
+        put_comma(line, later)?;
+        put_shown(alloc, line, choice)?;
+        later = true;
+    }
+    line.push(b']')?;
+    Ok(())
+}
+
+// A comma, where something stands before.
+fn put_comma(line: &mut Vec<u8>, later: bool) -> Result<(), AllocError>
+    ensures { OnOk result (line.new.items ≡ line.old.items ++ comma_if later) }
+{
+    if later {
+        line.push(b',')?;
+    }
+    Ok(())
+}
+
+// A choice, behind what is written already. One without tags whose text stands in JSON as it is needs no writer of JSON.
+fn put_shown(alloc: Global, line: &mut Vec<u8>, choice: &Shown) -> Result<(), AllocError>
+    ensures { OnOk result (line.new.items ≡ line.old.items ++ compact_text (shown_data choice.now)) }
+{
+    let text = choice.text.as_str();
+    if has_none(choice.tags.as_slice()) && is_plain(text.as_bytes()) {
+        return put_plain_choice(line, text);
+    }
+    shown_behind(alloc, line, choice)
+}
+
+// The same of a choice of this text alone.
+fn put_plain_choice(line: &mut Vec<u8>, text: &str) -> Result<(), AllocError>
+    requires { escape text.now ≡ text.now }
+    ensures { OnOk result (line.new.items ≡ line.old.items ++ compact_text (shown_data (record { tags = []; text = text.now }))) }
+{
+    line.extend_from_slice(b"{\"tags\":[],\"text\":\"")?;
+    line.extend_from_slice(text.as_bytes())?;
+    line.extend_from_slice(b"\"}")?;
+    Ok(())
+}
+
+// The same of any choice.
+#[inline(never)]
+fn shown_behind(alloc: Global, line: &mut Vec<u8>, choice: &Shown) -> Result<(), AllocError>
+    ensures { OnOk result (line.new.items ≡ line.old.items ++ compact_text (shown_data choice.now)) }
+{
+    let mut out = Writer::new(mem::replace(line, Vec::new(alloc)));
+    choice.put(alloc, &mut out)?;
+    *line = out.into_inner();
+    Ok(())
 }
 
 // A string, and what closes the answer, behind what is written already. A string that ends in a newline, as each line of a story
 // does, has its front written alone.
-fn closed_text(before: Vec<u8>, text: &str) -> Result<Vec<u8>, AllocError>
-    ensures { IfOk result (λ all. all.items ≡ before.items ++ (compact_text (string text.now) ++ codes "}\n")) }
+fn close_text(alloc: Global, line: &mut Vec<u8>, text: &str) -> Result<(), AllocError>
+    ensures { OnOk result (line.new.items ≡ line.old.items ++ (compact_text (string text.now) ++ codes "}\n")) }
 {
     match text.strip_suffix("\n") {
-        Some(front) => closed_line(before, front),
-        None => closed_string(before, text),
+        Some(front) => close_line(alloc, line, front),
+        None => close_string(alloc, line, text),
     }
 }
 
-// The same of a string and a newline: the newline stands in the place of the quote behind the string.
-fn closed_line(before: Vec<u8>, front: &str) -> Result<Vec<u8>, AllocError>
-    ensures { IfOk result (λ all. all.items ≡ before.items ++ (compact_text (string (front.now ++ codes "\n")) ++ codes "}\n")) }
+// The same of a string and a newline.
+fn close_line(alloc: Global, line: &mut Vec<u8>, front: &str) -> Result<(), AllocError>
+    ensures { OnOk result (line.new.items ≡ line.old.items ++ (compact_text (string (front.now ++ codes "\n")) ++ codes "}\n")) }
 {
-    let mut all = written_behind(before, front)?;
-    all.truncate(all.len() - 1);
-    all.extend_from_slice(b"\\n\"}\n")?;
-    Ok(all)
+    if is_plain(front.as_bytes()) {
+        return close_plain(line, front);
+    }
+    close_escaped(alloc, line, front)
 }
 
-fn closed_string(before: Vec<u8>, text: &str) -> Result<Vec<u8>, AllocError>
-    ensures { IfOk result (λ all. all.items ≡ before.items ++ (compact_text (string text.now) ++ codes "}\n")) }
+// The same of a string that stands in JSON as it is, and a newline.
+fn close_plain(line: &mut Vec<u8>, front: &str) -> Result<(), AllocError>
+    requires { escape front.now ≡ front.now }
+    ensures { OnOk result (line.new.items ≡ line.old.items ++ (compact_text (string (front.now ++ codes "\n")) ++ codes "}\n")) }
 {
-    let mut all = written_behind(before, text)?;
-    all.extend_from_slice(b"}\n")?;
-    Ok(all)
+    line.push(b'"')?;
+    line.extend_from_slice(front.as_bytes())?;
+    line.extend_from_slice(b"\\n\"}\n")?;
+    Ok(())
+}
+
+// The same of any string and a newline: the newline stands in the place of the quote behind the string.
+#[inline(never)]
+fn close_escaped(alloc: Global, line: &mut Vec<u8>, front: &str) -> Result<(), AllocError>
+    ensures { OnOk result (line.new.items ≡ line.old.items ++ (compact_text (string (front.now ++ codes "\n")) ++ codes "}\n")) }
+{
+    string_behind(alloc, line, front)?;
+    line.truncate(line.len() - 1);
+    line.extend_from_slice(b"\\n\"}\n")?;
+    Ok(())
+}
+
+#[inline(never)]
+fn close_string(alloc: Global, line: &mut Vec<u8>, text: &str) -> Result<(), AllocError>
+    ensures { OnOk result (line.new.items ≡ line.old.items ++ (compact_text (string text.now) ++ codes "}\n")) }
+{
+    string_behind(alloc, line, text)?;
+    line.extend_from_slice(b"}\n")?;
+    Ok(())
 }
 
 // The text of a string, behind what is written already.
-fn written_behind(before: Vec<u8>, text: &str) -> Result<Vec<u8>, AllocError>
-    ensures { IfOk result (λ all. all.items ≡ before.items ++ compact_text (string text.now)) }
+fn string_behind(alloc: Global, line: &mut Vec<u8>, text: &str) -> Result<(), AllocError>
+    ensures { OnOk result (line.new.items ≡ line.old.items ++ compact_text (string text.now)) }
 {
-    let mut out = Writer::new(before);
+    let mut out = Writer::new(mem::replace(line, Vec::new(alloc)));
     put(&mut out, Token::String(text))?;
-    Ok(out.into_inner())
+    *line = out.into_inner();
+    Ok(())
 }
 
 // The answer that tells any passage.
-fn loud_text(alloc: Global, empty: Vec<u8>, passage: &Passage) -> Result<Vec<u8>, AllocError>
-    requires { empty.items ≡ [] }
-    ensures { IfOk result (λ line. line.items ≡ answer (Tells passage.now)) }
+#[inline(never)]
+fn put_loud(alloc: Global, line: &mut Vec<u8>, passage: &Passage) -> Result<(), AllocError>
+    requires { line.old.items ≡ [] }
+    ensures { OnOk result (line.new.items ≡ answer (Tells passage.now)) }
 {
-    let mut out = Writer::new(empty);
+    let mut out = Writer::new(mem::replace(line, Vec::new(alloc)));
     write_passage(alloc, &mut out, passage)?;
-    let mut line = out.into_inner();
+    *line = out.into_inner();
     line.push(b'\n')?;
-    Ok(line)
+    Ok(())
 }
 
-fn replied_text(alloc: Global, empty: Vec<u8>, outcome: Outcome) -> Result<Vec<u8>, AllocError>
-    requires { empty.items ≡ [] }
-    ensures { (saved : Data) → HasTextOf saved outcome → IfOk result (λ line. line.items ≡ answer (reply_by saved outcome)) }
+// Any other answer. Out of the way of a number.
+#[inline(never)]
+fn put_replied(alloc: Global, line: &mut Vec<u8>, outcome: Outcome) -> Result<(), AllocError>
+    requires { line.old.items ≡ [] }
+    ensures { (saved : Data) → HasTextOf saved outcome → OnOk result (line.new.items ≡ answer (reply_by saved outcome)) }
 {
     match outcome {
-        Outcome::Passage(Ok(passage)) => passage_text(alloc, empty, &passage),
-        Outcome::Saved(saved) => save_text(alloc, empty, saved),
-        told => written_text(alloc, empty, told),
+        Outcome::Passage(Ok(passage)) => passage_text(alloc, line, &passage),
+        Outcome::Saved(saved) => put_save(alloc, line, saved),
+        told => put_told(alloc, line, told),
     }
 }
 
-fn save_text(
+fn put_save(
     alloc: Global,
-    empty: Vec<u8>,
+    line: &mut Vec<u8>,
     save: Result<Text, Refusal>,
-) -> Result<Vec<u8>, AllocError>
-    requires { empty.items ≡ [] }
-    ensures { (saved : Data) → IsTextOf saved save → IfOk result (λ line. line.items ≡ answer (reply_of_text saved save)) }
+) -> Result<(), AllocError>
+    requires { line.old.items ≡ [] }
+    ensures { (saved : Data) → IsTextOf saved save → OnOk result (line.new.items ≡ answer (reply_of_text saved save)) }
 {
     match save {
-        Ok(text) => saved_text(empty, text.as_str()),
-        Err(refusal) => written_text(alloc, empty, Outcome::Refused(refusal)),
+        Ok(text) => put_saved(line, text.as_str()),
+        Err(refusal) => put_told(alloc, line, Outcome::Refused(refusal)),
     }
 }
 
 // The answer that has a save.
-fn saved_text(empty: Vec<u8>, text: &str) -> Result<Vec<u8>, AllocError>
-    requires { empty.items ≡ [] }
-    ensures { (saved : Data) → text.now ≡ compact_text saved → IfOk result (λ line. line.items ≡ answer (Saves saved)) }
+fn put_saved(line: &mut Vec<u8>, text: &str) -> Result<(), AllocError>
+    requires { line.old.items ≡ [] }
+    ensures { (saved : Data) → text.now ≡ compact_text saved → OnOk result (line.new.items ≡ answer (Saves saved)) }
 {
-    let mut line = empty;
     line.extend_from_slice(b"{\"saved\":")?;
     line.extend_from_slice(text.as_bytes())?;
     line.extend_from_slice(b"}\n")?;
-    Ok(line)
+    Ok(())
 }
 
 // The answer of what is neither a passage nor a save.
-fn written_text(alloc: Global, empty: Vec<u8>, outcome: Outcome) -> Result<Vec<u8>, AllocError>
-    requires empty { empty.items ≡ [] }
+fn put_told(alloc: Global, line: &mut Vec<u8>, outcome: Outcome) -> Result<(), AllocError>
+    requires empty { line.old.items ≡ [] }
     requires told { is_long outcome ≡ false }
-    ensures { (saved : Data) → IfOk result (λ line. line.items ≡ answer (reply_by saved outcome)) }
+    ensures { (saved : Data) → OnOk result (line.new.items ≡ answer (reply_by saved outcome)) }
 {
-    let mut out = Writer::new(empty);
+    let mut out = Writer::new(mem::replace(line, Vec::new(alloc)));
     write_reply(alloc, &mut out, outcome)?;
-    let mut text = out.into_inner();
-    text.push(b'\n')?;
-    Ok(text)
+    *line = out.into_inner();
+    line.push(b'\n')?;
+    Ok(())
 }
 
 /// Values as the JSON array that answers tell them as (docs/PROTOCOL.md, "Answers"). The one error is a refused request for

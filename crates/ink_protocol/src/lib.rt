@@ -9,6 +9,7 @@ mod input;
 mod lines;
 mod output;
 mod parse;
+mod plain;
 mod watched;
 mod word;
 

@@ -18,6 +18,7 @@ pub enum Line {
 /// longer, and nothing after a read that gave no byte: that is the source's end. Errors: `Read`, where the source failed;
 /// `TooLong`, once what was read shows that the line is longer, or that all bytes were taken that may be and more are there,
 /// whatever memory there is; `OutOfMemory`, where memory was refused for a byte that the line may have.
+#[inline(always)]
 pub fn next_line<S: Source>(
     buffer: Vec<u8>,
     ahead: &mut Ahead,

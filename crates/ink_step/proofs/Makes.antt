@@ -1,5 +1,5 @@
 -- Steps that call turn functions.
-use Rattle.std.proofs.Common.{◌≡◌, ◌∙◌, ◌||◌, ap, sym, refl, inl, inr, ℕ, List, [], Bool, true, false, if◌then◌else◌, Option, Some, None, option_map, Bor, Result, Ok, Err}
+use Rattle.std.proofs.Common.{◌≡◌, ◌∙◌, ◌||◌, ap, sym, refl, subst, inl, inr, ℕ, List, [], Bool, true, false, true≢false, if◌then◌else◌, Option, Some, None, option_map, Bor, Result, Ok, Err}
 use Rattle.ink_model.specs.Asks.{acting_asks, calling_asks}
 use Rattle.ink_model.specs.Configuration.{Configuration, current_place}
 use Rattle.ink_model.specs.Effect.{Fields, Effect, Fails, Moves, fields_of}
@@ -27,7 +27,6 @@ use Rattle.ink_step.specs.Steps.{EndsPlainly, StepEnds, StepMakes, Steps, ended,
 use Rattle.ink_step.specs.declared.flow.StepEnd.{StepEnd}
 use Rattle.ink_step.specs.declared.flow.StepEnd.TheVariants as ends
 use Rattle.ink_step.specs.declared.transfer.Transfer.{Transfer}
-use Rattle.ink_step.proofs.Goings.{stays_in}
 use Rattle.ink_step.proofs.Follows.{ends_more, ends_short, ends_unperformed, ends_where, never_wants, or_between, or_more, or_where}
 use Rattle.ink_step.proofs.Plain.{IsPlain, plain_else, plain_if, plain_or}
 use Rattle.ink_step.proofs.Stopping.{broke}
@@ -43,7 +42,7 @@ module _ (s : StoryTree) (b : Bound) (n : ℕ) (pressed : Bool) (es : List Event
   makes_more r more asking (Comes o) h = (h.0, ends_where _ _ (or_between pressed more asking) o globals d r h.1)
 
   -- only a quiet step says that a call is wanted
-  makes_said : (asking : Bool) (o : Stepped) → StepMakes s b n pressed asking o es globals d (Ok ends.WantsCall) → ⊥
+  pub makes_said : (asking : Bool) (o : Stepped) → StepMakes s b n pressed asking o es globals d (Ok ends.WantsCall) → ⊥
   makes_said asking (Wants name arguments f c) h = elim h [
     | inl made ↦ never_wants _ (answered s f c made.0) globals d made.3
     | inr short ↦ absurd (cc)
@@ -65,16 +64,31 @@ makes_where s b n es globals d r pressed more allows asking (Wants name argument
 ]
 makes_where s b n es globals d r pressed more allows asking (Comes o) h = (h.0, ends_where _ _ (or_where pressed more asking allows) o globals d r h.1)
 
--- and one that does
+-- one that wants none, or is not quiet, is as any
+pub makes_quietly : (s : StoryTree) (b : Bound) (n : ℕ) (pressed : Bool) (es : List Event) (globals : Values) (d : Configuration) (quiet asking : Bool) (o : Stepped) (c : Configuration) (r : Result StepEnd Fault)
+    → (quiet ≡ true → wants o ≡ false) → StepMakes s b n pressed asking o es globals d r → Steps quiet s b n pressed asking o es globals c d r
+makes_quietly s b n pressed es globals d true asking (Comes o) c r calm h = h
+makes_quietly s b n pressed es globals d true asking (Wants name arguments f k) c r calm h = absurd (true≢false (calm refl))
+makes_quietly s b n pressed es globals d false asking o c r calm h = h
+
+-- and a quiet one that wants a call says so
 pub said : (s : StoryTree) (b : Bound) (n : ℕ) (pressed asking : Bool) (o : Stepped) (globals : Values) (c : Configuration) → wants o ≡ true → Steps true s b n pressed asking o [] globals c c (Ok ends.WantsCall)
 said s b n pressed asking (Wants name arguments f d) globals c is = (refl, refl, refl)
 said s b n pressed asking (Comes o) globals c is = absurd (cc)
 
 -- a step that wants no call makes none
-pub makes_plainly : (s : StoryTree) (b : Bound) (n : ℕ) (pressed asking : Bool) (o : Stepped) (globals : Values) (d : Configuration) (r : Result StepEnd Fault) → EndsPlainly (pressed || asking) o globals d r
-    → StepMakes s b n pressed asking o [] globals d r
-makes_plainly s b n pressed asking (Comes o) globals d r h = (refl, h)
-makes_plainly s b n pressed asking (Wants name arguments f c) globals d r h = absurd h
+module _ (s : StoryTree) (b : Bound) (n : ℕ) (pressed asking : Bool) (globals : Values) where
+  pub steps_plainly : (quiet : Bool) (o : Stepped) (c d : Configuration) (r : Result StepEnd Fault) → EndsPlainly (pressed || asking) o globals d r → Steps quiet s b n pressed asking o [] globals c d r
+  steps_plainly true (Comes o) c d r h = (refl, h)
+  steps_plainly false (Comes o) c d r h = (refl, h)
+  steps_plainly quiet (Wants name arguments f k) c d r h = absurd h
+
+pub plainly_never : (asking : Bool) (o : Stepped) (globals : Values) (d : Configuration) (r : Result StepEnd Fault) → r ≡ Ok ends.WantsCall → EndsPlainly asking o globals d r → ⊥
+plainly_never asking o globals d r is h = by o (subst (EndsPlainly asking o globals d) is h)
+  where
+    by : (o : Stepped) → EndsPlainly asking o globals d (Ok ends.WantsCall) → ⊥
+    by (Comes x) k = never_wants asking x globals d k
+    by (Wants name arguments f c) k = k
 
 -- where memory was refused, nothing was called
 pub makes_short : (s : StoryTree) (b : Bound) (n : ℕ) (pressed asking : Bool) (o : Stepped) (globals : Values) (d : Configuration) (f : Fault) → (f ≡ OutOfMemory) × ((pressed || asking) ≡ true) → d.shared.globals ≡ globals
@@ -176,10 +190,6 @@ module _ (s : StoryTree) (b : Bound) (p : List Part) (c : Configuration) (at_p :
 
   pub wants_none : (found : Option StoryTree) → found ≡ option_map leaf (leaf_in (at s (entered s p))) → call_at found ≡ None → false ≡ wants (step s b c)
   wants_none found is other = sym (wants_by found None is other)
-
-  -- content stands there that holds no other and calls nothing
-  pub wants_nothing : (l : Leaf) → leaf_in (at s p) ≡ Some l → call_at (Some (leaf l)) ≡ None → false ≡ wants (step s b c)
-  wants_nothing l stands other = wants_none (Some (leaf l)) (ap (option_map leaf) (sym stands) ∙ ap (λ q. option_map leaf (leaf_in (at s q))) (stays_in s p l stands)) other
 
   pub wants_call : (found : Option StoryTree) (k : Call) (answer : Bool) → found ≡ option_map leaf (leaf_in (at s (entered s p))) → call_at found ≡ Some k
       → answer ≡ is_asking (call_external s b k.name k.arguments k.conditional (fields_of inside)) → answer ≡ wants (step s b c)

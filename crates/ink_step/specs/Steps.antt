@@ -1,5 +1,5 @@
 -- How steps end, beside the definitions, and what opening and choosing come to.
-use Rattle.std.specs.Prelude.{◌≡◌, ⊤, ℕ, List, [], ◌∷◌, ◌⊎◌, ◌||◌, Bool, true, false, Option, Some, None, Result, Ok, Err}
+use Rattle.std.specs.Prelude.{◌≡◌, ℕ, List, [], ◌∷◌, ◌⊎◌, ◌||◌, Bool, true, false, Option, Some, None, Result, Ok, Err}
 use Rattle.ink_model.specs.Choosing.{chosen}
 use Rattle.ink_model.specs.Configuration.{ChoiceOf, Configuration}
 use Rattle.ink_model.specs.Events.{calls}
@@ -67,12 +67,6 @@ Steps quiet s b n pressed asks stepped es globals old new result = StepMakes s b
 abbrev pub EndsPlainly : Bool → Stepped → Values → Configuration → Result StepEnd Fault → Type 0
 EndsPlainly asks (Comes outcome) globals new result = StepEnds asks outcome globals new result
 EndsPlainly asks (Wants name arguments f d) globals new result = ⊥
-
--- The same of one that is taken only there, if it is taken.
-abbrev pub Passes : Bool → Stepped → Values → Configuration → Result (Option StepEnd) Fault → Type 0
-Passes asks stepped globals new (Ok None) = ⊤
-Passes asks stepped globals new (Ok (Some end)) = EndsPlainly asks stepped globals new (Ok end)
-Passes asks stepped globals new (Err f) = EndsPlainly asks stepped globals new (Err f)
 
 -- A story does not open: its declarations fault, with these globals, or a step of theirs asks for memory and gets none, before which
 -- these were the globals.

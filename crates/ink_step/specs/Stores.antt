@@ -9,12 +9,10 @@ use Rattle.ink_model.specs.VariableMemory.{is_pointer}
 use Rattle.ink_step.specs.declared.machine.Machine.{Machine}
 use Rattle.ink_tree.specs.Nodes.{place_of}
 use Rattle.ink_tree.specs.declared.spot.Spot.{Spot}
-use Rattle.ink_value.specs.Undo.{stack_stood}
 use Rattle.ink_vars.specs.Changes.{number_of}
-use Rattle.ink_vars.specs.Undo.{globals_stood}
 
--- A value lies on the stack, the global of a name is there, which has this number, neither is a pointer, no mark stands, and flow goes
--- on to the place after.
+-- A value lies on the stack, the global of a name is there, which has this number, neither is a pointer, and flow goes on to the place
+-- after.
 pub record StoresAtOnce (s : StoryTree) (m : Machine) (name : List ℕ) (after : Spot) (number : ℕ) : Type 0 where
   pub next : option_and_then (next_place s) (place_in (map_threads (place_of s) m.flow.threads.threads)) ≡ Some (place_of s after)
   pub value : is_some (popped m.flow.stack.items) ≡ true
@@ -22,5 +20,3 @@ pub record StoresAtOnce (s : StoryTree) (m : Machine) (name : List ℕ) (after :
   pub there : is_some (stored name m.shared.globals.rows) ≡ true
   pub plain : is_pointer (stored name m.shared.globals.rows) ≡ false
   pub numbered : number ≡ number_of name m.shared.globals.rows
-  pub globals_free : is_some (globals_stood m.shared.globals) ≡ false
-  pub stack_free : is_some (stack_stood m.flow.stack) ≡ false

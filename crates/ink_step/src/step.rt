@@ -2,7 +2,7 @@
 
 ghost use Rattle.ink_value.specs.Undo.{stack_spare, stack_stood};
 ghost use Rattle.ink_stack.specs.Undo.{threads_spare};
-ghost use Rattle.std.specs.Prelude.{◌≡◌, ◌⊎◌, ◌||◌, Bool, List, true, None, Some, Ok, IfSome, OnOk, nat_lt, option_and_then, option_map, ◌≤◌, ◌+◌, IfErr, OnErr, length, ◌&&◌, is_some};
+ghost use Rattle.std.specs.Prelude.{◌≡◌, ◌⊎◌, ◌||◌, Bool, List, true, false, Some, Ok, IfSome, OnOk, nat_lt, option_and_then, option_map, ◌≤◌, ◌+◌, IfErr, OnErr, length, ◌&&◌, is_some};
 ghost use Rattle.ink_check.specs.Words.{story_tree};
 ghost use Rattle.ink_host.specs.Desk.{Grew, bound_by};
 ghost use Rattle.ink_host.specs.Telling.{log_of};
@@ -17,7 +17,7 @@ ghost use Rattle.ink_model.specs.Move.{Outcome, going, landing, may_enter, move 
 ghost use Rattle.ink_model.specs.MoveMemory.{landed_asks, move_asks, moved_asks, returned_asks};
 ghost use Rattle.ink_model.specs.Place.{next_place};
 ghost use Rattle.ink_model.specs.Step.{acted, call_made, effect, step};
-ghost use Rattle.ink_model.specs.Step.Host.{call_external};
+ghost use Rattle.ink_model.specs.Step.Host.{call_at, call_external};
 ghost use Rattle.ink_model.specs.Step.Variables as effects;
 ghost use Rattle.ink_model.specs.Threads.{frame_count, staled};
 ghost use Rattle.ink_model.specs.Tree.{StoryTree, at, leaf};
@@ -32,7 +32,7 @@ ghost use Rattle.ink_step.specs.Finishes.{Finishes};
 ghost use Rattle.ink_step.specs.Performs.{AsksToStore, Keeps, KeepsChoices, Performs, landing_of, leading, storing_in, unstored};
 ghost use Rattle.ink_step.specs.External.{call_of};
 ghost use Rattle.ink_step.specs.Refusals.{StepStopsAtRefusal};
-ghost use Rattle.ink_step.specs.Steps.{Passes, StepEnds, StepMakes, Steps, ended, wants};
+ghost use Rattle.ink_step.specs.Steps.{EndsPlainly, StepEnds, StepMakes, Steps, ended, wants};
 ghost use Rattle.ink_step.specs.Words.{aside_in, config_of, globals_of, start_of};
 ghost use Rattle.ink_step.specs.declared.flow.StepEnd.TheVariants.{WantsCall, Went};
 ghost use Rattle.ink_tree.specs.Kept.{leaf_in};
@@ -81,13 +81,12 @@ impl Machine {
         ensures aside { aside_in self.new ≡ aside_in self.old }
         ensures mark { stood_of self.new ≡ stood_of self.old }
     {
-        if quiet && self.wants_call(story, desk) {
-            return Ok(StepEnd::WantsCall);
-        }
-        if self.forward(story, desk)? {
-            Ok(StepEnd::Went)
-        } else {
-            Ok(StepEnd::Stopped)
+        let Some(place) = self.flow.threads.place() else {
+            return Ok(StepEnd::Stopped);
+        };
+        match story.tree().leaf_at(place) {
+            Some(content) if !is_external(content) => self.pass(story, place, content),
+            _ => self.step_in(story, desk, quiet, place),
         }
     }
 
@@ -106,43 +105,41 @@ impl Machine {
         ensures aside { aside_in self.new ≡ aside_in self.old }
         ensures mark { stood_of self.new ≡ stood_of self.old }
     {
-        let Some(place) = self.flow.threads.place() else {
-            return Ok(false);
-        };
-        self.make_step_room()?;
-        self.forward_from(story, desk, place)
+        match self.step(story, desk, false) {
+            Ok(end) => Ok(end.went()),
+            Err(fault) => Err(fault),
+        }
     }
 
-    // The same from a place where flow is, once there is room for the step.
-    #[inline(always)]
-    fn forward_from<P: PureFn, T: TurnFn, W: Watcher>(
+    // The step from a place where flow is, by the whole way.
+    #[inline(never)]
+    fn step_in<P: PureFn, T: TurnFn, W: Watcher>(
         &mut self,
         story: &Story,
         desk: &mut Desk<P, T, W>,
+        quiet: bool,
         place: Spot,
-    ) -> Result<bool, Fault>
+    ) -> Result<StepEnd, Fault>
         requires at { self.old.flow.threads.threads.thread.frame.place ≡ Some place }
-        requires room { STEPPING ≤ threads_spare self.old.flow.threads }
-        requires stack_room { length self.old.flow.stack.items + 2 ≤ stack_spare self.old.flow.stack }
         ensures step { let s = story_tree story.now in let b = bound_by P.meaning desk.old.functions in let c = config_of s self.old in
-            (es : List Happening) × Grew T.log (log_of W.state) desk.old es desk.new × StepMakes s b desk.old.next (presses s self.old self.new) (asks s b c) (step s b c) es self.old.shared.globals.rows (config_of s self.new) (ended result) }
+            (es : List Happening) × Grew T.log (log_of W.state) desk.old es desk.new × Steps quiet s b desk.old.next (presses s self.old self.new) (asks s b c) (step s b c) es (globals_of self.old) c (config_of s self.new) result }
         ensures refusals { StepStopsAtRefusal T.refusals desk.old desk.new result }
         ensures watchers { desk.new.watchers ≡ desk.old.watchers }
+        ensures machine { result ≡ Ok WantsCall → self.new ≡ self.old }
+        ensures desk { result ≡ Ok WantsCall → desk.new ≡ desk.old }
         ensures start { start_of self.new ≡ start_of self.old }
         ensures aside { aside_in self.new ≡ aside_in self.old }
         ensures mark { stood_of self.new ≡ stood_of self.old }
     {
-        match self.pass(story, place)? {
-            Some(end) => Ok(end.went()),
-            None => {
-                let end = self.step_from(story, desk, place)?;
-                Ok(end.went())
-            }
+        if quiet && self.wants_call(story, desk, place) {
+            return Ok(StepEnd::WantsCall);
         }
+        self.make_step_room()?;
+        self.step_from(story, desk, place)
     }
 
-    /// The step from a place where flow is, by the whole way: down to the first content, which may be a call.
-    #[inline(never)]
+    /// The same of a step that is not quiet, once there is room for it: down to the first content, which may be a call.
+    #[inline(always)]
     fn step_from<P: PureFn, T: TurnFn, W: Watcher>(
         &mut self,
         story: &Story,
@@ -167,49 +164,24 @@ impl Machine {
         }
     }
 
-    /// The step from a place where flow is, if content stands there that holds no other and calls nothing; none elsewhere, and
-    /// then nothing has changed. Most steps are of this kind.
+    /// The step from a place where flow is, at the content there, which holds no other and calls nothing. Most steps are of this kind.
     #[inline(always)]
-    fn pass(&mut self, story: &Story, place: Spot) -> Result<Option<StepEnd>, Fault>
+    fn pass(&mut self, story: &Story, place: Spot, content: &Leaf) -> Result<StepEnd, Fault>
         requires at { self.old.flow.threads.threads.thread.frame.place ≡ Some place }
-        requires stack_room { length self.old.flow.stack.items + 2 ≤ stack_spare self.old.flow.stack }
-        requires room { STEPPING ≤ threads_spare self.old.flow.threads }
-        ensures passes { (b : Bound) → let s = story_tree story.now in let c = config_of s self.old in Passes (presses s self.old self.new || asks s b c) (step s b c) self.old.shared.globals.rows (config_of s self.new) result }
-        ensures kept { result ≡ Ok None → self.new ≡ self.old }
+        requires stands { let s = story_tree story.now in Some content.now ≡ leaf_in (at s (place_of s place)) }
+        requires plain { is_some (call_at (Some (leaf content.now))) ≡ false }
+        ensures ends { (b : Bound) → let s = story_tree story.now in let c = config_of s self.old in EndsPlainly (presses s self.old self.new || asks s b c) (step s b c) self.old.shared.globals.rows (config_of s self.new) result }
         ensures start { start_of self.new ≡ start_of self.old }
         ensures aside { aside_in self.new ≡ aside_in self.old }
         ensures mark { stood_of self.new ≡ stood_of self.old }
     {
-        match story.tree().leaf_at(place) {
-            Some(content) if !is_external(content) => {
-                let end = self.act_here(story, place, content)?;
-                Ok(Some(end))
-            }
-            _ => Ok(None),
-        }
+        self.make_step_room()?;
+        self.act_here(story, place, content)
     }
 
-    // Whether the step calls a turn function. Most steps are at content that holds no other and calls nothing.
-    #[inline(always)]
-    fn wants_call<P: PureFn, T: TurnFn, W: Watcher>(
-        &self,
-        story: &Story,
-        desk: &Desk<P, T, W>,
-    ) -> bool
-        ensures { let s = story_tree story.now in result ≡ wants (step s (bound_by P.meaning desk.now.functions) (config_of s self.now)) }
-    {
-        let Some(place) = self.flow.threads.place() else {
-            return false;
-        };
-        match story.tree().leaf_at(place) {
-            Some(content) if !is_external(content) => false,
-            _ => self.wants_call_from(story, desk, place),
-        }
-    }
-
-    // The same from a place where flow is, by the whole way: down to the first content.
+    // Whether the step from a place where flow is calls a turn function.
     #[inline(never)]
-    fn wants_call_from<P: PureFn, T: TurnFn, W: Watcher>(
+    fn wants_call<P: PureFn, T: TurnFn, W: Watcher>(
         &self,
         story: &Story,
         desk: &Desk<P, T, W>,
@@ -342,7 +314,7 @@ impl Machine {
     }
 
     // The place after the one where flow is, and the number of the global of a name in order of declaration, where a value can be stored
-    // in it at once: it is found by its number and holds no pointer, a value that is none lies on the stack, and no mark stands.
+    // in it at once: it is found by its number and holds no pointer, and a value that is none lies on the stack.
     #[inline(always)]
     fn stored_at_once(
         &self,
@@ -353,9 +325,6 @@ impl Machine {
         ensures { IfSome result (λ r. StoresAtOnce (story_tree story.now) self.now name.now r.0 r.1) }
     {
         let next = next_of(story.tree(), &self.flow.threads)?;
-        if self.shared.globals.is_marked() || self.flow.stack.is_marked() {
-            return None;
-        }
         let (index, global) = self
             .shared
             .globals
@@ -367,7 +336,8 @@ impl Machine {
         Some((next, index))
     }
 
-    // What lies on the stack is stored so, and flow goes on. There is no fault.
+    // What lies on the stack is stored so, and flow goes on. The one error is `OutOfMemory` for a refused request for memory, which is
+    // made only while a mark stands, and leaves the globals as they were.
     #[inline(always)]
     fn store_at_once(
         &mut self,
@@ -378,9 +348,39 @@ impl Machine {
     ) -> Result<StepEnd, Fault>
         requires can { StoresAtOnce (story_tree story.now) self.old name.now next index }
         requires room { 2 ≤ threads_spare self.old.flow.threads }
-        ensures assigned { (asks : Bool) → let s = story_tree story.now in let c = config_of s self.old in
+        ensures assigned { (asks : Bool) → (keeps_mark (stood_of self.old) ≡ true → asks ≡ true) → let s = story_tree story.now in let c = config_of s self.old in
             StepEnds asks (acted s (effects.assign name.now (context_of c) (fields_of c)) c) self.old.shared.globals.rows (config_of s self.new) result }
-        ensures declared { (asks : Bool) → let s = story_tree story.now in let c = config_of s self.old in
+        ensures declared { (asks : Bool) → (keeps_mark (stood_of self.old) ≡ true → asks ≡ true) → let s = story_tree story.now in let c = config_of s self.old in
+            StepEnds asks (acted s (effects.declare scope.Global name.now (context_of c) (fields_of c)) c) self.old.shared.globals.rows (config_of s self.new) result }
+        ensures start { start_of self.new ≡ start_of self.old }
+        ensures aside { aside_in self.new ≡ aside_in self.old }
+        ensures mark { stood_of self.new ≡ stood_of self.old }
+    {
+        if self.shared.globals.is_marked() || self.flow.stack.is_marked() {
+            return self.store_marked(story, name, next, index);
+        }
+        let Some(value) = take(&mut self.flow.stack)? else {
+            return Err(Fault::StackEmpty);
+        };
+        self.shared.globals.put_at(name.as_str(), index, value);
+        self.go_to_next(story, next);
+        Ok(StepEnd::Went)
+    }
+
+    // The same while a mark stands.
+    #[inline(never)]
+    fn store_marked(
+        &mut self,
+        story: &Story,
+        name: &Shared<Text>,
+        next: Spot,
+        index: usize,
+    ) -> Result<StepEnd, Fault>
+        requires can { StoresAtOnce (story_tree story.now) self.old name.now next index }
+        requires room { 2 ≤ threads_spare self.old.flow.threads }
+        ensures assigned { (asks : Bool) → (keeps_mark (stood_of self.old) ≡ true → asks ≡ true) → let s = story_tree story.now in let c = config_of s self.old in
+            StepEnds asks (acted s (effects.assign name.now (context_of c) (fields_of c)) c) self.old.shared.globals.rows (config_of s self.new) result }
+        ensures declared { (asks : Bool) → (keeps_mark (stood_of self.old) ≡ true → asks ≡ true) → let s = story_tree story.now in let c = config_of s self.old in
             StepEnds asks (acted s (effects.declare scope.Global name.now (context_of c) (fields_of c)) c) self.old.shared.globals.rows (config_of s self.new) result }
         ensures start { start_of self.new ≡ start_of self.old }
         ensures aside { aside_in self.new ≡ aside_in self.old }
@@ -389,7 +389,7 @@ impl Machine {
         let Some(value) = take(&mut self.flow.stack)? else {
             return Err(Fault::StackEmpty);
         };
-        self.shared.globals.put_at(name.as_str(), index, value);
+        self.shared.globals.put_there(name.as_str(), index, value)?;
         self.go_to_next(story, next);
         Ok(StepEnd::Went)
     }

@@ -70,6 +70,7 @@ pub(crate) fn moving<'a>(outcome: Result<(), Fault>) -> Result<Transfer<'a>, Fau
 }
 
 /// Flow goes on after a content that tells whether it has written a text, which ends freshness.
+#[inline(always)]
 pub(crate) fn after_text(
     transfer: &mut Transfer<'_>,
     outcome: Result<bool, Fault>,

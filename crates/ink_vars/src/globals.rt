@@ -179,6 +179,27 @@ impl Globals {
         self.changes.put_at(&mut self.table, name, index, value);
     }
 
+    /// The same of a global that is there, whose number in order of declaration is given; a mark may stand. Memory is asked for only
+    /// while one does, as by `put`.
+    pub fn put_there(&mut self, name: &str, index: usize, value: Value) -> Result<(), AllocError>
+        requires index { index ≡ number_of name.now self.old.rows }
+        requires there { is_some (stored name.now self.old.rows) ≡ true }
+        ensures ok { OnOk result (self.new.rows ≡ store name.now value self.old.rows) }
+        ensures err { OnErr result (self.new.rows ≡ self.old.rows) }
+        ensures start { self.new.start ≡ self.old.start }
+        ensures memory { OnErr result (is_some (globals_stood self.old) ≡ true) }
+        ensures asks { OnErr result ((stored name.now self.old.start ≡ stored name.now self.old.rows) ⊎ (globals_spare self.old < 1)) }
+        ensures trail { TrailsOrKeeps global_back 1 self.old.rows self.old.trail self.new.rows self.new.trail result }
+        ensures stood { globals_stood self.new ≡ globals_stood self.old }
+        ensures spare { globals_spare self.old ≤ globals_spare self.new + 1 }
+    {
+        if self.is_marked() {
+            return self.put_marked_at(name, None, index, value);
+        }
+        self.put_at(name, index, value);
+        Ok(())
+    }
+
     // As `put`, while a mark stands.
     #[cold]
     #[inline(never)]
@@ -194,8 +215,27 @@ impl Globals {
         ensures asks { OnErr result ((stored name.now self.old.start ≡ stored name.now self.old.rows) ⊎ (globals_spare self.old < 1)) }
         ensures trail { TrailsOrKeeps global_back 1 self.old.rows self.old.trail self.new.rows self.new.trail result }
     {
-        self.trail.ready(1)?;
         let index = self.table.number_at(name, number);
+        self.put_marked_at(name, number, index, value)
+    }
+
+    // The same where the global's number in order of declaration is known, too.
+    #[inline(never)]
+    fn put_marked_at(
+        &mut self,
+        name: &str,
+        number: Option<usize>,
+        index: usize,
+        value: Value,
+    ) -> Result<(), AllocError>
+        requires index { index ≡ number_of name.now self.old.rows }
+        ensures ok { OnOk result (self.new.rows ≡ store name.now value self.old.rows) }
+        ensures err { OnErr result (self.new.rows ≡ self.old.rows) }
+        ensures start { self.new.start ≡ self.old.start }
+        ensures asks { OnErr result ((stored name.now self.old.start ≡ stored name.now self.old.rows) ⊎ (globals_spare self.old < 1)) }
+        ensures trail { TrailsOrKeeps global_back 1 self.old.rows self.old.trail self.new.rows self.new.trail result }
+    {
+        self.trail.ready(1)?;
         match self.changes.note(&self.table, name, index) {
             Ok(()) => put_noted(&mut self.table, &mut self.trail, name, number, index, value),
             Err(error) => Err(error),

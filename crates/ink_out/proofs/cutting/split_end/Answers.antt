@@ -1,6 +1,5 @@
-use Rattle.std.proofs.Common.{sym, ◌<◌, ◌-◌, ◌+◌, length, arith, rules}
+use Rattle.std.proofs.Common.{refl, sym, ◌<◌, ◌-◌, ◌+◌, length, arith, rules}
 use Rattle.std.specs.List.{suffix_len}
-use Rattle.std.proofs.Math.Nat.{sub-zero}
 use Rattle.std.proofs.lemmas.List.Sums.{prefix_len-le-length, suffix_len-le-length}
 use Rattle.ink_model.specs.Bytes.{is_blank, is_white}
 use Rattle.ink_model.proofs.Ends.{cut_at_end, trailing_is}
@@ -29,14 +28,6 @@ range_from-requires c = λ _. cut_at_end is_white white_ascii c.args.text.now (l
 pub overflow_add-first : goal.overflow_add-first
 overflow_add-first c = omega (arith, prefix_len-le-length is_blank c.range_from.result.now)
 
-pub range-requires-clause-end_boundary : goal.range-requires-clause-end_boundary
-range-requires-clause-end_boundary c =
-    cut_at_end is_white white_ascii c.args.text.now (length c.args.text.now - c.trailing-2.result + c.leading.result) (omega arith)
-    (omega (arith, prefix_len-le-length is_blank c.range_from.result.now))
-
-pub range_from-requires-2 : goal.range_from-requires-2
-range_from-requires-2 c = λ _. cut_at_end is_white white_ascii c.args.text.now (length c.args.text.now - c.trailing.result) (omega (arith, blanks_le_white)) (omega arith)
-
 pub returns-clause-found : goal.returns-clause-found
 returns-clause-found c =
     let some : suffix_len is_blank c.args.text.now < length c.args.text.now = omega arith in
@@ -44,8 +35,15 @@ returns-clause-found c =
 
 pub returns-clause-before : goal.returns-clause-before
 returns-clause-before c =
-    rw (sym (end_before c.args.text.now), sym c.trailing-2.ensures, sym c.range_from.ensures.value, sym c.leading.ensures)
-    (rw sub-zero at c.range.ensures.value)
+    rw (sym (end_before c.args.text.now), sym c.trailing-2.ensures, sym c.range_from.ensures.value, sym c.leading.ensures) refl
 
 pub returns-clause-after : goal.returns-clause-after
-returns-clause-after c = rw (trailing_is is_blank c.args.text.now, sym c.trailing.ensures) c.range_from-2.ensures.value
+returns-clause-after c = rw (trailing_is is_blank c.args.text.now, sym c.trailing.ensures) refl
+
+pub returns-clause-edges : goal.returns-clause-edges
+returns-clause-edges c =
+    let text = c.args.text.now in (
+      cut_at_end is_white white_ascii text (length text - c.trailing-2.result + c.leading.result) (omega arith)
+          (omega (arith, prefix_len-le-length is_blank c.range_from.result.now)),
+      cut_at_end is_white white_ascii text (length text - c.trailing.result) (omega (arith, blanks_le_white)) (omega arith),
+    )

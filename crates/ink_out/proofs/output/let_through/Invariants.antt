@@ -1,9 +1,8 @@
 use Rattle.std.proofs.Common.{◌≡◌, ◌++◌, map}
-use Rattle.std.specs.Vec.Iter.{into_iter_items}
 use Rattle.ink_model.specs.Output.{let_through}
 use Rattle.ink_out.specs.Cutting.{piece_mark}
 use Rattle.ink_out.proofs.output.let_through.Given as goal
 
 abbrev pub invariant-loop-piece : goal.invariant-loop-piece
 invariant-loop-piece l =
-    map piece_mark l.kept.items ++ let_through l.fresh (map piece_mark (into_iter_items l.piece-iterator)) ≡ let_through l.fn.fresh (map piece_mark l.fn.pieces.items)
+    map piece_mark l.kept.items ++ let_through l.fresh (map piece_mark l.piece-iterator) ≡ let_through l.fn.fresh (map piece_mark l.fn.pieces.items)

@@ -1,7 +1,6 @@
 use Rattle.std.proofs.Common.{◌≡◌, ◌≤◌, ◌+◌, ◌-◌, [], ◌∷◌, ◌++◌, length, map, reverse, subst, sym, ◌∙◌, ap, arith, rules}
 use Rattle.std.proofs.lemmas.Grind.{common_steps}
 use Rattle.std.proofs.lemmas.List.{length-append, length-reverse}
-use Rattle.std.specs.Vec.Iter.{into_iter_items}
 use Rattle.ink_out.specs.Cutting.{piece_mark}
 use Rattle.ink_out.specs.Stands.{IsStateOf, Knows}
 use Rattle.ink_out.specs.Undo.{Held, output_back, with_open}
@@ -37,15 +36,15 @@ loop-piece-preserved c =
           (c.add.ensures (reverse marks) (reverse settled) at knows)
           knows sees);
       trail = λ page.
-          let rest : length (into_iter_items c.loop-piece.piece-iterator) ≡ length (into_iter_items c.next.new.self) + 1 = grind (arith, common_steps) in
+          let rest : length c.loop-piece.piece-iterator ≡ length c.next.new.self + 1 = grind (arith, common_steps) in
           rw is
-          (trails-more output_back (length c.args.pieces.items - length (into_iter_items c.loop-piece.piece-iterator) + 1) _ _ _ _ _ (omega (arith, rest, inv.few))
+          (trails-more output_back (length c.args.pieces.items - length c.loop-piece.piece-iterator + 1) _ _ _ _ _ (omega (arith, rest, inv.few))
           (trails-trails output_back _ 1 _ (with_open marks page) _ _ c.loop-piece.trail _ (inv.trail page)
           (trails-one output_back (Wrote state) 1 _ _ _ _ (omega arith) (wrote_back state marks mark page) c.note.ensures.undo c.note.ensures.room)));
       back = λ h page room held went.
-          let all : marks ++ map piece_mark (into_iter_items c.loop-piece.piece-iterator) ≡ c.push.new.self.items ++ map piece_mark (into_iter_items c.next.new.self) = grind (arith, common_steps) in
-          let less : length (marks ++ mark ∷ []) ≤ length (c.push.new.self.items ++ map piece_mark (into_iter_items c.next.new.self)) =
-          omega (arith, length-append c.push.new.self.items (map piece_mark (into_iter_items c.next.new.self)), ap length is) in
+          let all : marks ++ map piece_mark c.loop-piece.piece-iterator ≡ c.push.new.self.items ++ map piece_mark c.next.new.self = grind (arith, common_steps) in
+          let less : length (marks ++ mark ∷ []) ≤ length (c.push.new.self.items ++ map piece_mark c.next.new.self) =
+          omega (arith, length-append c.push.new.self.items (map piece_mark c.next.new.self), ap length is) in
           let sees = inv.sees h in
           rw (is, c.note.ensures.undo)
           (goes-with (Wrote state) 1 (with_open marks page) (with_open (marks ++ mark ∷ []) page) c.loop-piece.trail.undo room room (wrote_back state marks mark page)
@@ -56,5 +55,5 @@ loop-piece-preserved c =
 
 pub returns-clause-trail : goal.returns-clause-trail
 returns-clause-trail c = λ page.
-    let none : length (into_iter_items c.loop-piece.piece-iterator) ≡ 0 = grind (arith, common_steps) in
-    trails-more output_back (length c.args.pieces.items - length (into_iter_items c.loop-piece.piece-iterator)) _ _ _ _ _ (omega (arith, none)) (c.loop-piece.invariant.trail page)
+    let none : length c.loop-piece.piece-iterator ≡ 0 = grind (arith, common_steps) in
+    trails-more output_back (length c.args.pieces.items - length c.loop-piece.piece-iterator) _ _ _ _ _ (omega (arith, none)) (c.loop-piece.invariant.trail page)

@@ -1,6 +1,6 @@
 use Rattle.std.proofs.Common.{◌∙◌, [], None, Some, ap, inl, inr, refl}
 use Rattle.serde_json.specs.Data.{null}
-use Rattle.ink_model.specs.Answer.{Refuses, reply_of, reply_of_events, reply_of_landing, reply_of_value, reply_of_visits}
+use Rattle.ink_model.specs.Answer.{Refuses, reply_of_events, reply_of_landing, reply_of_value, reply_of_visits}
 use Rattle.ink_model.specs.declared.fault.Refusal.TheVariants as refusal
 use Rattle.ink_protocol.specs.Replies.{reply_of_text}
 use Rattle.ink_protocol.specs.declared.command.LineCommand.TheVariants as line
@@ -8,26 +8,6 @@ use Rattle.ink_player.specs.Words.{desk_of, scene_of, state_of}
 use Rattle.ink_player.proofs.Dealing.{same_refusals, untouched}
 use Rattle.ink_player.proofs.Sessions.{came, text-came}
 use Rattle.ink_player.proofs.session.perform.Goals as goal
-
-pub returns-in-Some-Continue-clause-does : goal.returns-in-Some-Continue-clause-does
-returns-in-Some-Continue-clause-does g c =
-    let old = c.args.player.now in
-    let new = c.continue_line.new.self in
-    let reply = reply_of c.continue_line.result in
-    let does = c.continue_line.ensures.does in
-    let all = came g.F.TurnFn.log g.F.TurnFn.refusals g.O.Watcher.state _ _ does.0 (scene_of old) reply (scene_of new) c.args.command (Some line.Continue) (c.in-Some-Continue.is ∙ ap (λ k. Some k) c.in-Some-Continue.field-0-is)
-    (inl does.1, (does.2, c.continue_line.ensures.refusals)) in
-    (does.0, null, tt, all.0, all.1)
-
-pub returns-in-Some-Through-clause-does : goal.returns-in-Some-Through-clause-does
-returns-in-Some-Through-clause-does g c =
-    let old = c.args.player.now in
-    let new = c.through.new.self in
-    let reply = reply_of c.through.result in
-    let does = c.through.ensures.does in
-    let all = came g.F.TurnFn.log g.F.TurnFn.refusals g.O.Watcher.state _ _ does.0 (scene_of old) reply (scene_of new) c.args.command (Some line.Through) (c.in-Some-Through.is ∙ ap (λ k. Some k) c.in-Some-Through.field-0-is)
-    (inl does.1, (does.2, c.through.ensures.refusals)) in
-    (does.0, null, tt, all.0, all.1)
 
 pub returns-in-Some-Restart-clause-does : goal.returns-in-Some-Restart-clause-does
 returns-in-Some-Restart-clause-does g c =

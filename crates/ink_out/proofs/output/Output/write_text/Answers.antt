@@ -39,7 +39,7 @@ returns-then-is_cut-clause-trail c =
     let s = c.self.inside in
     let lent : c.deref_mut.result.now ≡ s.sections.items = c.deref_mut.ensures.value in
     let kept = refilled s.sections.items c.note_cut.new.sections s.sections.len (sym s.sections.ok.0) (c.note_cut.auto.sections ∙ ap (λ (sections : List Section). length sections) lent) in
-    rw (← c.self.view_is, kept) (rw (lent, c.as_str-written.ensures, c.get.ensures) at (c.note_cut.ensures.trail s.next_enter))
+    rw (← c.self.view_is, kept) (rw lent at (c.note_cut.ensures.trail s.next_enter))
 
 pub returns-then-is_cut-clause-stood : goal.returns-then-is_cut-clause-stood
 unfolding output_stood

@@ -8,8 +8,14 @@ use Rattle.ink_out.proofs.tracker.Tracker.add.Goals as goal
 pub returns-in-Text : goal.returns-in-Text
 returns-in-Text c before settled at knows t = rw (← c.mark.view_is, c.in-Text.is) (c.text.ensures before _ settled t)
 
+pub returns-in-Part : goal.returns-in-Part
+returns-in-Part c before settled at knows t = rw (← c.mark.view_is, c.in-Part.is) (c.text-in-Part.ensures before _ settled t)
+
 pub returns-in-Blank : goal.returns-in-Blank
 returns-in-Blank c before settled at knows t = rw (← c.mark.view_is, c.in-Blank.is) (c.blank.ensures before _ settled at t)
+
+pub returns-in-BlankPart : goal.returns-in-BlankPart
+returns-in-BlankPart c before settled at knows t = rw (← c.mark.view_is, c.in-BlankPart.is) (c.blank-in-BlankPart.ensures before _ settled at t)
 
 pub returns-in-Newline : goal.returns-in-Newline
 returns-in-Newline c before settled at knows t = rw (← c.mark.view_is, c.in-Newline.is) (c.newline.ensures before settled at t)

@@ -7,6 +7,7 @@ use Rattle.ink_model.specs.Tree.{leaf}
 use Rattle.ink_step.specs.Marks.{keeps_mark, pressed, stood_of, takes_there}
 use Rattle.ink_step.specs.Steps.{StepEnds}
 use Rattle.ink_step.specs.Words.{config_of}
+use Rattle.ink_step.proofs.Follows.{or_first}
 use Rattle.ink_step.proofs.machine.Machine.act_storing.Goals as goal
 use Rattle.ink_tree.specs.Nodes.{place_of}
 
@@ -24,4 +25,4 @@ returns-in-Some-clause-ends c =
     let new = c.store_at_once.new.self in
     of_both (λ l. let there = Some (leaf l) in let e = effect s p there (context_of before) (fields_of before) in
     StepEnds (((takes_there there && keeps_mark (stood_of old)) || pressed s new) || acting_asks s (content_asks s p there (context_of before) (fields_of before)) e before) (acted s e before) old.shared.globals.rows (config_of s new) c.store_at_once.result)
-    c.args.content.now _ _ c.requires.is (c.store_at_once.ensures.assigned _) (c.store_at_once.ensures.declared _)
+    c.args.content.now _ _ c.requires.is (c.store_at_once.ensures.assigned _ (λ marked. or_first _ _ (or_first _ _ marked))) (c.store_at_once.ensures.declared _ (λ marked. or_first _ _ (or_first _ _ marked)))

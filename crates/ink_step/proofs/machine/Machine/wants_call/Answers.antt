@@ -1,30 +1,46 @@
-use Rattle.std.proofs.Common.{◌≡◌, ◌∙◌, ap, false, is_some, option_map, rules, subst, sym, Some}
+use Rattle.std.proofs.Common.{◌≡◌, ◌∙◌, ap, option_map, subst, sym}
 use Rattle.ink_check.specs.Words.{story_tree}
 use Rattle.ink_host.specs.Desk.{bound_by}
-use Rattle.ink_model.specs.Step.Host.{call_at}
+use Rattle.ink_model.specs.Effect.{fields_of}
+use Rattle.ink_model.specs.Place.{entered}
+use Rattle.ink_model.specs.Step.{gone_in}
 use Rattle.ink_model.specs.Tree.{at, leaf}
-use Rattle.ink_step.specs.Steps.{wants}
+use Rattle.ink_step.specs.External.{call_of}
 use Rattle.ink_step.specs.Words.{config_of}
-use Rattle.ink_step.proofs.Finished.{not_external}
-use Rattle.ink_step.proofs.Follows.{stands_still}
-use Rattle.ink_step.proofs.Makes.{wants_nothing}
+use Rattle.ink_step.proofs.Makes.{found_leaves, stands_in, wants_call, wants_none}
+use Rattle.ink_step.proofs.machine.Machine.wants_call.Given as given
 use Rattle.ink_step.proofs.machine.Machine.wants_call.Goals as goal
+use Rattle.ink_step.proofs.machine.Machine.wants_call.Goals.{After-first_leaf}
 use Rattle.ink_tree.specs.Kept.{leaf_in}
+use Rattle.ink_tree.specs.Nodes as nodes
 use Rattle.ink_tree.specs.Nodes.{place_of}
 
-pub returns-in_default : goal.returns-in_default
-returns-in_default g c =
+-- what was found stands where flow goes in
+stands : (g : given.Over) (c : After-first_leaf g) → let s = story_tree c.args.story.now in option_map (λ x. leaf x.now) c.first_leaf.result.1 ≡ option_map leaf (leaf_in (at s (entered s (place_of s c.args.place))))
+stands g c =
     let s = story_tree c.args.story.now in
-    let before = config_of s c.args.self.now in
-    sym (ap wants (stands_still s (bound_by g.P.PureFn.meaning c.args.desk.now.functions) before (ap (option_map (place_of s)) (sym c.place.ensures ∙ c.in_default.is))))
+    let there = nodes.story_tree c.tree.result.now in
+    let found = option_map (λ x. x.now) c.first_leaf.result.1 in
+    found_leaves c.first_leaf.result.1 (at s (entered s (place_of s c.args.place)))
+    (subst (λ t. found ≡ leaf_in (at t (entered t (place_of t c.args.place)))) c.tree.ensures.tree
+    (stands_in there (place_of there c.first_leaf.result.0) (entered there (place_of there c.args.place)) found c.first_leaf.ensures.leaf c.first_leaf.ensures.spot))
 
-pub returns-in-Some-leaf_at : goal.returns-in-Some-leaf_at
-returns-in-Some-leaf_at g c =
+pub returns-in-None : goal.returns-in-None
+returns-in-None g c =
     let s = story_tree c.args.story.now in
     let b = bound_by g.P.PureFn.meaning c.args.desk.now.functions in
-    let l = c.in-Some-leaf_at.content.now in
-    let at_place = ap (option_map (place_of s)) (sym c.place.ensures ∙ c.in-Some.is) in
-    let stands : leaf_in (at s (place_of s c.in-Some.place)) ≡ Some l =
-    sym (subst (λ t. Some l ≡ leaf_in (at t (place_of t c.in-Some.place))) c.tree.ensures.tree (ap (option_map (λ x. x.now)) (sym c.in-Some-leaf_at.is) ∙ c.leaf_at.ensures)) in
-    let other : is_some (call_at (Some (leaf l))) ≡ false = search rules in
-    wants_nothing s b (place_of s c.in-Some.place) (config_of s c.args.self.now) at_place l stands (not_external _ other)
+    let at_place = ap (option_map (place_of s)) c.requires.at in
+    let found = option_map (λ x. leaf x.now) c.first_leaf.result.1 in
+    wants_none s b (place_of s c.args.place) (config_of s c.args.self.now) at_place found (stands g (goal.at.returns-in-None g c).After-first_leaf) (sym c.external_in.ensures ∙ ap (option_map call_of) c.in-None.is)
+
+pub returns-in-Some : goal.returns-in-Some
+returns-in-Some g c =
+    let s = story_tree c.args.story.now in
+    let b = bound_by g.P.PureFn.meaning c.args.desk.now.functions in
+    let p = place_of s c.args.place in
+    let before = config_of s c.args.self.now in
+    let f = fields_of (gone_in s p before) in
+    let at_place = ap (option_map (place_of s)) c.requires.at in
+    let found = option_map (λ x. leaf x.now) c.first_leaf.result.1 in
+    wants_call s b p before at_place found (call_of c.in-Some.call) c.would_call.result (stands g (goal.at.returns-in-Some g c).After-first_leaf)
+    (sym c.external_in.ensures ∙ ap (option_map call_of) c.in-Some.is) (c.would_call.ensures s f.evaluating f.fresh f.globals)

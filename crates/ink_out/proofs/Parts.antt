@@ -1,0 +1,32 @@
+-- The pieces of a text, as parts of it.
+use Rattle.std.proofs.Common.{◌≡◌, ◌∙◌, ◌+◌, ◌-◌, ℕ, List, [], ◌∷◌, ◌++◌, true, drop, take, length, arith, ap, refl, sym}
+use Rattle.std.proofs.lemmas.List.{append_assoc, drop-drop, take_rest}
+use Rattle.ink_model.specs.Bytes.{has_newline, is_blank, is_white, leading, trailing, trimmed}
+use Rattle.ink_model.specs.Mark.{cut_end, piece}
+use Rattle.ink_model.specs.declared.mark.Mark.{Mark}
+use Rattle.ink_model.specs.declared.mark.Mark.TheVariants.{Newline}
+
+part_behind : (cs : List ℕ) (from k : ℕ) → take (from + k - from) (drop from cs) ≡ take k (drop from cs)
+part_behind cs from k = let e : from + k - from ≡ k = omega arith in ap (λ n. take n (drop from cs)) e
+
+rest_behind : (cs : List ℕ) (from k : ℕ) → take (length cs - (from + k)) (drop (from + k) cs) ≡ drop k (drop from cs)
+rest_behind cs from k = take_rest cs (from + k) ∙ sym (drop-drop k from cs ∙ ap (λ n. drop n cs) (omega arith))
+
+-- ---- what follows a white beginning
+
+end_is : (s : List ℕ) → true ≡ has_newline (trailing is_white s) → piece (trimmed is_white s ++ leading is_blank (trailing is_white s)) ++ Newline ∷ piece (trailing is_blank s) ≡ cut_end s
+end_is s found = rw (sym found) refl
+
+pub end_cut : (cs s : List ℕ) (m0 m1 m2 : List Mark) (from before after : ℕ) → s ≡ drop from cs → true ≡ has_newline (trailing is_white s)
+    → take before s ≡ trimmed is_white s ++ leading is_blank (trailing is_white s) → drop after s ≡ trailing is_blank s
+    → m1 ≡ m0 ++ (piece (take (from + before - from) (drop from cs)) ++ Newline ∷ [])
+    → m2 ≡ m1 ++ piece (take (length cs - (from + after)) (drop (from + after) cs)) → m2 ≡ m0 ++ cut_end (drop from cs)
+end_cut cs s m0 m1 m2 from before after is found first last one two =
+    let front = trimmed is_white s ++ leading is_blank (trailing is_white s) in
+    let back = trailing is_blank s in
+    let a : take (from + before - from) (drop from cs) ≡ front = part_behind cs from before ∙ ap (take before) (sym is) ∙ first in
+    let b : take (length cs - (from + after)) (drop (from + after) cs) ≡ back = rest_behind cs from after ∙ ap (drop after) (sym is) ∙ last in
+    two ∙ ap (λ t. m1 ++ piece t) b
+    ∙ ap (λ ms. ms ++ piece back) (one ∙ ap (λ t. m0 ++ (piece t ++ Newline ∷ [])) a)
+    ∙ append_assoc m0 (piece front ++ Newline ∷ []) (piece back)
+    ∙ ap (λ ms. m0 ++ ms) (append_assoc (piece front) (Newline ∷ []) (piece back) ∙ end_is s found ∙ ap cut_end is)
