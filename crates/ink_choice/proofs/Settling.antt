@@ -7,10 +7,7 @@ use Rattle.std.specs.Result.{OnErr}
 use Rattle.ink_model.specs.Choices.{has_any}
 use Rattle.ink_model.specs.Configuration.{ChoiceOf, unnumbered_choice}
 use Rattle.ink_model.specs.Frames.{FrameOf, unnumbered_frame}
-use Rattle.ink_trail.specs.Undo.{undone}
 use Rattle.ink_choice.specs.Choices.{Settled}
-use Rattle.ink_choice.specs.Undo.{choices_back}
-use Rattle.ink_choice.specs.declared.undo.ChoicePair.{ChoicePair}
 
 module _ {P : Type 0} where
   pub settled-within : (n : ℕ) (cs : List (ChoiceOf P)) → Settled n cs → n ≤ length cs
@@ -31,11 +28,6 @@ module _ {P : Type 0} where
   settled-removed (suc m) (suc n) i [] few before h = absurd h
   settled-removed (suc m) (suc n) zero (c ∷ cs) few before h = absurd (omega arith)
   settled-removed (suc m) (suc n) (suc i) (c ∷ cs) few before h = (h.0, settled-removed m n i cs (omega arith) (omega arith) h.1)
-
-  -- nothing was changed
-  pub settled-back : (n : ℕ) (es : List (ChoicePair P)) (cs : List (ChoiceOf P)) → length es ≡ 0 → Settled n cs → Settled n (undone choices_back es cs)
-  settled-back n [] cs none h = h
-  settled-back n (e ∷ es) cs none h = absurd (omega arith)
 
   -- ---- a walk
 

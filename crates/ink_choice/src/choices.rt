@@ -1,15 +1,15 @@
 //! The choices that are offered.
 
-ghost use Rattle.std.specs.Prelude.{◌≡◌, ◌≢◌, ◌≤◌, ◌<◌, ◌+◌, ◌++◌, ◌||◌, ◌⊎◌, [], None, Some, drop, false, is_some, not, length, map, option_map, remove, slice_get, slice_index_or, take, true, unwrap_or, IfOk, OnOk, OnErr};
+ghost use Rattle.std.specs.Prelude.{◌≡◌, ◌≢◌, ◌≤◌, ◌<◌, ◌+◌, ◌++◌, ◌||◌, ◌⊎◌, [], None, Some, drop, false, is_some, not, length, map, option_map, remove, slice_get, slice_index_or, take, true, IfOk, OnOk, OnErr};
 ghost use Rattle.ink_model.specs.declared.limits.TheConstants.{MAX_CHOICES};
 ghost use Rattle.ink_choice.specs.Undo.{choices_back, choices_spare, choices_stood};
 ghost use Rattle.ink_choice.specs.Words.{Adds, FindsIndex, Takes};
 ghost use Rattle.ink_model.specs.Choices as rules;
 ghost use Rattle.ink_model.specs.Configuration.{unnumbered_choice};
-ghost use Rattle.ink_trail.specs.Undo.{Begins, Ends, KeepsTrail, Trails, TrailsOrKeeps, trail_of, writes_of};
+ghost use Rattle.ink_trail.specs.Undo.{KeepsTrail, Trails, TrailsOrKeeps};
 
 use crate::choice::{Choice, copied_tags, copied_text};
-use crate::undo::{ChoicePair, put_back};
+use crate::undo::ChoicePair;
 use ink_model::{Fault, MAX_CHOICES, Seq, Shown};
 use ink_trail::Trail;
 use std::alloc::{AllocError, Global};
@@ -227,86 +227,6 @@ impl<P: Copy> Choices<P> {
         self.settled = 0;
         let cleared = taken_whole(&mut self.items);
         self.trail.note(ChoicePair::Cleared(cleared), 1);
-    }
-
-    /// Whether a mark stands.
-    #[inline(always)]
-    pub fn is_marked(&self) -> bool
-        ensures { result ≡ is_some (choices_stood self.now) }
-    {
-        self.trail.is_marked()
-    }
-
-    /// Starts a mark with an empty trail, and forgets an older one. Takes no memory.
-    pub fn mark(&mut self)
-        ensures items { self.new.items ≡ self.old.items }
-        ensures trail { Begins self.old.trail self.new.trail }
-        ensures stood { choices_stood self.new ≡ Some self.old.items }
-    {
-        self.trail.mark();
-    }
-
-    /// How many changes of single cells there were since the mark, which stays at 2^64 - 1; 0 without one.
-    pub fn writes(&self) -> u64
-        ensures { result ≡ writes_of self.now.trail.undo }
-    {
-        self.trail.writes()
-    }
-
-    /// Puts the choices back as they stood at the mark, ends the mark, and answers how many pairs there were. Without a mark it
-    /// changes nothing, and answers 0. Takes no memory.
-    pub fn back(&mut self) -> u64
-        ensures items { self.new.items ≡ unwrap_or (choices_stood self.old) self.old.items }
-        ensures trail { Ends self.old.trail self.new.trail }
-        ensures stood { choices_stood self.new ≡ None }
-        ensures len { result ≡ length (trail_of self.old.trail.undo) }
-        ensures writes { result ≤ writes_of self.old.trail.undo }
-    {
-        let count = put_back(&mut self.items, &mut self.trail);
-        self.settled = if count > 0 { 0 } else { self.settled };
-        count
-    }
-
-    /// Ends the mark, and changes nothing else. Takes no memory.
-    pub fn forget(&mut self)
-        ensures items { self.new.items ≡ self.old.items }
-        ensures trail { Ends self.old.trail self.new.trail }
-        ensures stood { choices_stood self.new ≡ None }
-    {
-        self.trail.forget();
-    }
-
-    /// Makes room for so many changes to be noted without memory. The one error is a refused request for memory, and leaves all as
-    /// it was.
-    pub fn make_room(&mut self, count: usize) -> Result<(), AllocError>
-        ensures items { self.new.items ≡ self.old.items }
-        ensures kept { KeepsTrail self.old.trail self.new.trail }
-        ensures stood { choices_stood self.new ≡ choices_stood self.old }
-        ensures more { choices_spare self.old ≤ choices_spare self.new }
-        ensures ok { OnOk result (count ≤ self.new.trail.room) }
-        ensures memory { OnErr result (self.old.trail.room < count) }
-    {
-        self.trail.make_room(count)
-    }
-
-    /// The same while a mark stands; without one it takes no memory.
-    #[inline(always)]
-    pub fn ready(&mut self, count: usize) -> Result<(), AllocError>
-        ensures items { self.new.items ≡ self.old.items }
-        ensures kept { KeepsTrail self.old.trail self.new.trail }
-        ensures stood { choices_stood self.new ≡ choices_stood self.old }
-        ensures more { choices_spare self.old ≤ choices_spare self.new }
-        ensures ok { OnOk result (count ≤ choices_spare self.new) }
-        ensures memory { OnErr result ((is_some (choices_stood self.old) ≡ true) × (choices_spare self.old < count)) }
-    {
-        self.trail.ready(count)
-    }
-
-    /// How many changes can be noted without memory.
-    pub fn room(&self) -> usize
-        ensures { result ≡ self.now.trail.room }
-    {
-        self.trail.room()
     }
 }
 

@@ -9,6 +9,7 @@ ghost use Rattle.ink_value.specs.Undo.{stack_back, stack_spare, stack_stood};
 
 use ink_model::choice_flags::{has_choice_only_text, has_start_text, is_conditional};
 use ink_model::{Fault, Shared, Text, Value};
+use ink_trail::Undo;
 use ink_value::{EvalStack, is_true};
 use std::alloc::AllocError;
 

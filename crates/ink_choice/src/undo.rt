@@ -1,11 +1,13 @@
 //! How changes of choices are put back.
 
-ghost use Rattle.std.specs.Prelude.{◌≡◌, ◌≤◌, ◌<◌, insert, length, vec_capacity, vec_len};
-ghost use Rattle.ink_choice.specs.Undo.{Held, StaysHeld, choices_back, room_of};
-ghost use Rattle.ink_trail.specs.Undo.{Ends, trail_of, undone, writes_of};
+ghost use Rattle.std.specs.Prelude.{◌≡◌, ◌≤◌, ◌<◌, List, insert, refl, vec_capacity, vec_len};
+ghost use Rattle.ink_choice.specs.Undo.{Held, choices_back, choices_spare, choices_stood, room_of};
+ghost use Rattle.ink_model.specs.Configuration.{ChoiceOf};
 
 use crate::choice::Choice;
-use ink_trail::Trail;
+use crate::choices::Choices;
+use ink_trail::{Trail, Undo};
+use std::alloc::AllocError;
 
 /// A cell of the choices, and what it held: one was added, one was taken out at an index, or all went.
 #[derive(Drop)]
@@ -15,21 +17,52 @@ pub enum ChoicePair<P> {
     Cleared(Vec<Choice<P>>),
 }
 
-/// Puts each pair back, the last first, ends the mark, and answers how many there were.
-pub(crate) fn put_back<P: Copy>(items: &mut Vec<Choice<P>>, trail: &mut Trail<ChoicePair<P>>) -> u64
-    requires held { StaysHeld (vec_capacity items.old) (trail_of trail.old.undo) items.old.items }
-    ensures items { items.new.items ≡ undone choices_back (trail_of trail.old.undo) items.old.items }
-    ensures trail { Ends trail.old trail.new }
-    ensures held { Held (vec_capacity items.new) items.new.items }
-    ensures len { result ≡ length (trail_of trail.old.undo) }
-    ensures writes { result ≤ writes_of trail.old.undo }
-{
-    let count = trail.len() as u64;
-    while let Some(pair) = trail.take_last() {
-        put_one_back(items, pair);
+#[tactic(auto, unfolding(crate::specs::Undo::choices_stood, crate::specs::Undo::choices_spare, ink_trail::specs::Undo::stood_at, ink_trail::specs::Undo::spare))]
+impl<P: Copy> Undo for Choices<P> {
+    type Pair = ChoicePair<P>;
+
+    ghost Cells = { List (ChoiceOf P) };
+
+    ghost cells = { λ choices. choices.items };
+
+    ghost trail = { λ choices. choices.trail };
+
+    ghost before = { choices_back };
+
+    ghost stood = { choices_stood };
+
+    ghost spare = { choices_spare };
+
+    ghost aside = { λ choices. tt };
+
+    ghost stood_is = { λ choices. unfold choices_stood in refl };
+
+    ghost spare_is = { λ choices. unfold choices_spare in refl };
+
+    fn trail(&self) -> &Trail<ChoicePair<P>> {
+        &self.trail
     }
-    trail.forget();
-    count
+
+    fn undo_last(&mut self) -> bool {
+        let Some(pair) = self.trail.take_last() else {
+            return false;
+        };
+        put_one_back(&mut self.items, pair);
+        self.settled = 0;
+        true
+    }
+
+    fn mark(&mut self) {
+        self.trail.mark();
+    }
+
+    fn forget(&mut self) {
+        self.trail.forget();
+    }
+
+    fn make_room(&mut self, count: usize) -> Result<(), AllocError> {
+        self.trail.make_room(count)
+    }
 }
 
 fn put_one_back<P: Copy>(items: &mut Vec<Choice<P>>, pair: ChoicePair<P>)

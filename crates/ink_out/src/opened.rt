@@ -32,7 +32,7 @@ pub(crate) enum Kind {
 
 /// A string or a tag that is open. A contract sees its kind and its marks, the oldest first.
 #[derive(Drop)]
-pub(crate) struct Opened {
+pub struct Opened {
     kind: Kind,
     marks: Section,
 }

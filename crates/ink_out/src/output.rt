@@ -1,10 +1,10 @@
 //! The text being written (docs/TEXT.md, "Sections").
 
-ghost use Rattle.std.specs.Prelude.{ℕ, ◌≡◌, ◌<◌, ◌≤◌, ◌+◌, ◌&&◌, not, [], ◌∷◌, Err, Ok, None, Some, is_some, length, map, reverse, true, unwrap_or, ◌≢◌, IfErr, IfOk, IsOk, IsTrue, OnErr, OnOk};
+ghost use Rattle.std.specs.Prelude.{ℕ, ◌≡◌, ◌<◌, ◌≤◌, ◌+◌, ◌&&◌, not, refl, [], ◌∷◌, Err, Ok, None, Some, is_some, length, map, reverse, true, ◌≢◌, IfErr, IfOk, IsOk, IsTrue, OnErr};
 ghost use Rattle.std.specs.List.{list_any};
 ghost use Rattle.ink_model.specs.Asks.{prints_bytes};
 ghost use Rattle.ink_model.specs.Clean.{clean};
-ghost use Rattle.ink_model.specs.Configuration.{string_section, tag_section};
+ghost use Rattle.ink_model.specs.Configuration.{Page, string_section, tag_section};
 ghost use Rattle.ink_model.specs.Mark.{cut, piece, tags};
 ghost use Rattle.ink_model.specs.Memory.{Gives, Hands, Leaves};
 ghost use Rattle.ink_model.specs.Bytes.{fits_text};
@@ -20,7 +20,7 @@ ghost use Rattle.ink_out.specs.Kept.{mark_of, said};
 ghost use Rattle.ink_out.specs.Opened.{section_kind};
 ghost use Rattle.ink_out.specs.Undo.{GoesBack, output_back, output_spare, output_stood};
 ghost use Rattle.ink_out.specs.Writing.{Notes, closed, marks_of, page_of, prints_nothing};
-ghost use Rattle.ink_trail.specs.Undo.{Begins, Ends, KeepsTrail, Trails, TrailsOrKeeps, trail_of, writes_of};
+ghost use Rattle.ink_trail.specs.Undo.{Trails, TrailsOrKeeps, trail_of};
 
 use crate::cleaning::cleaned;
 use crate::cutting::{Piece, Pieces, cut_text, is_cut};
@@ -29,9 +29,9 @@ use crate::opened::{Kind, Opened, note, note_all, note_below, note_in, open_stat
 use crate::rooms::Rooms;
 use crate::section::Section;
 use crate::spares::Spares;
-use crate::undo::{OutputPair, let_go, note_number, put_back};
+use crate::undo::{OutputPair, let_go, note_number, put_one_back};
 use ink_model::{Fault, MAX_SECTIONS, MAX_TEXT, Seq, Shared, Text, Value};
-use ink_trail::Trail;
+use ink_trail::{Trail, Undo};
 use smallvec::SmallVec;
 use std::alloc::{AllocError, Global};
 use std::marker::Model;
@@ -590,55 +590,53 @@ impl Output {
         let number = mem::replace(&mut self.next_enter, 0);
         self.trail.note(OutputPair::Line(line, number), 1);
     }
+}
 
-    /// Whether a mark stands.
-    #[inline(always)]
-    pub fn is_marked(&self) -> bool
-        ensures { result ≡ is_some (output_stood self.now) }
-    {
-        self.trail.is_marked()
+#[tactic(auto, unfolding(crate::specs::Undo::output_stood, crate::specs::Undo::output_spare, ink_trail::specs::Undo::stood_at, ink_trail::specs::Undo::spare))]
+impl Undo for Output {
+    type Pair = OutputPair;
+
+    ghost Cells = { Page };
+
+    ghost cells = { λ output. output.page };
+
+    ghost trail = { λ output. output.trail };
+
+    ghost before = { output_back };
+
+    ghost stood = { output_stood };
+
+    ghost spare = { output_spare };
+
+    ghost aside = { λ output. tt };
+
+    ghost stood_is = { λ output. unfold output_stood in refl };
+
+    ghost spare_is = { λ output. unfold output_spare in refl };
+
+    fn trail(&self) -> &Trail<OutputPair> {
+        &self.trail
     }
 
-    /// Starts a mark with an empty trail, and forgets an older one. Takes no memory.
-    pub fn mark(&mut self)
-        ensures page { self.new.page ≡ self.old.page }
-        ensures trail { Begins self.old.trail self.new.trail }
-        ensures stood { output_stood self.new ≡ Some self.old.page }
-    {
-        self.trail.mark();
-    }
-
-    /// How many changes of single cells there were since the mark, which stays at 2^64 - 1; 0 without one.
-    pub fn writes(&self) -> u64
-        ensures { result ≡ writes_of self.now.trail.undo }
-    {
-        self.trail.writes()
-    }
-
-    /// Puts all back as it stood at the mark, ends the mark, and answers how many pairs there were. Without a mark it changes
-    /// nothing, and answers 0. Takes no memory.
-    pub fn back(&mut self) -> u64
-        ensures page { self.new.page ≡ unwrap_or (output_stood self.old) self.old.page }
-        ensures trail { Ends self.old.trail self.new.trail }
-        ensures stood { output_stood self.new ≡ None }
-        ensures len { result ≡ length (trail_of self.old.trail.undo) }
-        ensures writes { result ≤ writes_of self.old.trail.undo }
-    {
-        put_back(
+    fn undo_last(&mut self) -> bool {
+        let Some(pair) = self.trail.take_last() else {
+            return false;
+        };
+        put_one_back(
             &mut self.line,
             &mut self.sections,
             &mut self.next_enter,
             &mut self.spares,
-            &mut self.trail,
-        )
+            pair,
+        );
+        true
     }
 
-    /// Ends the mark, and changes nothing else. Takes no memory.
-    pub fn forget(&mut self)
-        ensures page { self.new.page ≡ self.old.page }
-        ensures trail { Ends self.old.trail self.new.trail }
-        ensures stood { output_stood self.new ≡ None }
-    {
+    fn mark(&mut self) {
+        self.trail.mark();
+    }
+
+    fn forget(&mut self) {
         if self.holds_closed {
             self.holds_closed = false;
             let_go(&mut self.spares, &mut self.trail);
@@ -647,37 +645,8 @@ impl Output {
         self.trail.forget();
     }
 
-    /// Makes room for so many changes to be noted without memory. The one error is a refused request for memory, and leaves all as
-    /// it was.
-    pub fn make_room(&mut self, count: usize) -> Result<(), AllocError>
-        ensures page { self.new.page ≡ self.old.page }
-        ensures trail { KeepsTrail self.old.trail self.new.trail }
-        ensures stood { output_stood self.new ≡ output_stood self.old }
-        ensures more { output_spare self.old ≤ output_spare self.new }
-        ensures ok { OnOk result (count ≤ self.new.trail.room) }
-        ensures memory { OnErr result (self.old.trail.room < count) }
-    {
+    fn make_room(&mut self, count: usize) -> Result<(), AllocError> {
         self.trail.make_room(count)
-    }
-
-    /// The same while a mark stands; without one it takes no memory.
-    #[inline(always)]
-    pub fn ready(&mut self, count: usize) -> Result<(), AllocError>
-        ensures page { self.new.page ≡ self.old.page }
-        ensures trail { KeepsTrail self.old.trail self.new.trail }
-        ensures stood { output_stood self.new ≡ output_stood self.old }
-        ensures more { output_spare self.old ≤ output_spare self.new }
-        ensures ok { OnOk result (count ≤ output_spare self.new) }
-        ensures memory { OnErr result ((is_some (output_stood self.old) ≡ true) × (output_spare self.old < count)) }
-    {
-        self.trail.ready(count)
-    }
-
-    /// How many changes can be noted without memory.
-    pub fn room(&self) -> usize
-        ensures { result ≡ self.now.trail.room }
-    {
-        self.trail.room()
     }
 }
 

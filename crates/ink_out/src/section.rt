@@ -33,7 +33,7 @@ use std::marker::Model;
 /// The marks that were written into the line, a string or a tag, the shown newlines that nothing can hide any more, and what
 /// the marks leave to decide. A contract sees the marks, the oldest first.
 #[derive(Drop)]
-pub(crate) struct Section {
+pub struct Section {
     marks: Vec<Kept>,
     settled: Vec<usize>,
     state: State,

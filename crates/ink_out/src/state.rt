@@ -13,7 +13,7 @@ use std::alloc::{AllocError, Global};
 
 /// What the marks so far leave to decide, and the last text or tag.
 #[derive(Clone, Copy)]
-pub(crate) struct State {
+pub struct State {
     pub(crate) tracker: Tracker,
     pub(crate) more: Option<usize>,
 }

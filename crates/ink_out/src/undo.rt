@@ -1,10 +1,10 @@
 //! How changes of the text being written are put back.
 
-ghost use Rattle.std.specs.Prelude.{ℕ, ◌≡◌, ◌≤◌, ◌+◌, length, vec_capacity};
+ghost use Rattle.std.specs.Prelude.{ℕ, ◌≡◌, ◌≤◌, ◌+◌, vec_capacity};
 ghost use Rattle.ink_out.specs.Stands.{IsStateOf};
-ghost use Rattle.ink_out.specs.Undo.{GoesBack, Held, Keeps, open_marks, output_back, room_of, with_open};
+ghost use Rattle.ink_out.specs.Undo.{Held, Keeps, open_marks, output_back, room_of, with_open};
 ghost use Rattle.ink_out.specs.Writing.{page_of};
-ghost use Rattle.ink_trail.specs.Undo.{Ends, but_last, spare, trail_of, undone, with_pair, writes_of};
+ghost use Rattle.ink_trail.specs.Undo.{Ends, but_last, spare, with_pair};
 
 use crate::opened::Opened;
 use crate::section::Section;
@@ -15,7 +15,7 @@ use ink_trail::Trail;
 /// A cell of the text, and what it held: a mark was written into what is open, where this was known before it; a section was
 /// opened, or closed; there was another next number; or the line went with its next number, or all sections.
 #[derive(Drop)]
-pub(crate) enum OutputPair {
+pub enum OutputPair {
     Wrote(State),
     Began,
     Closed(Opened),
@@ -36,31 +36,8 @@ pub(crate) fn note_number(trail: &mut Trail<OutputPair>, number: u64)
     }
 }
 
-/// Puts each pair back, the last first, ends the mark, and answers how many there were. A section that is taken away is
-/// kept, to be opened again.
-pub(crate) fn put_back(
-    line: &mut Section,
-    sections: &mut Vec<Opened>,
-    next_enter: &mut u64,
-    spares: &mut Spares,
-    trail: &mut Trail<OutputPair>,
-) -> u64
-    requires back { GoesBack (vec_capacity sections.old) (trail_of trail.old.undo) (page_of line.old sections.old.items next_enter.old) }
-    ensures page { page_of line.new sections.new.items next_enter.new ≡ undone output_back (trail_of trail.old.undo) (page_of line.old sections.old.items next_enter.old) }
-    ensures held { Held (vec_capacity sections.new) (page_of line.new sections.new.items next_enter.new) }
-    ensures len { result ≡ length (trail_of trail.old.undo) }
-    ensures writes { result ≤ writes_of trail.old.undo }
-    ensures trail { Ends trail.old trail.new }
-{
-    let count = trail.len() as u64;
-    while let Some(pair) = trail.take_last() {
-        put_one_back(line, sections, next_enter, spares, pair);
-    }
-    trail.forget();
-    count
-}
-
-fn put_one_back(
+/// Puts a pair back. A section that is taken away is kept, to be opened again.
+pub(crate) fn put_one_back(
     line: &mut Section,
     sections: &mut Vec<Opened>,
     next_enter: &mut u64,

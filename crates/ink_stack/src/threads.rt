@@ -1,6 +1,6 @@
 //! The threads of a running story.
 
-ghost use Rattle.std.specs.Prelude.{◌≡◌, ◌≢◌, ◌⊎◌, ◌<◌, ◌≤◌, ◌+◌, [], None, Some, is_some, length, map, option_map, reverse, true, unwrap_or, vec_capacity, IfOk, IfErr, OnOk, OnErr};
+ghost use Rattle.std.specs.Prelude.{◌≡◌, ◌≢◌, ◌⊎◌, ◌<◌, ◌≤◌, ◌+◌, [], None, Some, is_some, length, map, option_map, true, unwrap_or, vec_capacity, IfOk, IfErr, OnOk, OnErr};
 ghost use Rattle.ink_model.specs.Flow.{is_last};
 ghost use Rattle.ink_model.specs.Frames.{base_threads, fresh_depth, gone, mode_in, on_top, place_in, put_in, unnumbered_thread, unnumbered_threads};
 ghost use Rattle.ink_model.specs.Threads.{alone, doubled, dropped, frame_count, number_in, popped, pushed, staled, temp_in, thread_count, top_result, with_temp};
@@ -10,16 +10,16 @@ ghost use Rattle.ink_stack.specs.Running.{threads_in};
 ghost use Rattle.ink_stack.specs.Temps.{text_of};
 ghost use Rattle.ink_stack.specs.Undo.{HasGone, HasMode, threads_back, threads_spare, threads_stood};
 ghost use Rattle.ink_stack.specs.Words.{Changes, Grows};
-ghost use Rattle.ink_trail.specs.Undo.{Begins, Ends, KeepsTrail, Notes, Trails, TrailsOrKeeps, trail_of, writes_of};
+ghost use Rattle.ink_trail.specs.Undo.{KeepsTrail, Notes, Trails, TrailsOrKeeps, trail_of};
 
 use crate::frame::CallKind;
 use crate::running::Running;
 use crate::temps::TempName;
 use crate::thread::Thread;
-use crate::undo::{ThreadsPair, end_freshness, has_gone, has_mode, put_back};
+use crate::undo::{ThreadsPair, end_freshness, has_gone, has_mode};
 use ink_model::{Fault, FrameKind, MAX_THREADS, Shared, Text, Value};
 use ink_trail::Trail;
-use std::alloc::{AllocError, Global};
+use std::alloc::Global;
 use std::marker::Model;
 use std::mem;
 
@@ -600,88 +600,6 @@ impl<P: Copy> Threads<P> {
         let top = mem::replace(&mut self.running, running);
         let below = mem::replace(&mut self.below, Vec::new(self.alloc));
         self.trail.note(ThreadsPair::Replaced(top, below), 1);
-    }
-
-    // ---- marks
-
-    /// Starts a mark with an empty trail, and forgets an older one. Takes no memory.
-    pub fn mark(&mut self)
-        ensures threads { self.new.threads ≡ self.old.threads }
-        ensures trail { Begins self.old.trail self.new.trail }
-        ensures stood { threads_stood self.new ≡ Some self.old.threads }
-    {
-        self.trail.mark();
-    }
-
-    /// Whether a mark stands.
-    #[inline(always)]
-    pub fn is_marked(&self) -> bool
-        ensures { result ≡ is_some (threads_stood self.now) }
-    {
-        self.trail.is_marked()
-    }
-
-    /// How many changes of single cells there were since the mark, which stays at 2^64 - 1; 0 without one.
-    pub fn writes(&self) -> u64
-        ensures { result ≡ writes_of self.now.trail.undo }
-    {
-        self.trail.writes()
-    }
-
-    /// Puts the threads back as they stood at the mark, ends the mark, and answers how many pairs there were. Without a mark it
-    /// changes nothing, and answers 0. Takes no memory.
-    pub fn back(&mut self) -> u64
-        ensures threads { self.new.threads ≡ unwrap_or (threads_stood self.old) self.old.threads }
-        ensures trail { Ends self.old.trail self.new.trail }
-        ensures stood { threads_stood self.new ≡ None }
-        ensures len { result ≡ length (trail_of self.old.trail.undo) }
-        ensures writes { result ≤ writes_of self.old.trail.undo }
-    {
-        let count = put_back(&mut self.running, &mut self.below, &mut self.trail);
-        self.trail.forget();
-        count
-    }
-
-    /// Ends the mark, and changes nothing else. Takes no memory.
-    pub fn forget(&mut self)
-        ensures threads { self.new.threads ≡ self.old.threads }
-        ensures trail { Ends self.old.trail self.new.trail }
-        ensures stood { threads_stood self.new ≡ None }
-    {
-        self.trail.forget();
-    }
-
-    /// Makes room for so many changes to be noted without memory. The one error is a refused request for memory, and leaves all as
-    /// it was.
-    pub fn make_room(&mut self, count: usize) -> Result<(), AllocError>
-        ensures threads { self.new.threads ≡ self.old.threads }
-        ensures kept { KeepsTrail self.old.trail self.new.trail }
-        ensures stood { threads_stood self.new ≡ threads_stood self.old }
-        ensures more { threads_spare self.old ≤ threads_spare self.new }
-        ensures ok { OnOk result (count ≤ self.new.trail.room) }
-        ensures memory { OnErr result (self.old.trail.room < count) }
-    {
-        self.trail.make_room(count)
-    }
-
-    /// The same where a mark stands; else it takes no memory.
-    #[inline(always)]
-    pub fn ready(&mut self, count: usize) -> Result<(), AllocError>
-        ensures threads { self.new.threads ≡ self.old.threads }
-        ensures kept { KeepsTrail self.old.trail self.new.trail }
-        ensures stood { threads_stood self.new ≡ threads_stood self.old }
-        ensures more { threads_spare self.old ≤ threads_spare self.new }
-        ensures ok { OnOk result (count ≤ threads_spare self.new) }
-        ensures memory { OnErr result ((is_some (threads_stood self.old) ≡ true) × (threads_spare self.old < count)) }
-    {
-        self.trail.ready(count)
-    }
-
-    /// How many changes can be noted without memory.
-    pub fn room(&self) -> usize
-        ensures { result ≡ self.now.trail.room }
-    {
-        self.trail.room()
     }
 }
 

@@ -1,17 +1,20 @@
 //! How changes of frames and threads are put back.
 
-ghost use Rattle.std.specs.Prelude.{◌≡◌, ◌≤◌, ◌<◌, ◌+◌, length, reverse, true, vec_capacity};
+ghost use Rattle.std.specs.Prelude.{◌≡◌, ◌≤◌, ◌<◌, ◌+◌, length, refl, reverse, true, vec_capacity};
+ghost use Rattle.ink_model.specs.Frames.{ThreadsOf};
 ghost use Rattle.ink_model.specs.Threads.{frame_count, stale, stale_run, staled};
 ghost use Rattle.ink_stack.specs.Cells.{with_frame};
 ghost use Rattle.ink_stack.specs.Running.{threads_in};
-ghost use Rattle.ink_stack.specs.Undo.{HasGone, HasMode, Held, More, StaysHeld, rooms_of, threads_back};
-ghost use Rattle.ink_trail.specs.Undo.{Trails, spare, trail_of, undone, writes_of};
+ghost use Rattle.ink_stack.specs.Undo.{HasGone, HasMode, Held, More, StaysHeld, rooms_of, threads_back, threads_spare, threads_stood};
+ghost use Rattle.ink_trail.specs.Undo.{Trails, spare, trail_of};
 
 use crate::frame::Frame;
 use crate::running::Running;
 use crate::thread::Thread;
+use crate::threads::Threads;
 use ink_model::Value;
-use ink_trail::Trail;
+use ink_trail::{Trail, Undo};
+use std::alloc::AllocError;
 use std::mem;
 
 /// A cell of the frames and threads, and what it held. Where no frame is named it is the top one's.
@@ -132,24 +135,51 @@ fn end_one<P: Copy>(
     }
 }
 
-/// Puts each pair back, the last first, and answers how many there were.
-pub(crate) fn put_back<P: Copy>(
-    running: &mut Running<P>,
-    below: &mut Vec<Thread<P>>,
-    trail: &mut Trail<ThreadsPair<P>>,
-) -> u64
-    requires held { StaysHeld (record { frames = running.old.room; threads = vec_capacity below.old }) (trail_of trail.old.undo) (threads_in running.old below.old.items) }
-    ensures threads { threads_in running.new below.new.items ≡ undone threads_back (trail_of trail.old.undo) (threads_in running.old below.old.items) }
-    ensures held { Held (record { frames = running.new.room; threads = vec_capacity below.new }) (threads_in running.new below.new.items) }
-    ensures len { result ≡ length (trail_of trail.old.undo) }
-    ensures writes { result ≤ writes_of trail.old.undo }
-    ensures room { trail.old.room ≤ trail.new.room }
-{
-    let count = trail.len() as u64;
-    while let Some(pair) = trail.take_last() {
-        put_one_back(running, below, pair);
+#[tactic(auto, unfolding(crate::specs::Undo::threads_stood, crate::specs::Undo::threads_spare, ink_trail::specs::Undo::stood_at, ink_trail::specs::Undo::spare))]
+impl<P: Copy> Undo for Threads<P> {
+    type Pair = ThreadsPair<P>;
+
+    ghost Cells = { ThreadsOf P };
+
+    ghost cells = { λ threads. threads.threads };
+
+    ghost trail = { λ threads. threads.trail };
+
+    ghost before = { threads_back };
+
+    ghost stood = { threads_stood };
+
+    ghost spare = { threads_spare };
+
+    ghost aside = { λ threads. tt };
+
+    ghost stood_is = { λ threads. unfold threads_stood in refl };
+
+    ghost spare_is = { λ threads. unfold threads_spare in refl };
+
+    fn trail(&self) -> &Trail<ThreadsPair<P>> {
+        &self.trail
     }
-    count
+
+    fn undo_last(&mut self) -> bool {
+        let Some(pair) = self.trail.take_last() else {
+            return false;
+        };
+        put_one_back(&mut self.running, &mut self.below, pair);
+        true
+    }
+
+    fn mark(&mut self) {
+        self.trail.mark();
+    }
+
+    fn forget(&mut self) {
+        self.trail.forget();
+    }
+
+    fn make_room(&mut self, count: usize) -> Result<(), AllocError> {
+        self.trail.make_room(count)
+    }
 }
 
 // The pairs that most steps note are put back in place, and the larger ones elsewhere.

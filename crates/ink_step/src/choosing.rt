@@ -20,6 +20,7 @@ use crate::noting::{ready_choices, ready_threads};
 use ink_check::Story;
 use ink_choice::Choice;
 use ink_model::{Fault, Refusal};
+use ink_trail::Undo;
 use ink_tree::Spot;
 use ink_vars::Turn;
 use std::alloc::AllocError;

@@ -22,6 +22,7 @@ use crate::machine::Machine;
 use crate::noting::ready_counts;
 use ink_check::Story;
 use ink_model::{Fault, Leaf};
+use ink_trail::Undo;
 use ink_tree::{NodeId, Spot, Tree, Upward};
 use ink_vars::{Counts, Turn};
 

@@ -26,6 +26,7 @@ use crate::operands::push;
 use ink_model::{Fault, FrameKind, Value};
 use ink_out::Output;
 use ink_stack::{CallKind, Threads};
+use ink_trail::Undo;
 use ink_tree::{Spot, Tree};
 use ink_value::EvalStack;
 

@@ -11,7 +11,7 @@ use crate::own::OwnPair;
 use ink_flows::{Aside, Flow};
 use ink_model::Value;
 use ink_out::Output;
-use ink_trail::Trail;
+use ink_trail::{Trail, Undo};
 use ink_vars::{Counts, Globals, Turn};
 use std::alloc::Global;
 use std::mem;

@@ -5,6 +5,7 @@ ghost use Rattle.ink_model.specs.Tree.{StoryTree};
 ghost use Rattle.ink_step.specs.Marks.{KeepsTrails, config_back, marked_at, pairs_in, room_in, stood_of, unmarked, writes_in};
 
 use crate::machine::Machine;
+use ink_trail::Undo;
 use std::alloc::AllocError;
 
 impl Machine {

@@ -11,6 +11,7 @@ ghost use Rattle.std.specs.Prelude.{◌≡◌, ◌≤◌, true, IfErr, OnErr, On
 use ink_choice::Choices;
 use ink_model::Fault;
 use ink_stack::Threads;
+use ink_trail::Undo;
 use ink_tree::Spot;
 use ink_value::EvalStack;
 use ink_vars::Counts;

@@ -17,7 +17,7 @@ use ink_flows::{Aside, Flow};
 use ink_host::{Desk, Nobody};
 use ink_model::Fault;
 use ink_out::Output;
-use ink_trail::Trail;
+use ink_trail::{Trail, Undo};
 use ink_tree::Spot;
 use ink_vars::{Counts, Globals, Turn};
 use std::alloc::Global;

@@ -52,6 +52,7 @@ use ink_check::Story;
 use ink_host::{Desk, PureFn, TurnFn, Watcher};
 use ink_model::{Fault, FrameKind, Leaf, Shared, Text, Value};
 use ink_stack::CallKind;
+use ink_trail::Undo;
 use ink_tree::Spot;
 use std::mem;
 

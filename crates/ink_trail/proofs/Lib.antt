@@ -1,3 +1,4 @@
 pub mod Undoing
 pub mod Staying
 pub mod Ending
+pub mod Parting

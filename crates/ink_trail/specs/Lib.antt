@@ -1,2 +1,3 @@
 pub mod Undo
 pub mod Stays
+pub mod Parts

@@ -2,5 +2,7 @@
 #![tactic(auto)]
 
 mod trail;
+mod undo;
 
 pub use trail::Trail;
+pub use undo::Undo;

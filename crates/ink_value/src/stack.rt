@@ -1,13 +1,13 @@
 //! The evaluation stack.
 
-ghost use Rattle.std.specs.Prelude.{◌≡◌, ◌<◌, ◌≤◌, vec_len, vec_capacity, ◌↔◌, ◌⊎◌, [], ◌∷◌, ◌++◌, ◌+◌, true, false, Some, None, is_some, length, option_map, unwrap_or, reverse, slice_get, take, ◌-◌, OnOk, OnErr, IfOk, IfErr, IfSome, MatchResult};
+ghost use Rattle.std.specs.Prelude.{◌≡◌, ◌<◌, ◌≤◌, vec_len, vec_capacity, ◌↔◌, ◌⊎◌, [], ◌∷◌, ◌++◌, ◌+◌, true, false, Some, None, is_some, length, option_map, reverse, slice_get, take, ◌-◌, OnOk, OnErr, IfOk, IfErr, IfSome, MatchResult};
 ghost use Rattle.ink_model.specs.Asks.{operator_asks};
 ghost use Rattle.ink_model.specs.Memory.{Leaves, holds_memory};
 ghost use Rattle.ink_model.specs.Operator as rules;
 ghost use Rattle.ink_model.specs.Stack.{applied, popped, taken};
 ghost use Rattle.ink_model.specs.Step.Host.{arguments_on};
 ghost use Rattle.ink_model.specs.VariableMemory.{on_popped};
-ghost use Rattle.ink_trail.specs.Undo.{Begins, Ends, KeepsTrail, Trails, TrailsOrKeeps, trail_of, writes_of};
+ghost use Rattle.ink_trail.specs.Undo.{Trails, TrailsOrKeeps};
 ghost use Rattle.ink_model.specs.declared.operator.Op.{Op as Operator};
 ghost use Rattle.ink_model.specs.declared.value.Value.{Value as Data};
 ghost use Rattle.ink_value.specs.Stack.{with_top};
@@ -15,7 +15,7 @@ ghost use Rattle.ink_value.specs.Undo.{stack_back, stack_spare, stack_stood};
 
 use crate::numbers::of_numbers;
 use crate::operate::{apply, number_of};
-use crate::undo::{StackPair, drop_noted, put_back, replace_noted};
+use crate::undo::{StackPair, drop_noted, replace_noted};
 use ink_model::{Fault, MAX_STACK, Op, Value};
 use ink_trail::Trail;
 use std::alloc::{AllocError, Global};
@@ -376,84 +376,6 @@ impl EvalStack {
         ensures most { result ≤ MAX_STACK }
     {
         self.items.len()
-    }
-
-    /// Whether a mark stands.
-    #[inline(always)]
-    pub fn is_marked(&self) -> bool
-        ensures { result ≡ is_some (stack_stood self.now) }
-    {
-        self.trail.is_marked()
-    }
-
-    /// Starts a mark with an empty trail, and forgets an older one. Takes no memory.
-    pub fn mark(&mut self)
-        ensures items { self.new.items ≡ self.old.items }
-        ensures trail { Begins self.old.trail self.new.trail }
-        ensures stood { stack_stood self.new ≡ Some self.old.items }
-    {
-        self.trail.mark();
-    }
-
-    /// How many changes of single cells there were since the mark, which stays at 2^64 - 1; 0 without one.
-    pub fn writes(&self) -> u64
-        ensures { result ≡ writes_of self.now.trail.undo }
-    {
-        self.trail.writes()
-    }
-
-    /// Puts the values back as they stood at the mark, ends the mark, and answers how many pairs there were. Without a mark it
-    /// changes nothing, and answers 0. Takes no memory.
-    pub fn back(&mut self) -> u64
-        ensures items { self.new.items ≡ unwrap_or (stack_stood self.old) self.old.items }
-        ensures trail { Ends self.old.trail self.new.trail }
-        ensures stood { stack_stood self.new ≡ None }
-        ensures len { result ≡ length (trail_of self.old.trail.undo) }
-        ensures writes { result ≤ writes_of self.old.trail.undo }
-    {
-        put_back(&mut self.items, &mut self.trail)
-    }
-
-    /// Ends the mark, and changes nothing else. Takes no memory.
-    pub fn forget(&mut self)
-        ensures items { self.new.items ≡ self.old.items }
-        ensures trail { Ends self.old.trail self.new.trail }
-        ensures stood { stack_stood self.new ≡ None }
-    {
-        self.trail.forget();
-    }
-
-    /// Makes room for so many changes to be noted without memory. The one error is a refused request for memory, and leaves all as
-    /// it was.
-    pub fn make_room(&mut self, count: usize) -> Result<(), AllocError>
-        ensures items { self.new.items ≡ self.old.items }
-        ensures kept { KeepsTrail self.old.trail self.new.trail }
-        ensures stood { stack_stood self.new ≡ stack_stood self.old }
-        ensures more { stack_spare self.old ≤ stack_spare self.new }
-        ensures ok { OnOk result (count ≤ self.new.trail.room) }
-        ensures memory { OnErr result (self.old.trail.room < count) }
-    {
-        self.trail.make_room(count)
-    }
-
-    /// The same while a mark stands; without one it takes no memory.
-    #[inline(always)]
-    pub fn ready(&mut self, count: usize) -> Result<(), AllocError>
-        ensures items { self.new.items ≡ self.old.items }
-        ensures kept { KeepsTrail self.old.trail self.new.trail }
-        ensures stood { stack_stood self.new ≡ stack_stood self.old }
-        ensures more { stack_spare self.old ≤ stack_spare self.new }
-        ensures ok { OnOk result (count ≤ stack_spare self.new) }
-        ensures memory { OnErr result ((is_some (stack_stood self.old) ≡ true) × (stack_spare self.old < count)) }
-    {
-        self.trail.ready(count)
-    }
-
-    /// How many changes can be noted without memory.
-    pub fn room(&self) -> usize
-        ensures { result ≡ self.now.trail.room }
-    {
-        self.trail.room()
     }
 }
 

@@ -1,11 +1,14 @@
 //! How changes of the evaluation stack are put back.
 
-ghost use Rattle.std.specs.Prelude.{◌≡◌, ◌≤◌, ◌<◌, ◌-◌, ◌++◌, [], ◌∷◌, length, take, vec_capacity, vec_len};
-ghost use Rattle.ink_trail.specs.Undo.{Ends, Trails, spare, trail_of, undone, writes_of};
-ghost use Rattle.ink_value.specs.Undo.{Held, StaysHeld, stack_back};
+ghost use Rattle.std.specs.Prelude.{◌≡◌, ◌≤◌, ◌<◌, ◌-◌, ◌++◌, List, [], ◌∷◌, refl, take, vec_capacity, vec_len};
+ghost use Rattle.ink_trail.specs.Undo.{Trails, spare, trail_of};
+ghost use Rattle.ink_value.specs.Undo.{Held, StaysHeld, stack_back, stack_spare, stack_stood};
+ghost use Rattle.ink_model.specs.declared.value.Value.{Value as Data};
 
+use crate::stack::EvalStack;
 use ink_model::Value;
-use ink_trail::Trail;
+use ink_trail::{Trail, Undo};
+use std::alloc::AllocError;
 
 /// A cell of the stack, and what it held: a value was pushed, popped, or replaced on top.
 #[derive(Drop)]
@@ -15,21 +18,51 @@ pub enum StackPair {
     Replaced(Value),
 }
 
-/// Puts each pair back, the last first, ends the mark, and answers how many there were.
-pub(crate) fn put_back(items: &mut Vec<Value>, trail: &mut Trail<StackPair>) -> u64
-    requires held { StaysHeld (vec_capacity items.old) (trail_of trail.old.undo) items.old.items }
-    ensures items { items.new.items ≡ undone stack_back (trail_of trail.old.undo) items.old.items }
-    ensures trail { Ends trail.old trail.new }
-    ensures held { Held (vec_capacity items.new) items.new.items }
-    ensures len { result ≡ length (trail_of trail.old.undo) }
-    ensures writes { result ≤ writes_of trail.old.undo }
-{
-    let count = trail.len() as u64;
-    while let Some(pair) = trail.take_last() {
-        put_one_back(items, pair);
+#[tactic(auto, unfolding(crate::specs::Undo::stack_stood, crate::specs::Undo::stack_spare, ink_trail::specs::Undo::stood_at, ink_trail::specs::Undo::spare))]
+impl Undo for EvalStack {
+    type Pair = StackPair;
+
+    ghost Cells = { List Data };
+
+    ghost cells = { λ stack. stack.items };
+
+    ghost trail = { λ stack. stack.trail };
+
+    ghost before = { stack_back };
+
+    ghost stood = { stack_stood };
+
+    ghost spare = { stack_spare };
+
+    ghost aside = { λ stack. tt };
+
+    ghost stood_is = { λ stack. unfold stack_stood in refl };
+
+    ghost spare_is = { λ stack. unfold stack_spare in refl };
+
+    fn trail(&self) -> &Trail<StackPair> {
+        &self.trail
     }
-    trail.forget();
-    count
+
+    fn undo_last(&mut self) -> bool {
+        let Some(pair) = self.trail.take_last() else {
+            return false;
+        };
+        put_one_back(&mut self.items, pair);
+        true
+    }
+
+    fn mark(&mut self) {
+        self.trail.mark();
+    }
+
+    fn forget(&mut self) {
+        self.trail.forget();
+    }
+
+    fn make_room(&mut self, count: usize) -> Result<(), AllocError> {
+        self.trail.make_room(count)
+    }
 }
 
 fn put_one_back(items: &mut Vec<Value>, pair: StackPair)

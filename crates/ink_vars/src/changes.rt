@@ -5,15 +5,11 @@ ghost use Rattle.std.specs.List.{IsDistinct};
 ghost use Rattle.std.specs.Option.{option_copied};
 ghost use Rattle.ink_model.specs.Store.{Values, store, stored};
 ghost use Rattle.ink_model.specs.declared.value.Value.{Value};
-ghost use Rattle.ink_trail.specs.Undo.{Ends, trail_of, undone, writes_of};
-ghost use Rattle.ink_vars.specs.Changes.{AnswersAs, Fits, Marks, Tracks, as_they_were, changed_numbers, changed_to, noted_at, number_of, with_noted};
+ghost use Rattle.ink_vars.specs.Changes.{AnswersAs, Marks, Tracks, changed_numbers, changed_to, noted_at, number_of, with_noted};
 ghost use Rattle.ink_vars.specs.Globals.{set_value_at};
-ghost use Rattle.ink_vars.specs.Undo.{Covers, global_back};
 
 use crate::table::Table;
-use crate::undo::GlobalPair;
 use ink_model::Value;
-use ink_trail::Trail;
 use ink_value::same_value;
 use std::alloc::{AllocError, Global};
 use std::marker::Model;
@@ -215,26 +211,6 @@ impl Changes {
     {
         let before = globals.swap_at(index, value);
         self.add(index, Some(before));
-    }
-
-    /// Puts each pair of a trail back, the last first, ends the mark, and answers how many pairs there were. What was noted of the
-    /// globals fits them then too. Takes no memory.
-    pub(crate) fn put_back(&self, globals: &mut Table, trail: &mut Trail<GlobalPair>) -> u64
-        requires fits { Fits self.now globals.old }
-        requires covers { Covers self.now.noted (length globals.old) (trail_of trail.old.undo) }
-        ensures rows { globals.new ≡ undone global_back (trail_of trail.old.undo) globals.old }
-        ensures fits { Fits self.now globals.new }
-        ensures start { as_they_were self.now.noted 0 globals.new ≡ as_they_were self.now.noted 0 globals.old }
-        ensures len { result ≡ length (trail_of trail.old.undo) }
-        ensures writes { result ≤ writes_of trail.old.undo }
-        ensures trail { Ends trail.old trail.new }
-    {
-        let count = trail.len() as u64;
-        while let Some(pair) = trail.take_last() {
-            globals.put_one_back(pair);
-        }
-        trail.forget();
-        count
     }
 
     // Notes what the global of a number was, which has a slot, and no mark yet. Takes no memory.

@@ -1,18 +1,18 @@
 //! Visits and turns of containers.
 
-ghost use Rattle.std.specs.Prelude.{◌≡◌, ◌≤◌, ◌<◌, ◌+◌, ◌⊎◌, ℕ, Bool, [], None, Some, is_some, length, true, unwrap_or, ◌&&◌, IfErr, OnOk, OnErr};
+ghost use Rattle.std.specs.Prelude.{◌≡◌, ◌≤◌, ◌<◌, ◌+◌, ◌⊎◌, ℕ, Bool, [], None, Some, length, refl, true, ◌&&◌, IfErr, OnOk, OnErr};
 ghost use Rattle.std.specs.Ordering.{nat_cmp};
 ghost use Rattle.ink_model.specs.Counts as rules;
 ghost use Rattle.ink_model.specs.Counts.{CountsOf};
 ghost use Rattle.ink_model.specs.Rows.{row};
-ghost use Rattle.ink_trail.specs.Undo.{Begins, Ends, KeepsTrail, Trails, TrailsOrKeeps, trail_of, writes_of};
+ghost use Rattle.ink_trail.specs.Undo.{Trails, TrailsOrKeeps};
 ghost use Rattle.ink_vars.specs.Undo.{counts_back, counts_spare, counts_stood};
 
 use crate::slots::{add_one, make_room, put, put_back, slot};
 use crate::turn::Turn;
-use crate::undo::{CountPair, add_rows, note_slots, put_rows_back};
+use crate::undo::{CountPair, add_rows, note_slots, put_row_back};
 use ink_model::{Fault, flags};
-use ink_trail::Trail;
+use ink_trail::{Trail, Undo};
 use std::alloc::{AllocError, Global};
 use std::marker::Model;
 
@@ -172,86 +172,51 @@ impl Counts {
             None => Ok(-1),
         }
     }
+}
 
-    /// Whether a mark stands.
-    #[inline(always)]
-    pub fn is_marked(&self) -> bool
-        ensures { result ≡ is_some (counts_stood self.now) }
-    {
-        self.trail.is_marked()
+#[tactic(auto, unfolding(crate::specs::Undo::counts_stood, crate::specs::Undo::counts_spare, ink_trail::specs::Undo::stood_at, ink_trail::specs::Undo::spare))]
+impl Undo for Counts {
+    type Pair = CountPair;
+
+    ghost Cells = { CountsOf ℕ };
+
+    ghost cells = { λ counts. counts.rows };
+
+    ghost trail = { λ counts. counts.trail };
+
+    ghost before = { counts_back };
+
+    ghost stood = { counts_stood };
+
+    ghost spare = { counts_spare };
+
+    ghost aside = { λ counts. tt };
+
+    ghost stood_is = { λ counts. unfold counts_stood in refl };
+
+    ghost spare_is = { λ counts. unfold counts_spare in refl };
+
+    fn trail(&self) -> &Trail<CountPair> {
+        &self.trail
     }
 
-    /// Starts a mark with an empty trail, and forgets an older one. Takes no memory.
-    pub fn mark(&mut self)
-        ensures rows { self.new.rows ≡ self.old.rows }
-        ensures trail { Begins self.old.trail self.new.trail }
-        ensures stood { counts_stood self.new ≡ Some self.old.rows }
-    {
+    fn undo_last(&mut self) -> bool {
+        let Some(pair) = self.trail.take_last() else {
+            return false;
+        };
+        put_row_back(self.visits.as_mut_slice(), self.turns.as_mut_slice(), pair);
+        true
+    }
+
+    fn mark(&mut self) {
         self.trail.mark();
     }
 
-    /// How many changes of single cells there were since the mark, which stays at 2^64 - 1; 0 without one.
-    pub fn writes(&self) -> u64
-        ensures { result ≡ writes_of self.now.trail.undo }
-    {
-        self.trail.writes()
-    }
-
-    /// Puts all back as it stood at the mark, ends the mark, and answers how many pairs there were. Without a mark it changes
-    /// nothing, and answers 0. Takes no memory.
-    pub fn back(&mut self) -> u64
-        ensures rows { self.new.rows ≡ unwrap_or (counts_stood self.old) self.old.rows }
-        ensures trail { Ends self.old.trail self.new.trail }
-        ensures stood { counts_stood self.new ≡ None }
-        ensures len { result ≡ length (trail_of self.old.trail.undo) }
-        ensures writes { result ≤ writes_of self.old.trail.undo }
-    {
-        put_rows_back(
-            self.visits.as_mut_slice(),
-            self.turns.as_mut_slice(),
-            &mut self.trail,
-        )
-    }
-
-    /// Ends the mark, and changes nothing else. Takes no memory.
-    pub fn forget(&mut self)
-        ensures rows { self.new.rows ≡ self.old.rows }
-        ensures trail { Ends self.old.trail self.new.trail }
-        ensures stood { counts_stood self.new ≡ None }
-    {
+    fn forget(&mut self) {
         self.trail.forget();
     }
 
-    /// Makes room for so many changes to be noted without memory. The one error is a refused request for memory, and leaves all as
-    /// it was.
-    pub fn make_room(&mut self, count: usize) -> Result<(), AllocError>
-        ensures rows { self.new.rows ≡ self.old.rows }
-        ensures kept { KeepsTrail self.old.trail self.new.trail }
-        ensures stood { counts_stood self.new ≡ counts_stood self.old }
-        ensures more { counts_spare self.old ≤ counts_spare self.new }
-        ensures ok { OnOk result (count ≤ self.new.trail.room) }
-        ensures memory { OnErr result (self.old.trail.room < count) }
-    {
+    fn make_room(&mut self, count: usize) -> Result<(), AllocError> {
         self.trail.make_room(count)
-    }
-
-    /// The same while a mark stands; without one it takes no memory.
-    #[inline(always)]
-    pub fn ready(&mut self, count: usize) -> Result<(), AllocError>
-        ensures rows { self.new.rows ≡ self.old.rows }
-        ensures kept { KeepsTrail self.old.trail self.new.trail }
-        ensures stood { counts_stood self.new ≡ counts_stood self.old }
-        ensures more { counts_spare self.old ≤ counts_spare self.new }
-        ensures ok { OnOk result (count ≤ counts_spare self.new) }
-        ensures memory { OnErr result ((is_some (counts_stood self.old) ≡ true) × (counts_spare self.old < count)) }
-    {
-        self.trail.ready(count)
-    }
-
-    /// How many changes can be noted without memory.
-    pub fn room(&self) -> usize
-        ensures { result ≡ self.now.trail.room }
-    {
-        self.trail.room()
     }
 }

@@ -1,9 +1,9 @@
 //! The globals of a running story, and what they were at a moment.
 
-ghost use Rattle.std.specs.Prelude.{◌≡◌, ◌≢◌, ◌≤◌, ◌<◌, ◌+◌, ◌⊎◌, ℕ, List, [], Bool, None, Some, false, is_ok, is_some, length, nat_eq, option_map, slice_get, true, unwrap_or, IfOk, IfSome, IfErr, OnOk, OnErr};
+ghost use Rattle.std.specs.Prelude.{◌≡◌, ◌≢◌, ◌≤◌, ◌<◌, ◌+◌, ◌⊎◌, ℕ, List, [], Bool, None, Some, false, is_ok, is_some, length, nat_eq, option_map, refl, slice_get, true, IfOk, IfSome, IfErr, OnOk, OnErr};
 ghost use Rattle.std.specs.List.{IsDistinct};
-ghost use Rattle.ink_model.specs.Store.{stored, store};
-ghost use Rattle.ink_trail.specs.Undo.{Begins, Ends, KeepsTrail, TrailsOrKeeps, trail_of, writes_of};
+ghost use Rattle.ink_model.specs.Store.{Values, stored, store};
+ghost use Rattle.ink_trail.specs.Undo.{KeepsTrail, TrailsOrKeeps};
 ghost use Rattle.ink_vars.specs.Changes.{AnswersAs, changed_numbers, number_of};
 ghost use Rattle.ink_vars.specs.Globals.{DifferInName};
 ghost use Rattle.ink_vars.specs.Undo.{global_back, globals_spare, globals_stood};
@@ -12,7 +12,7 @@ use crate::changes::{Changes, changed};
 use crate::table::Table;
 use crate::undo::{GlobalPair, put_noted};
 use ink_model::Value;
-use ink_trail::Trail;
+use ink_trail::{Trail, Undo};
 use std::alloc::{AllocError, Global};
 use std::marker::Model;
 
@@ -256,87 +256,53 @@ impl Globals {
     {
         changed(alloc, &self.changes, &self.table, is_wanted)
     }
+}
 
-    /// Whether a mark stands.
-    #[inline(always)]
-    pub fn is_marked(&self) -> bool
-        ensures { result ≡ is_some (globals_stood self.now) }
-    {
-        self.trail.is_marked()
+#[tactic(auto, unfolding(crate::specs::Undo::globals_stood, crate::specs::Undo::globals_spare, ink_trail::specs::Undo::stood_at, ink_trail::specs::Undo::spare))]
+impl Undo for Globals {
+    type Pair = GlobalPair;
+
+    ghost Cells = { Values };
+
+    ghost Aside = { Values };
+
+    ghost cells = { λ globals. globals.rows };
+
+    ghost trail = { λ globals. globals.trail };
+
+    ghost before = { global_back };
+
+    ghost stood = { globals_stood };
+
+    ghost spare = { globals_spare };
+
+    ghost aside = { λ globals. globals.start };
+
+    ghost stood_is = { λ globals. unfold globals_stood in refl };
+
+    ghost spare_is = { λ globals. unfold globals_spare in refl };
+
+    fn trail(&self) -> &Trail<GlobalPair> {
+        &self.trail
     }
 
-    /// Starts a mark with an empty trail, and forgets an older one. Takes no memory.
-    pub fn mark(&mut self)
-        ensures rows { self.new.rows ≡ self.old.rows }
-        ensures start { self.new.start ≡ self.old.start }
-        ensures trail { Begins self.old.trail self.new.trail }
-        ensures stood { globals_stood self.new ≡ Some self.old.rows }
-    {
+    fn undo_last(&mut self) -> bool {
+        let Some(pair) = self.trail.take_last() else {
+            return false;
+        };
+        self.table.put_one_back(pair);
+        true
+    }
+
+    fn mark(&mut self) {
         self.trail.mark();
     }
 
-    /// How many changes of single cells there were since the mark, which stays at 2^64 - 1; 0 without one.
-    pub fn writes(&self) -> u64
-        ensures { result ≡ writes_of self.now.trail.undo }
-    {
-        self.trail.writes()
-    }
-
-    /// Puts all back as it stood at the mark, ends the mark, and answers how many pairs there were. Without a mark it changes
-    /// nothing, and answers 0. The moment stays in any case. Takes no memory.
-    pub fn back(&mut self) -> u64
-        ensures rows { self.new.rows ≡ unwrap_or (globals_stood self.old) self.old.rows }
-        ensures start { self.new.start ≡ self.old.start }
-        ensures trail { Ends self.old.trail self.new.trail }
-        ensures stood { globals_stood self.new ≡ None }
-        ensures len { result ≡ length (trail_of self.old.trail.undo) }
-        ensures writes { result ≤ writes_of self.old.trail.undo }
-    {
-        self.changes.put_back(&mut self.table, &mut self.trail)
-    }
-
-    /// Ends the mark, and changes nothing else. Takes no memory.
-    pub fn forget(&mut self)
-        ensures rows { self.new.rows ≡ self.old.rows }
-        ensures start { self.new.start ≡ self.old.start }
-        ensures trail { Ends self.old.trail self.new.trail }
-        ensures stood { globals_stood self.new ≡ None }
-    {
+    fn forget(&mut self) {
         self.trail.forget();
     }
 
-    /// Makes room for so many changes to be noted without memory. The one error is a refused request for memory, and leaves all as
-    /// it was.
-    pub fn make_room(&mut self, count: usize) -> Result<(), AllocError>
-        ensures rows { self.new.rows ≡ self.old.rows }
-        ensures start { self.new.start ≡ self.old.start }
-        ensures kept { KeepsTrail self.old.trail self.new.trail }
-        ensures stood { globals_stood self.new ≡ globals_stood self.old }
-        ensures more { globals_spare self.old ≤ globals_spare self.new }
-        ensures ok { OnOk result (count ≤ self.new.trail.room) }
-        ensures memory { OnErr result (self.old.trail.room < count) }
-    {
+    fn make_room(&mut self, count: usize) -> Result<(), AllocError> {
         self.trail.make_room(count)
-    }
-
-    /// The same while a mark stands; without one it takes no memory.
-    #[inline(always)]
-    pub fn ready(&mut self, count: usize) -> Result<(), AllocError>
-        ensures rows { self.new.rows ≡ self.old.rows }
-        ensures start { self.new.start ≡ self.old.start }
-        ensures kept { KeepsTrail self.old.trail self.new.trail }
-        ensures stood { globals_stood self.new ≡ globals_stood self.old }
-        ensures more { globals_spare self.old ≤ globals_spare self.new }
-        ensures ok { OnOk result (count ≤ globals_spare self.new) }
-        ensures memory { OnErr result ((is_some (globals_stood self.old) ≡ true) × (globals_spare self.old < count)) }
-    {
-        self.trail.ready(count)
-    }
-
-    /// How many changes can be noted without memory.
-    pub fn room(&self) -> usize
-        ensures { result ≡ self.now.trail.room }
-    {
-        self.trail.room()
     }
 }

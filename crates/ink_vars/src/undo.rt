@@ -3,10 +3,10 @@
 ghost use Rattle.std.specs.Prelude.{◌≡◌, ◌≤◌, ◌<◌, ◌+◌, None, List, OnOk, OnErr, is_some, length, nat_lt, true, false};
 ghost use Rattle.ink_vars.specs.Globals.{set_value_at};
 ghost use Rattle.ink_model.specs.Store.{store, stored};
-ghost use Rattle.ink_trail.specs.Undo.{Ends, KeepsTrail, Trails, TrailsOrKeeps, spare, trail_of, undone, writes_of};
+ghost use Rattle.ink_trail.specs.Undo.{KeepsTrail, Trails, TrailsOrKeeps, spare, trail_of};
 ghost use Rattle.ink_vars.specs.Changes.{AreNew, noted_at, number_of};
 ghost use Rattle.ink_vars.specs.Slots.{AreCounts};
-ghost use Rattle.ink_vars.specs.Undo.{Covers, HasSlot, HaveSlots, counts_back, global_back, rows_of, with_rows, with_wanted};
+ghost use Rattle.ink_vars.specs.Undo.{Covers, HasSlot, counts_back, global_back, rows_of, with_rows, with_wanted};
 ghost use Rattle.ink_vars.specs.declared.changes.Before.{Before};
 
 use crate::slots::slot;
@@ -191,29 +191,8 @@ fn note_row(trail: &mut Trail<CountPair>, pair: CountPair, wanted: bool)
     }
 }
 
-/// Puts each row back, the last change first, ends the mark, and answers how many pairs there were. Takes no memory.
-pub(crate) fn put_rows_back(
-    visits: &mut [Option<u32>],
-    turns: &mut [Option<u32>],
-    trail: &mut Trail<CountPair>,
-) -> u64
-    requires slots { HaveSlots (length visits.old) (length turns.old) (trail_of trail.old.undo) }
-    ensures rows { rows_of visits.new turns.new ≡ undone counts_back (trail_of trail.old.undo) (rows_of visits.old turns.old) }
-    ensures visits { AreCounts visits.old → AreCounts visits.new }
-    ensures turns { AreCounts turns.old → AreCounts turns.new }
-    ensures len { result ≡ length (trail_of trail.old.undo) }
-    ensures writes { result ≤ writes_of trail.old.undo }
-    ensures trail { Ends trail.old trail.new }
-{
-    let count = trail.len() as u64;
-    while let Some(pair) = trail.take_last() {
-        put_row_back(visits, turns, pair);
-    }
-    trail.forget();
-    count
-}
-
-fn put_row_back(visits: &mut [Option<u32>], turns: &mut [Option<u32>], pair: CountPair)
+/// Puts a row back. Takes no memory.
+pub(crate) fn put_row_back(visits: &mut [Option<u32>], turns: &mut [Option<u32>], pair: CountPair)
     requires slot { HasSlot (length visits.old) (length turns.old) pair }
     ensures rows { rows_of visits.new turns.new ≡ counts_back pair (rows_of visits.old turns.old) }
     ensures visits { AreCounts visits.old → AreCounts visits.new }

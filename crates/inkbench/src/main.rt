@@ -9,6 +9,7 @@ use ink_check::check;
 use ink_json::read_story;
 use ink_model::{Fault, Shared, Text, Value};
 use ink_out::Output;
+use ink_trail::Undo;
 use serde_json::Value as Json;
 use std::alloc::{AllocError, Global};
 use std::io::Read;

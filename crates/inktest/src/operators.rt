@@ -1,6 +1,7 @@
 //! Values: operators on them, their truth, their printed text, copies of them, and the evaluation stack.
 
 use ink_model::{Op, Shared, Value};
+use ink_trail::Undo;
 use ink_value::{EvalStack, apply, is_true, printed};
 use inkcases::{NoAnswer, Report, first_word, number, value_of};
 use std::alloc::Global;

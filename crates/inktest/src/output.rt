@@ -2,6 +2,7 @@
 
 use ink_model::{Fault, Shared, Text, Value};
 use ink_out::Output;
+use ink_trail::Undo;
 use inkcases::{NoAnswer, Report, number, text_of, value_of};
 use std::fmt::Display;
 

@@ -14,6 +14,7 @@ use crate::shown::{compare, show_choices, show_counts, show_globals, show_thread
 use ink_choice::{Choice, Choices};
 use ink_model::{Fault, FrameKind, Seq, Shared, Text};
 use ink_stack::{CallKind, Threads};
+use ink_trail::Undo;
 use ink_tree::{NodeId, Spot};
 use ink_vars::{Counts, Globals, Turn};
 use inkcases::{NoAnswer, Report, decoded, first_word, number, value_of};

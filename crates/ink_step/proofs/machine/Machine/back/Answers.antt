@@ -6,11 +6,11 @@ use Rattle.ink_step.proofs.machine.Machine.back.Goals as goal
 pub returns-clause-config : goal.returns-clause-config
 returns-clause-config c s =
     let alone : OwnAlone c.args.self.now c.back_own-own.new.self = record { same = c.back_own-own.ensures.same } in
-    rw (c.back-threads.ensures.threads, c.back-stack.ensures.items, c.back-choices.ensures.items, c.back-globals.ensures.rows, c.back-counts.ensures.rows, c.back-output.ensures.page)
+    rw (c.back-threads.ensures.cells, c.back-stack.ensures.cells, c.back-choices.ensures.cells, c.back-globals.ensures.cells, c.back-counts.ensures.cells, c.back-output.ensures.cells)
     (own_goes_back s c.args.self.now c.back_own-own.new.self alone c.back_own-own.ensures.own)
 
 pub returns-clause-start : goal.returns-clause-start
-returns-clause-start c = c.back-globals.ensures.start ∙ ap start_of c.back_own-own.ensures.same
+returns-clause-start c = c.back-globals.ensures.aside ∙ ap start_of c.back_own-own.ensures.same
 
 pub returns-clause-mark : goal.returns-clause-mark
 returns-clause-mark c =

@@ -1,0 +1,38 @@
+-- A part that keeps a trail, and is put back by it.
+use Rattle.std.proofs.Common.{◌≡◌, ◌∙◌, ◌≤◌, ◌<◌, ◌^◌, ℕ, List, ◌∷◌, Bool, true, false, Option, Some, None, is_some, ap, arith, refl, subst, sym}
+use Rattle.ink_trail.specs.Parts.{PutsBack}
+use Rattle.ink_trail.specs.Stays.{Stays}
+use Rattle.ink_trail.specs.Undo.{TrailView, Undo, spare, spare_of, stood, undone}
+
+-- ---- room
+
+module _ {E : Type 0} where
+  by_room : (n : ℕ) (u : Option (Undo E)) (r : ℕ) → n < 2 ^ 64 → (is_some u ≡ true → n ≤ r) → n ≤ spare_of u r
+  by_room n None r fits h = omega (arith, fits)
+  by_room n (Some u) r fits h = h refl
+
+  -- there is room, where a mark stands
+  pub spare-room : (n : ℕ) (t : TrailView E) → n < 2 ^ 64 → (is_some t.undo ≡ true → n ≤ t.room) → n ≤ spare t
+  unfolding spare
+  spare-room n t fits h = by_room n t.undo t.room fits h
+
+  marked_room : (u : Option (Undo E)) (r : ℕ) → is_some u ≡ true → spare_of u r ≡ r
+  marked_room None r some = absurd (cc)
+  marked_room (Some u) r some = refl
+
+  pub spare-marked : (t : TrailView E) → is_some t.undo ≡ true → spare t ≡ t.room
+  unfolding spare
+  spare-marked t some = marked_room t.undo t.room some
+
+-- ---- the last pair
+
+module _ {E D : Type 0} (back : E → D → D) where
+  -- nothing is left to put back
+  pub put-none : (b : Bool) (was is : D) (old new : TrailView E) → b ≡ false → PutsBack back b was old is new → is ≡ stood back old was
+  put-none true was is old new none h = absurd (cc)
+  put-none false was is old new none h = h.1 ∙ sym (ap (λ es. undone back es was) h.0)
+
+-- what is true while pairs are put back is true once the last was
+pub stays-last : {E D R : Type 0} → (back : E → D → D) (room_of : E → R → R) (Holds : R → D → Type 0) (e : E) (room : R) (es fs : List E) (d : D)
+    → es ≡ e ∷ fs → Stays back room_of Holds room es d → Stays back room_of Holds (room_of e room) fs (back e d)
+stays-last back room_of Holds e room es fs d last h = (subst (λ gs. Stays back room_of Holds room gs d) last h).1
