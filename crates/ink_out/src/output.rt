@@ -20,6 +20,7 @@ ghost use Rattle.ink_out.specs.Kept.{mark_of, said};
 ghost use Rattle.ink_out.specs.Opened.{section_kind};
 ghost use Rattle.ink_out.specs.Undo.{GoesBack, output_back, output_spare, output_stood};
 ghost use Rattle.ink_out.specs.Writing.{Notes, closed, marks_of, page_of, prints_nothing};
+ghost use Rattle.ink_trail.specs.Parts.{PutsBack};
 ghost use Rattle.ink_trail.specs.Undo.{Trails, TrailsOrKeeps, trail_of};
 
 use crate::cleaning::cleaned;
@@ -29,7 +30,7 @@ use crate::opened::{Kind, Opened, note, note_all, note_below, note_in, open_stat
 use crate::rooms::Rooms;
 use crate::section::Section;
 use crate::spares::Spares;
-use crate::undo::{OutputPair, let_go, note_number, put_one_back};
+use crate::undo::{OutputPair, let_go, note_number, put_one_back, unwrite};
 use ink_model::{Fault, MAX_SECTIONS, MAX_TEXT, Seq, Shared, Text, Value};
 use ink_trail::{Trail, Undo};
 use smallvec::SmallVec;
@@ -618,18 +619,16 @@ impl Undo for Output {
         &self.trail
     }
 
+    #[inline(always)]
     fn undo_last(&mut self) -> bool {
-        let Some(pair) = self.trail.take_last() else {
-            return false;
-        };
-        put_one_back(
-            &mut self.line,
-            &mut self.sections,
-            &mut self.next_enter,
-            &mut self.spares,
-            pair,
-        );
-        true
+        match self.trail.last() {
+            Some(OutputPair::Wrote(state)) => {
+                unwrite(&mut self.line, &mut self.sections, *state);
+                self.trail.drop_last();
+                true
+            }
+            _ => self.undo_other(),
+        }
     }
 
     fn mark(&mut self) {
@@ -647,6 +646,26 @@ impl Undo for Output {
 
     fn make_room(&mut self, count: usize) -> Result<(), AllocError> {
         self.trail.make_room(count)
+    }
+}
+
+impl Output {
+    // Puts the last pair back, whatever it is.
+    #[inline(never)]
+    fn undo_other(&mut self) -> bool
+        ensures { PutsBack output_back result self.old.page self.old.trail self.new.page self.new.trail }
+    {
+        let Some(pair) = self.trail.take_last() else {
+            return false;
+        };
+        put_one_back(
+            &mut self.line,
+            &mut self.sections,
+            &mut self.next_enter,
+            &mut self.spares,
+            pair,
+        );
+        true
     }
 }
 

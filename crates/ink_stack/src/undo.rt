@@ -6,6 +6,7 @@ ghost use Rattle.ink_model.specs.Threads.{frame_count, stale, stale_run, staled}
 ghost use Rattle.ink_stack.specs.Cells.{with_frame};
 ghost use Rattle.ink_stack.specs.Running.{threads_in};
 ghost use Rattle.ink_stack.specs.Undo.{HasGone, HasMode, Held, More, StaysHeld, rooms_of, threads_back, threads_spare, threads_stood};
+ghost use Rattle.ink_trail.specs.Parts.{PutsBack};
 ghost use Rattle.ink_trail.specs.Undo.{Trails, spare, trail_of};
 
 use crate::frame::Frame;
@@ -161,12 +162,21 @@ impl<P: Copy> Undo for Threads<P> {
         &self.trail
     }
 
+    #[inline(always)]
     fn undo_last(&mut self) -> bool {
-        let Some(pair) = self.trail.take_last() else {
-            return false;
-        };
-        put_one_back(&mut self.running, &mut self.below, pair);
-        true
+        match self.trail.last() {
+            Some(ThreadsPair::Gone(place, previous)) => {
+                self.running.ungo(*place, *previous);
+                self.trail.drop_last();
+                true
+            }
+            Some(ThreadsPair::Evaluating(evaluating)) => {
+                self.running.set_mode(*evaluating);
+                self.trail.drop_last();
+                true
+            }
+            _ => self.undo_other(),
+        }
     }
 
     fn mark(&mut self) {
@@ -182,23 +192,22 @@ impl<P: Copy> Undo for Threads<P> {
     }
 }
 
-// The pairs that most steps note are put back in place, and the larger ones elsewhere.
-#[inline(always)]
-fn put_one_back<P: Copy>(running: &mut Running<P>, below: &mut Vec<Thread<P>>, pair: ThreadsPair<P>)
-    requires { Held (rooms_of pair (record { frames = running.old.room; threads = vec_capacity below.old })) (threads_back pair (threads_in running.old below.old.items)) }
-    ensures threads { threads_in running.new below.new.items ≡ threads_back pair (threads_in running.old below.old.items) }
-    ensures room { More (rooms_of pair (record { frames = running.old.room; threads = vec_capacity below.old })) (record { frames = running.new.room; threads = vec_capacity below.new }) }
-{
-    match pair {
-        ThreadsPair::Gone(place, previous) => running.ungo(place, previous),
-        ThreadsPair::Evaluating(evaluating) => running.set_mode(evaluating),
-        other => put_other_back(running, below, other),
+impl<P: Copy> Threads<P> {
+    // Puts the last pair back, whatever it is.
+    #[inline(never)]
+    fn undo_other(&mut self) -> bool
+        ensures { PutsBack threads_back result self.old.threads self.old.trail self.new.threads self.new.trail }
+    {
+        let Some(pair) = self.trail.take_last() else {
+            return false;
+        };
+        put_one_back(&mut self.running, &mut self.below, pair);
+        true
     }
 }
 
-// The same of any pair.
-#[inline(never)]
-fn put_other_back<P: Copy>(
+// Puts a pair back.
+fn put_one_back<P: Copy>(
     running: &mut Running<P>,
     below: &mut Vec<Thread<P>>,
     pair: ThreadsPair<P>,

@@ -1,8 +1,8 @@
 -- A part that keeps a trail, and is put back by it.
-use Rattle.std.proofs.Common.{◌≡◌, ◌∙◌, ◌≤◌, ◌<◌, ◌^◌, ℕ, List, ◌∷◌, Bool, true, false, Option, Some, None, is_some, ap, arith, refl, subst, sym}
+use Rattle.std.proofs.Common.{◌≡◌, ◌∙◌, ◌≤◌, ◌<◌, ◌^◌, ℕ, List, [], ◌∷◌, length, Bool, true, false, Option, Some, None, is_some, ap, arith, refl, subst, sym}
 use Rattle.ink_trail.specs.Parts.{PutsBack}
 use Rattle.ink_trail.specs.Stays.{Stays}
-use Rattle.ink_trail.specs.Undo.{TrailView, Undo, spare, spare_of, stood, undone}
+use Rattle.ink_trail.specs.Undo.{TrailView, Undo, spare, spare_of, stood, trail_of, undone}
 
 -- ---- room
 
@@ -31,6 +31,14 @@ module _ {E D : Type 0} (back : E → D → D) where
   pub put-none : (b : Bool) (was is : D) (old new : TrailView E) → b ≡ false → PutsBack back b was old is new → is ≡ stood back old was
   put-none true was is old new none h = absurd (cc)
   put-none false was is old new none h = h.1 ∙ sym (ap (λ es. undone back es was) h.0)
+
+  none_back : (es : List E) (d : D) → length es ≡ 0 → d ≡ undone back es d
+  none_back [] d none = refl
+  none_back (e ∷ es) d none = absurd (omega (arith, none))
+
+  -- where there is no pair
+  pub stood-empty : (t : TrailView E) (d : D) → length (trail_of t.undo) ≡ 0 → d ≡ stood back t d
+  stood-empty t d none = none_back (trail_of t.undo) d none
 
 -- what is true while pairs are put back is true once the last was
 pub stays-last : {E D R : Type 0} → (back : E → D → D) (room_of : E → R → R) (Holds : R → D → Type 0) (e : E) (room : R) (es fs : List E) (d : D)

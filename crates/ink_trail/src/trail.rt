@@ -1,10 +1,11 @@
 //! A trail of pairs.
 
-ghost use Rattle.std.specs.Prelude.{◌≡◌, ◌≤◌, ◌<◌, ◌+◌, [], ◌∷◌, None, Some, is_some, length, reverse, OnOk, OnErr, MatchOption, true, vec_capacity, vec_len};
+ghost use Rattle.std.specs.Prelude.{◌≡◌, ◌≤◌, ◌<◌, ◌+◌, [], ◌∷◌, None, Some, drop, false, is_some, length, reverse, OnOk, OnErr, MatchOption, true, vec_capacity, vec_len};
 ghost use Rattle.ink_trail.specs.Undo.{Begins, Ends, HasRoom, KeepsTrail, LacksRoom, spare, trail_of, with_count, with_pair, writes_of};
 
 use std::alloc::{AllocError, Global};
 use std::marker::Model;
+use std::mem::forget;
 
 /// While a mark stands, the pairs of a cell and what it held, in the order of the changes, and how many changes of single cells
 /// were counted. A contract sees the last pair first, and how many pairs more fit without memory.
@@ -62,6 +63,14 @@ impl<E> Trail<E> {
         ensures writes { result ≤ writes_of self.now.undo }
     {
         self.pairs.len()
+    }
+
+    /// The last pair, as it stands in the trail; none where there is no pair.
+    #[inline(always)]
+    pub fn last(&self) -> Option<&E>
+        ensures { MatchOption result (trail_of self.now.undo ≡ []) (λ e. trail_of self.now.undo ≡ e.now ∷ drop 1 (trail_of self.now.undo)) }
+    {
+        self.pairs.last()
     }
 
     /// The pairs, in the order in which they were noted; none where no mark stands.
@@ -141,6 +150,7 @@ impl<E> Trail<E> {
 
 impl<E: Drop> Trail<E> {
     /// Starts a mark with no pairs, and forgets an older one. Takes no memory.
+    #[inline(always)]
     pub fn mark(&mut self)
         ensures { Begins self.old self.new }
     {
@@ -150,11 +160,11 @@ impl<E: Drop> Trail<E> {
     }
 
     /// Ends the mark. Takes no memory.
+    #[inline(always)]
     pub fn forget(&mut self)
         ensures { Ends self.old self.new }
     {
         self.marked = false;
-        self.writes = 0;
         drop_all(&mut self.pairs);
     }
 
@@ -211,13 +221,26 @@ impl<E: Drop> Trail<E> {
     }
 
     /// Takes the last pair out: the mark stands as before, and no change is counted. None where there is no pair. Takes no memory.
+    #[inline(always)]
     pub fn take_last(&mut self) -> Option<E>
         ensures pair { MatchOption result ((trail_of self.old.undo ≡ []) × (self.new.undo ≡ self.old.undo)) (λ e. trail_of self.old.undo ≡ e ∷ trail_of self.new.undo) }
         ensures writes { writes_of self.new.undo ≡ writes_of self.old.undo }
         ensures marked { is_some self.new.undo ≡ is_some self.old.undo }
         ensures room { self.old.room ≤ self.new.room }
     {
-        if self.marked { self.pairs.pop() } else { None }
+        self.pairs.pop()
+    }
+
+    /// Takes the last pair away once it was copied, so that what it holds is not let go: the mark stands as before, and no change is
+    /// counted. Takes no memory.
+    #[inline(always)]
+    pub fn drop_last(&mut self)
+        ensures pairs { trail_of self.new.undo ≡ drop 1 (trail_of self.old.undo) }
+        ensures writes { writes_of self.new.undo ≡ writes_of self.old.undo }
+        ensures marked { is_some self.new.undo ≡ is_some self.old.undo }
+        ensures room { self.old.room ≤ self.new.room }
+    {
+        forget(self.take_last());
     }
 }
 
@@ -229,6 +252,16 @@ fn drop_all<E: Drop>(pairs: &mut Vec<E>)
     ensures capacity { vec_capacity pairs.new ≡ vec_capacity pairs.old }
 {
     if !pairs.is_empty() {
-        pairs.clear();
+        drop_some(pairs);
     }
+}
+
+#[cold]
+#[inline(never)]
+fn drop_some<E: Drop>(pairs: &mut Vec<E>)
+    ensures items { pairs.new.items ≡ [] }
+    ensures len { vec_len pairs.new ≡ 0 }
+    ensures capacity { vec_capacity pairs.new ≡ vec_capacity pairs.old }
+{
+    pairs.clear();
 }

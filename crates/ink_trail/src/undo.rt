@@ -113,6 +113,7 @@ pub trait Undo {
 
     /// Puts the cells back as they stood at the mark, ends the mark, and answers how many pairs there were. Without a mark it
     /// changes nothing, and answers 0. Takes no memory.
+    #[inline(always)]
     final fn back(&mut self) -> u64
         ensures cells { cells self.new ≡ unwrap_or (stood self.old) (cells self.old) }
         ensures aside { aside self.new ≡ aside self.old }
@@ -122,8 +123,20 @@ pub trait Undo {
         ensures writes { result ≤ writes_of (trail self.old).undo }
     {
         let count = self.trail().len() as u64;
-        while self.undo_last() {}
+        if count > 0 {
+            undo_all(self);
+        }
         self.forget();
         count
     }
+}
+
+// Puts all pairs back, the last first. Most often there are none.
+#[inline(never)]
+fn undo_all<U: Undo>(part: &mut U)
+    ensures cells { U.cells part.new ≡ rules.stood U.before (U.trail part.old) (U.cells part.old) }
+    ensures aside { U.aside part.new ≡ U.aside part.old }
+    ensures room { (U.trail part.old).room ≤ (U.trail part.new).room }
+{
+    while part.undo_last() {}
 }

@@ -95,7 +95,8 @@ impl EvalStack {
             return Err(Fault::TooDeep);
         }
         make_room(&mut self.items)?;
-        self.trail.add(StackPair::Pushed, 1)?;
+        self.trail.ready(1)?;
+        self.trail.note(StackPair::Pushed, 1);
         self.items.push_reserved(value);
         Ok(())
     }

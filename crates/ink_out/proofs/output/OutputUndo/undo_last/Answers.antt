@@ -1,33 +1,34 @@
-use Rattle.std.proofs.Common.{subst, sym, vec_capacity}
-use Rattle.ink_out.specs.Undo.{GoesBack, output_back, room_of}
+use Rattle.std.proofs.Common.{◌≡◌, ◌∙◌, ◌∷◌, List, ap, drop, length, subst, sym}
+use Rattle.ink_model.specs.Configuration.{Section}
+use Rattle.ink_out.specs.Undo.{GoesBack, output_back}
 use Rattle.ink_out.specs.Writing.{page_of}
-use Rattle.ink_out.proofs.Undoing.{goes-more, goes-now}
+use Rattle.ink_out.specs.declared.undo.OutputPair.TheVariants.{Wrote}
+use Rattle.ink_out.proofs.Closing.{refilled}
+use Rattle.ink_out.proofs.Undoing.{goes-now}
 use Rattle.ink_out.proofs.output.OutputUndo.undo_last.Goals as goal
 use Rattle.ink_trail.specs.Undo.{trail_of}
 
-pub put_one_back-requires-clause-keeps : goal.put_one_back-requires-clause-keeps
-put_one_back-requires-clause-keeps c =
+pub invariant_of-self : goal.invariant_of-self
+invariant_of-self c =
     let o = c.self.inside in
-    let back = subst (λ es. GoesBack (vec_capacity o.sections) es (page_of o.line o.sections.items o.next_enter)) c.in-Some.ensures.pair c.self.invariant.1 in
-    back.1
-
-pub put_one_back-requires-clause-held : goal.put_one_back-requires-clause-held
-put_one_back-requires-clause-held c =
-    let o = c.self.inside in
-    let pair = c.in-Some.pair in
+    let pair = Wrote c.in-Some-Wrote.state in
+    let left = trail_of c.drop_last.new.self.undo in
+    let last : trail_of o.trail.undo ≡ pair ∷ left =
+    c.in-Some-Wrote.ensures ∙ ap (λ p. p ∷ drop 1 (trail_of o.trail.undo)) c.in-Some-Wrote.field-0-is ∙ ap (λ es. pair ∷ es) (sym c.drop_last.ensures.pairs) in
     let page = page_of o.line o.sections.items o.next_enter in
-    let back = subst (λ es. GoesBack (vec_capacity o.sections) es page) c.in-Some.ensures.pair c.self.invariant.1 in
-    goes-now (room_of pair (vec_capacity o.sections)) (trail_of c.take_last.new.self.undo) (output_back pair page) back.2
+    let back = subst (λ es. GoesBack o.sections.cap es page) last c.self.invariant.1 in
+    let lent : c.deref_mut.result.now ≡ o.sections.items = c.deref_mut.ensures.value in
+    let kept = refilled o.sections.items c.unwrite.new.sections o.sections.len (sym o.sections.ok.0) (c.unwrite.auto.sections ∙ ap (λ (ss : List Section). length ss) lent) in
+    let is : page_of c.unwrite.new.line c.unwrite.new.sections o.next_enter ≡ output_back pair page = rw lent at (c.unwrite.ensures o.next_enter) in
+    let goes = subst (λ p. GoesBack o.sections.cap left p) (sym is) back.2 in
+    rw kept ((goes-now o.sections.cap left (page_of c.unwrite.new.line c.unwrite.new.sections o.next_enter) goes).0, goes)
 
-pub invariant_of-self-2 : goal.invariant_of-self-2
-invariant_of-self-2 c =
+pub returns-in-Some-Wrote-clause-cells : goal.returns-in-Some-Wrote-clause-cells
+returns-in-Some-Wrote-clause-cells c =
     let o = c.self.inside in
-    let pair = c.in-Some.pair in
-    let left = trail_of c.take_last.new.self.undo in
-    let page = page_of o.line o.sections.items o.next_enter in
-    let new = c.put_one_back.new in
-    let back = subst (λ es. GoesBack (vec_capacity o.sections) es page) c.in-Some.ensures.pair c.self.invariant.1 in
-    let goes : GoesBack (vec_capacity new.sections) left (page_of new.line new.sections.items new.next_enter) =
-    subst (λ p. GoesBack (vec_capacity new.sections) left p) (sym c.put_one_back.ensures.page)
-    (goes-more (room_of pair (vec_capacity o.sections)) (vec_capacity new.sections) left (output_back pair page) c.put_one_back.ensures.room back.2) in
-    ((goes-now (vec_capacity new.sections) left (page_of new.line new.sections.items new.next_enter) goes).0, goes)
+    let pair = Wrote c.in-Some-Wrote.state in
+    let last : trail_of o.trail.undo ≡ pair ∷ trail_of c.drop_last.new.self.undo =
+    c.in-Some-Wrote.ensures ∙ ap (λ p. p ∷ drop 1 (trail_of o.trail.undo)) c.in-Some-Wrote.field-0-is ∙ ap (λ es. pair ∷ es) (sym c.drop_last.ensures.pairs) in
+    let lent : c.deref_mut.result.now ≡ o.sections.items = c.deref_mut.ensures.value in
+    let kept = refilled o.sections.items c.unwrite.new.sections o.sections.len (sym o.sections.ok.0) (c.unwrite.auto.sections ∙ ap (λ (ss : List Section). length ss) lent) in
+    rw (← c.self.view_is, kept) (pair, last, rw lent at (c.unwrite.ensures o.next_enter), c.drop_last.ensures.room)
