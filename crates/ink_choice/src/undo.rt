@@ -39,6 +39,7 @@ impl<P: Copy> Undo for Choices<P> {
 
     ghost spare_is = { λ choices. unfold choices_spare in refl };
 
+    #[inline(always)]
     fn trail(&self) -> &Trail<ChoicePair<P>> {
         &self.trail
     }
@@ -52,10 +53,12 @@ impl<P: Copy> Undo for Choices<P> {
         true
     }
 
+    #[inline(always)]
     fn mark(&mut self) {
         self.trail.mark();
     }
 
+    #[inline(always)]
     fn forget(&mut self) {
         self.trail.forget();
     }

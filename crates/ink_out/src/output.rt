@@ -615,6 +615,7 @@ impl Undo for Output {
 
     ghost spare_is = { λ output. unfold output_spare in refl };
 
+    #[inline(always)]
     fn trail(&self) -> &Trail<OutputPair> {
         &self.trail
     }
@@ -631,10 +632,12 @@ impl Undo for Output {
         }
     }
 
+    #[inline(always)]
     fn mark(&mut self) {
         self.trail.mark();
     }
 
+    #[inline(always)]
     fn forget(&mut self) {
         if self.holds_closed {
             self.holds_closed = false;

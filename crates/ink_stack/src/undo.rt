@@ -158,6 +158,7 @@ impl<P: Copy> Undo for Threads<P> {
 
     ghost spare_is = { λ threads. unfold threads_spare in refl };
 
+    #[inline(always)]
     fn trail(&self) -> &Trail<ThreadsPair<P>> {
         &self.trail
     }
@@ -179,10 +180,12 @@ impl<P: Copy> Undo for Threads<P> {
         }
     }
 
+    #[inline(always)]
     fn mark(&mut self) {
         self.trail.mark();
     }
 
+    #[inline(always)]
     fn forget(&mut self) {
         self.trail.forget();
     }
@@ -207,11 +210,7 @@ impl<P: Copy> Threads<P> {
 }
 
 // Puts a pair back.
-fn put_one_back<P: Copy>(
-    running: &mut Running<P>,
-    below: &mut Vec<Thread<P>>,
-    pair: ThreadsPair<P>,
-)
+fn put_one_back<P: Copy>(running: &mut Running<P>, below: &mut Vec<Thread<P>>, pair: ThreadsPair<P>)
     requires { Held (rooms_of pair (record { frames = running.old.room; threads = vec_capacity below.old })) (threads_back pair (threads_in running.old below.old.items)) }
     ensures threads { threads_in running.new below.new.items ≡ threads_back pair (threads_in running.old below.old.items) }
     ensures room { More (rooms_of pair (record { frames = running.old.room; threads = vec_capacity below.old })) (record { frames = running.new.room; threads = vec_capacity below.new }) }

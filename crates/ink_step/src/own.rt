@@ -48,6 +48,7 @@ impl Machine {
 
     // Starts a mark of the fields. Takes no memory.
     #[tactic(auto, unfolding(crate::specs::Marks::own_spare, crate::specs::Marks::own_stood, ink_trail::specs::Undo::spare, ink_trail::specs::Undo::stood_at))]
+    #[inline(always)]
     pub(crate) fn mark_own(&mut self)
         ensures same { self.new ≡ record self.old { trail = self.new.trail } }
         ensures mark { own_stood self.new.trail self.old.shared.turn self.old.flow.safe ≡ Some (own_of self.old) }
@@ -59,7 +60,26 @@ impl Machine {
 
     // Puts the fields back as they stood at the mark, ends it, and answers how many pairs there were. Takes no memory.
     #[tactic(auto, unfolding(crate::specs::Marks::own_spare, crate::specs::Marks::own_stood, ink_trail::specs::Undo::spare, ink_trail::specs::Undo::stood_at))]
+    #[inline(always)]
     pub(crate) fn back_own(&mut self) -> u64
+        ensures same { self.new ≡ record self.old { trail = self.new.trail; flow = record self.old.flow { safe = self.new.flow.safe }; shared = record self.old.shared { turn = self.new.shared.turn } } }
+        ensures own { own_of self.new ≡ unwrap_or (own_stood self.old.trail self.old.shared.turn self.old.flow.safe) (own_of self.old) }
+        ensures mark { own_stood self.new.trail self.new.shared.turn self.new.flow.safe ≡ None }
+        ensures len { result ≡ length (trail_of self.old.trail.undo) }
+        ensures writes { result ≤ writes_of self.old.trail.undo }
+        ensures room { self.old.trail.room ≤ self.new.trail.room }
+    {
+        if self.trail.len() == 0 {
+            self.trail.forget();
+            return 0;
+        }
+        self.put_own_back()
+    }
+
+    // The same in a loop, where there are pairs.
+    #[tactic(auto, unfolding(crate::specs::Marks::own_spare, crate::specs::Marks::own_stood, ink_trail::specs::Undo::spare, ink_trail::specs::Undo::stood_at))]
+    #[inline(never)]
+    fn put_own_back(&mut self) -> u64
         ensures same { self.new ≡ record self.old { trail = self.new.trail; flow = record self.old.flow { safe = self.new.flow.safe }; shared = record self.old.shared { turn = self.new.shared.turn } } }
         ensures own { own_of self.new ≡ unwrap_or (own_stood self.old.trail self.old.shared.turn self.old.flow.safe) (own_of self.old) }
         ensures mark { own_stood self.new.trail self.new.shared.turn self.new.flow.safe ≡ None }
@@ -80,6 +100,7 @@ impl Machine {
 
     // Ends the mark of the fields. Takes no memory.
     #[tactic(auto, unfolding(crate::specs::Marks::own_spare, crate::specs::Marks::own_stood, ink_trail::specs::Undo::spare, ink_trail::specs::Undo::stood_at))]
+    #[inline(always)]
     pub(crate) fn forget_own(&mut self)
         ensures same { self.new ≡ record self.old { trail = self.new.trail } }
         ensures mark { own_stood self.new.trail self.old.shared.turn self.old.flow.safe ≡ None }

@@ -40,6 +40,7 @@ impl Undo for EvalStack {
 
     ghost spare_is = { λ stack. unfold stack_spare in refl };
 
+    #[inline(always)]
     fn trail(&self) -> &Trail<StackPair> {
         &self.trail
     }
@@ -52,10 +53,12 @@ impl Undo for EvalStack {
         true
     }
 
+    #[inline(always)]
     fn mark(&mut self) {
         self.trail.mark();
     }
 
+    #[inline(always)]
     fn forget(&mut self) {
         self.trail.forget();
     }

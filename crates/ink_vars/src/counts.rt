@@ -196,6 +196,7 @@ impl Undo for Counts {
 
     ghost spare_is = { λ counts. unfold counts_spare in refl };
 
+    #[inline(always)]
     fn trail(&self) -> &Trail<CountPair> {
         &self.trail
     }
@@ -208,10 +209,12 @@ impl Undo for Counts {
         true
     }
 
+    #[inline(always)]
     fn mark(&mut self) {
         self.trail.mark();
     }
 
+    #[inline(always)]
     fn forget(&mut self) {
         self.trail.forget();
     }

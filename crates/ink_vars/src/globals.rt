@@ -282,6 +282,7 @@ impl Undo for Globals {
 
     ghost spare_is = { λ globals. unfold globals_spare in refl };
 
+    #[inline(always)]
     fn trail(&self) -> &Trail<GlobalPair> {
         &self.trail
     }
@@ -294,10 +295,12 @@ impl Undo for Globals {
         true
     }
 
+    #[inline(always)]
     fn mark(&mut self) {
         self.trail.mark();
     }
 
+    #[inline(always)]
     fn forget(&mut self) {
         self.trail.forget();
     }

@@ -1,7 +1,7 @@
 use Rattle.std.proofs.Common.{◌≡◌, ◌≤◌, length}
 use Rattle.ink_trail.specs.Undo.{trail_of, undone}
 use Rattle.ink_step.specs.Marks.{own_back, own_of}
-use Rattle.ink_step.proofs.machine.Machine.back_own.Given as goal
+use Rattle.ink_step.proofs.machine.Machine.put_own_back.Given as goal
 
 -- what is still to be put back, put back on the fields now, is what it was at the start; nothing else has changed, and there is as
 -- much room
