@@ -517,7 +517,7 @@ module _ (Holds : List Mark → Type 0) (grow : (k ms : List Mark) → Holds k �
     following_holds (Next c) h = h
     following_holds (Faults f) h = h
 
-    acted_holds : (e : Effect) (c : Configuration) → EffectHolds e → OutcomeHolds (acted s e c)
+    pub acted_holds : (e : Effect) (c : Configuration) → EffectHolds e → OutcomeHolds (acted s e c)
     acted_holds e c h = following_holds (move s e c) (move_holds e c h)
 
     made_holds : (k : CallEffect) (c : Configuration) → CallHolds s (context_of c) k → SteppedHolds (call_made s k c)

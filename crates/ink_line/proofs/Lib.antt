@@ -10,4 +10,5 @@ pub mod Enough
 pub mod Rows
 pub mod Grows
 pub mod Adds
+pub mod Stands
 pub mod Sessions

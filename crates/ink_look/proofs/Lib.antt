@@ -4,3 +4,4 @@ mod Steps
 mod Searches
 mod LineEnding
 mod Marks
+mod Followed

@@ -2,3 +2,4 @@ pub mod Words
 pub mod Ends
 pub mod LineEnds
 pub mod Looking
+pub mod Ahead

@@ -2,6 +2,7 @@
 //! "Lines").
 #![tactic(auto)]
 
+mod ahead;
 mod lines;
 mod looking;
 mod running;

@@ -1,11 +1,12 @@
 //! Looking past newlines: a mark is set at a newline, flow runs on, and goes back there, unless the newline was hidden or flow
 //! stopped (docs/RUNNING.md, "Lines", "Marks").
 
-ghost use Rattle.std.specs.Prelude.{◌≡◌, suc, length, List, Option, None, Some};
+ghost use Rattle.std.specs.Prelude.{◌≡◌, suc, length, List, Option, None, Some, true};
 ghost use Rattle.ink_check.specs.Words.{story_tree};
 ghost use Rattle.ink_host.specs.Desk.{Grew, bound_by};
 ghost use Rattle.ink_host.specs.Telling.{log_of};
 ghost use Rattle.ink_line.specs.Look.{looked_by};
+ghost use Rattle.ink_look.specs.Ahead.{writes_words};
 ghost use Rattle.ink_look.specs.LineEnds.{RunsToLine};
 ghost use Rattle.ink_look.specs.Looking.{IsMarked, MarksHere, StandsAs, StepsOn, Waits, found_of, newline_from, search_after, waiting_after, waiting_then};
 ghost use Rattle.ink_model.specs.Configuration.{Configuration};
@@ -16,14 +17,16 @@ ghost use Rattle.ink_model.specs.Tree.{StoryTree};
 ghost use Rattle.ink_model.specs.declared.host.Event.{Event as Happening};
 ghost use Rattle.ink_model.specs.declared.host.Given.{Given as Gift};
 ghost use Rattle.ink_step.specs.Marks.{config_back, stood_of, unmarked};
+ghost use Rattle.ink_step.specs.Parts.{config_of_parts};
 ghost use Rattle.ink_step.specs.Refusals.{RunStopsAtRefusal, StepStopsAtRefusal};
 ghost use Rattle.ink_step.specs.Words.{aside_in, config_of, start_of};
 
+use crate::ahead::writes_words;
 use ink_check::Story;
 use ink_host::{Desk, PureFn, TurnFn, Watcher};
 use ink_model::{Fault, MAX_STEPS};
 use ink_out::Output;
-use ink_step::{Machine, StepEnd};
+use ink_step::{Machine, Parts, StepEnd};
 
 /// What a step comes to: no newline waits; or the one at this index in the line does, which may end it, and the machine has a mark
 /// behind the step that wrote it; or the line was cut, or flow stopped.
@@ -123,8 +126,9 @@ fn seek<P: PureFn, F: TurnFn, O: Watcher>(
     }
 }
 
-// A step past a newline, which calls no turn function. The one error is `OutOfMemory`, never where the step would call one, and
-// the machine has gone back to the newline then; any other fault is left to the next line.
+// A step past a newline, which calls no turn function, and is not taken where a text comes that is sure to end the line there. The
+// one error is `OutOfMemory`, never where the step would call one, and the machine has gone back to the newline then; any other
+// fault is left to the next line.
 fn look<P: PureFn, F: TurnFn, O: Watcher>(
     machine: &mut Machine,
     story: &Story,
@@ -141,6 +145,9 @@ fn look<P: PureFn, F: TurnFn, O: Watcher>(
     ensures aside { aside_in machine.new ≡ aside_in machine.old }
     ensures waits { Waits (waiting_then result) machine.new }
 {
+    if is_followed(machine.parts(), story, newline) {
+        return Ok(cut(machine));
+    }
     let marks = machine.parts().output.len();
     match machine.step(story, desk, true) {
         Ok(StepEnd::Went) => Ok(went_on(machine, marks, newline)),
@@ -152,6 +159,15 @@ fn look<P: PureFn, F: TurnFn, O: Watcher>(
         Ok(StepEnd::WantsCall) => Ok(cut(machine)),
         Err(_) => Ok(cut(machine)),
     }
+}
+
+// Whether this newline is open, and the next step writes a text of more than white, behind which it stands.
+#[inline(always)]
+fn is_followed(parts: Parts<'_>, story: &Story, newline: usize) -> bool
+    ensures { let s = story_tree story.now in let c = config_of_parts s parts.entry in
+        result ≡ true → (writes_words s c ≡ true) × (rules.open_newline c.page.line ≡ Some newline) }
+{
+    writes_words(parts, story) && parts.output.open_newline() == Some(newline)
 }
 
 // After a step past a newline, which has marks of this number before it, where flow went on.

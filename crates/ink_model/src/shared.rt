@@ -1,10 +1,11 @@
 //! What several owners share.
 
-ghost use Rattle.std.specs.Prelude.{◌≡◌, IfOk};
+ghost use Rattle.std.specs.Prelude.{◌≡◌, IfErr, IfOk};
 
 use crate::text::Text;
 use std::alloc::{AllocError, Global};
 use std::marker::Model;
+use std::mem;
 use std::rc::Rc;
 
 /// Something that several owners share, so that a copy copies nothing of it. A contract sees the thing itself.
@@ -35,6 +36,18 @@ impl<T: Drop> Shared<T> {
         ensures { result.now ≡ self.now }
     {
         self.value.as_ref()
+    }
+
+    /// Puts another thing in the place of the one that is shared, where there is no other owner, and answers that one. Where there is
+    /// another owner nothing has changed, and the new one comes back. Takes no memory.
+    pub fn replace(&mut self, value: T) -> Result<T, T>
+        ensures ok { IfOk result (λ old. (old ≡ self.old) × (self.new ≡ value)) }
+        ensures err { IfErr result (λ back. (back ≡ value) × (self.new ≡ self.old)) }
+    {
+        match Rc::get_mut(&mut self.value) {
+            Some(place) => Ok(mem::replace(place, value)),
+            None => Err(value),
+        }
     }
 
     /// One more owner. It asks for no memory; the one error is a count of owners that is full.

@@ -80,11 +80,11 @@ one_waits : (before after : List Mark) (o : Option Waiting) → length (waiting_
 one_waits before after None = omega arith
 one_waits before after (Some w) = elim (waits before w after) as (λ b. length (cond b (w.at ∷ []) []) ≤ 1) [ true ↦ omega arith | false ↦ omega arith ]
 
-waits_within : (before after : List Mark) (s : Tracker) (o : Option Waiting) (at : ℕ) → Fits before s o → length before ≤ at → is_among at (waiting_at before o after) ≡ false
-waits_within before after s None at f l = refl
-waits_within before after s (Some w) at f l =
+waits_within : (marks before after : List Mark) (s : Tracker) (o : Option Waiting) (at : ℕ) → Fits before s o → length before ≤ at → is_among at (waiting_at marks o after) ≡ false
+waits_within marks before after s None at f l = refl
+waits_within marks before after s (Some w) at f l =
     let within = f.within in
-    elim (waits before w after) as (λ b. is_among at (cond b (w.at ∷ []) []) ≡ false) [
+    elim (waits marks w after) as (λ b. is_among at (cond b (w.at ∷ []) []) ≡ false) [
       | true ↦ or_from (eqb at w.at) false (ne_eqb at w.at (λ e. omega arith)) refl
       | false ↦ refl
     ]
@@ -107,7 +107,7 @@ newline_waiting before after s s' settled t t' =
     let next = t.newlines (kinds.Newline ∷ after) in
     put_one (newline_shown before after) (length before) (waiting_at before s.newline (kinds.Newline ∷ after)) (waiting_at (kinds.Newline ∷ before) s'.newline after) settled
     (one_waits (kinds.Newline ∷ before) after s'.newline)
-    (waits_within before (kinds.Newline ∷ after) s s.newline (length before) t.fits (omega arith))
+    (waits_within before before (kinds.Newline ∷ after) s s.newline (length before) t.fits (omega arith))
     (ap (λ ks. cond (newline_shown before after) (length before ∷ ks) ks) (sym next) ∙ t'.newlines after)
 
 pub pile_newline : (before after : List Mark) (s s' : Tracker) (settled : List ℕ) (ps : List Held) → Tracks before s settled → Tracks (kinds.Newline ∷ before) s' settled → Falls (length before) ps → pile_text before s.newline ps (kinds.Newline ∷ after) ++ written before kinds.Newline after ≡ pile_text (kinds.Newline ∷ before) s'.newline (Newline (length before) ∷ ps) after
@@ -294,6 +294,35 @@ walk_newline before w next at here tracks k =
     let t' = tracks k.settled k.tracks in
     rw here (walk_held kinds.Newline before w next (Newline (length before)) refl refl record { same = k.knows.same; count = k.knows.count } k.settled t' (λ after. refl)
     (λ after. pile_newline before after w.tracker next k.settled w.held k.tracks t' k.falls) k)
+
+-- the walk past a newline, by the walk that is left but for the tracker
+abbrev pub Past : Bool → List Start → List Mark → Tracker → Walk → Type 0
+Past cleans starts before next w = ((settled : List ℕ) → Tracks before w.tracker settled → Tracks (kinds.Newline ∷ before) next settled) → Walks cleans starts (kinds.Newline ∷ before) record { tracker = next; passed = w.passed; glue = w.glue; held = w.held; shown = w.shown }
+
+-- one behind a newline that waits, which is not shown
+pub walk_behind : {cleans : Bool} {starts : List Start} → (before : List Mark) (w : Walk) (next : Tracker) → next.newline ≡ w.tracker.newline → ((settled : List ℕ) → Tracks before w.tracker settled → Tracks (kinds.Newline ∷ before) next settled) → Walks cleans starts before w → Walks cleans starts (kinds.Newline ∷ before) record { tracker = next; passed = w.passed; glue = w.glue; held = w.held; shown = w.shown }
+walk_behind before w next same tracks k =
+    let t' = tracks k.settled k.tracks in
+    let over : (after : List Mark) → (is_among (length before) (waiting_at (kinds.Newline ∷ before) next.newline after) ≡ newline_shown before after) × ((at : ℕ) → at < length before → is_among at (waiting_at before w.tracker.newline (kinds.Newline ∷ after)) ≡ is_among at (waiting_at (kinds.Newline ∷ before) next.newline after)) =
+    λ after. newline_waiting before after w.tracker next k.settled k.tracks t' in
+    let hidden : (after : List Mark) → newline_shown before after ≡ false =
+    λ after. sym (over after).0
+    ∙ ap (λ o. is_among (length before) (waiting_at (kinds.Newline ∷ before) o after)) same
+    ∙ waits_within (kinds.Newline ∷ before) before after w.tracker w.tracker.newline (length before) k.tracks.fits (omega arith) in
+    record {
+      settled = k.settled;
+      written = k.written;
+      holds = k.holds;
+      tracks = t';
+      knows = record { same = k.knows.same; count = k.knows.count };
+      glue = k.glue;
+      falls = falls_less (length before) (suc (length before)) w.held (omega arith) k.falls;
+      text = λ after.
+          ap (λ b. text_before before (kinds.Newline ∷ after) ++ cond b (10 ∷ []) []) (hidden after)
+          ∙ append-nil (text_before before (kinds.Newline ∷ after))
+          ∙ k.text (kinds.Newline ∷ after)
+          ∙ ap (λ cs. k.written ++ cs) (pile_over kinds.Newline before after w.tracker.newline next.newline w.held (smooth_newline before) (over after).1 k.falls);
+    }
 
 pub walk_leave : {cleans : Bool} {starts : List Start} → (n : Option ℕ) (before : List Mark) (w : Walk) (next : Tracker) (reach : Option ℕ) → reach ≡ reach_of n before → ((settled : List ℕ) → Tracks before w.tracker settled → Tracks (kinds.Leave n ∷ before) next settled) → Walks cleans starts before w → Walks cleans starts (kinds.Leave n ∷ before) record { tracker = next; passed = w.passed; glue = w.glue; held = left_pile reach w.held; shown = w.shown }
 walk_leave n before w next reach e tracks k =

@@ -11,24 +11,19 @@ use crate::cutting::has_words;
 use ink_model::Text;
 use std::alloc::{AllocError, Global};
 
-/// A text, cleaned. The one error is a refused request for memory.
-pub(crate) fn cleaned(alloc: Global, text: &str) -> Result<Text, AllocError>
+/// A text, cleaned, in this room where it is enough. The one error is a refused request for memory.
+pub(crate) fn cleaned(alloc: Global, room: String, text: &str) -> Result<Text, AllocError>
+    requires { string_bytes room ≡ [] }
     ensures { IfOk result (λ cleaned. cleaned ≡ clean text.now) }
 {
-    let mut shown = Shown::new(room_for(alloc, text.len())?, true);
+    let room = room_in(alloc, room, text.len().min(MOST_ROOM))?;
+    let mut shown = Shown::new(room, true);
     shown.push_str(text)?;
     Ok(shown.into_text())
 }
 
 /// A text of so many bytes at the most asks for memory once. A longer one grows by doubling, since cleaning may leave little of it.
 pub(crate) const MOST_ROOM: usize = 4_096;
-
-/// Room for a text of so many bytes at the most. The one error is a refused request for memory.
-fn room_for(alloc: Global, most: usize) -> Result<String, AllocError>
-    ensures { IfOk result (λ room. string_bytes room ≡ []) }
-{
-    String::with_capacity(alloc, most.min(MOST_ROOM))
-}
 
 /// This room, where it is enough for so many bytes, and else one of just that size. The one error is a refused request for memory.
 #[inline(always)]

@@ -4,6 +4,7 @@ ghost use Rattle.std.specs.Prelude.{◌≡◌, IfOk};
 ghost use Rattle.ink_model.specs.Value.{truth_text};
 ghost use Rattle.ink_out.specs.Kept.{said};
 
+use crate::lent::Lent;
 use crate::part::Part;
 use ink_model::{Shared, Text};
 use itoa::Buffer;
@@ -78,15 +79,20 @@ impl Words {
 
     /// What it says, to be shared: a text is not copied. The one error is a refused request for memory, or a count of owners that
     /// is full.
-    pub(crate) fn to_shared(&self, alloc: Global) -> Result<Shared<Text>, AllocError>
+    pub(crate) fn to_shared(
+        &self,
+        alloc: Global,
+        lent: &mut Lent,
+    ) -> Result<Shared<Text>, AllocError>
         ensures { IfOk result (λ text. text ≡ said self.now) }
     {
         if let Words::Text(text) = self {
             return text.share();
         }
         let mut digits = Buffer::new();
-        let text = Text::from_str(alloc, self.as_str(&mut digits))?;
-        Shared::new(alloc, text)
+        let mut text = lent.take_room(alloc);
+        text.push_str(self.as_str(&mut digits))?;
+        lent.share(alloc, Text::from_string(text))
     }
 }
 

@@ -6,6 +6,7 @@ mod cutting;
 mod enters;
 mod joining;
 mod kept;
+mod lent;
 mod opened;
 mod output;
 mod part;

@@ -16,6 +16,7 @@ ghost use Rattle.ink_trail.specs.Undo.{TrailsOrKeeps, but_last, spare, trail_of}
 
 use crate::cutting::Pieces;
 use crate::kept::Kept;
+use crate::lent::Lent;
 use crate::section::Section;
 use crate::state::State;
 use crate::undo::OutputPair;
@@ -116,17 +117,21 @@ impl Opened {
     }
 
     /// The shown text, cleaned. The one error is a refused request for memory, or a count of owners that is full.
-    pub(crate) fn text(&self, alloc: Global) -> Result<Shared<Text>, AllocError>
+    pub(crate) fn text(&self, alloc: Global, lent: &mut Lent) -> Result<Shared<Text>, AllocError>
         ensures { IfOk result (λ text. text ≡ clean (shown_text self.now.marks)) }
     {
-        self.marks.shared_text(alloc)
+        self.marks.shared_text(alloc, lent)
     }
 
     /// The shown text as it is, not cleaned. The one error is a refused request for memory, or a count of owners that is full.
-    pub(crate) fn raw_text(&self, alloc: Global) -> Result<Shared<Text>, AllocError>
+    pub(crate) fn raw_text(
+        &self,
+        alloc: Global,
+        lent: &mut Lent,
+    ) -> Result<Shared<Text>, AllocError>
         ensures { IfOk result (λ text. text ≡ shown_text self.now.marks) }
     {
-        self.marks.raw_text(alloc)
+        self.marks.raw_text(alloc, lent)
     }
 }
 

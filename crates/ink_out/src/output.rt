@@ -21,11 +21,12 @@ ghost use Rattle.ink_out.specs.Opened.{section_kind};
 ghost use Rattle.ink_out.specs.Undo.{GoesBack, output_back, output_spare, output_stood};
 ghost use Rattle.ink_out.specs.Writing.{Notes, closed, marks_of, page_of, prints_nothing};
 ghost use Rattle.ink_trail.specs.Parts.{PutsBack};
-ghost use Rattle.ink_trail.specs.Undo.{Trails, TrailsOrKeeps, trail_of};
+ghost use Rattle.ink_trail.specs.Undo.{Trails, TrailsOrKeeps, trail_of, writes_of};
 
 use crate::cleaning::cleaned;
 use crate::cutting::{Piece, Pieces, cut_text, is_cut};
 use crate::kept::{Form, Kept, Words};
+use crate::lent::Lent;
 use crate::opened::{Kind, Opened, note, note_all, note_below, note_in, open_state};
 use crate::rooms::Rooms;
 use crate::section::Section;
@@ -51,6 +52,8 @@ pub struct Output {
     holds_closed: bool,
     /// What was handed out and came back, to be handed out again without a request for memory.
     rooms: Rooms,
+    /// What strings and tags were joined into, to be used again in the same way.
+    lent: Lent,
     alloc: Global,
 }
 
@@ -65,6 +68,7 @@ impl Drop for Output {
             trail: _,
             holds_closed: _,
             rooms: _,
+            lent: _,
             alloc: _,
         } = self;
     }
@@ -99,6 +103,7 @@ impl Output {
             trail: Trail::new(alloc),
             holds_closed: false,
             rooms: Rooms::new(alloc),
+            lent: Lent::new(alloc),
             alloc,
         }
     }
@@ -304,7 +309,7 @@ impl Output {
         if !opened.is_string() {
             return Err(Fault::BadMode);
         }
-        let raw_text = opened.raw_text(self.alloc)?;
+        let raw_text = opened.raw_text(self.alloc, &mut self.lent)?;
         let text = kept(raw_text)?;
         self.close()?;
         Ok(text)
@@ -325,7 +330,7 @@ impl Output {
         if opened.is_string() {
             return Err(Fault::BadMode);
         }
-        let text = opened.text(self.alloc)?;
+        let text = opened.text(self.alloc, &mut self.lent)?;
         let text = kept(text)?;
         self.end_tag(text)
     }
@@ -354,7 +359,7 @@ impl Output {
         ensures stood { output_stood self.new ≡ output_stood self.old }
         ensures spare { output_spare self.old ≤ output_spare self.new + 1 }
     {
-        let text = within(self.alloc, cleaned(self.alloc, text)?)?;
+        let text = whole_tag(self.alloc, &mut self.lent, text)?;
         if self.in_string() {
             return Ok(Some(text));
         }
@@ -656,7 +661,9 @@ impl Output {
     // Puts the last pair back, whatever it is.
     #[inline(never)]
     fn undo_other(&mut self) -> bool
-        ensures { PutsBack output_back result self.old.page self.old.trail self.new.page self.new.trail }
+        ensures cells { PutsBack output_back result self.old.page self.old.trail self.new.page self.new.trail }
+        ensures marked { is_some self.new.trail.undo ≡ is_some self.old.trail.undo }
+        ensures writes { writes_of self.new.trail.undo ≡ writes_of self.old.trail.undo }
     {
         let Some(pair) = self.trail.take_last() else {
             return false;
@@ -672,14 +679,17 @@ impl Output {
     }
 }
 
-/// A text within the limit, to be shared. `TooDeep` for one over 1 MiB, `OutOfMemory` for a refused request for memory.
-fn within(alloc: Global, text: Text) -> Result<Shared<Text>, Fault>
-    ensures { Gives result (kept_text text text) }
+/// The cleaned text of a tag that is given whole, to be shared. `TooDeep` for one over 1 MiB, `OutOfMemory` for a refused request for
+/// memory.
+fn whole_tag(alloc: Global, lent: &mut Lent, text: &str) -> Result<Shared<Text>, Fault>
+    ensures { Gives result (kept_text (clean text.now) (clean text.now)) }
 {
+    let room = lent.take_room(alloc);
+    let text = cleaned(alloc, room, text)?;
     if is_long(text.as_str()) {
         return Err(Fault::TooDeep);
     }
-    Ok(Shared::new(alloc, text)?)
+    Ok(lent.share(alloc, text)?)
 }
 
 /// A text within the limit. `TooDeep` for one over 1 MiB. Takes no memory.

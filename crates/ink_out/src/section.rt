@@ -19,6 +19,7 @@ use crate::cutting::{Pieces, has_words};
 use crate::enters::Enters;
 use crate::joining::{is_newline, joined, texts_of_line};
 use crate::kept::{Form, Kept, Words};
+use crate::lent::Lent;
 use crate::state::{State, is_settled, make_room, settle, unsettle};
 use crate::tags::tag_texts;
 use crate::tracker::Waiting;
@@ -215,27 +216,40 @@ impl Section {
 
     /// The same, to be shared: a text that stands alone, and that cleaning leaves as it is, is not copied. The one error is a
     /// refused request for memory, or a count of owners that is full.
-    pub(crate) fn shared_text(&self, alloc: Global) -> Result<Shared<Text>, AllocError>
+    pub(crate) fn shared_text(
+        &self,
+        alloc: Global,
+        lent: &mut Lent,
+    ) -> Result<Shared<Text>, AllocError>
         ensures { IfOk result (λ text. text ≡ clean (shown_text self.now)) }
     {
         let mut digits = Buffer::new();
         match self.only_text() {
-            Some(words) if is_clean(words.as_str(&mut digits)) => words.to_shared(alloc),
-            _ => Shared::new(alloc, self.text(alloc, String::new(alloc))?),
+            Some(words) if is_clean(words.as_str(&mut digits)) => words.to_shared(alloc, lent),
+            _ => {
+                let room = lent.take_room(alloc);
+                let text = self.text(alloc, room)?;
+                lent.share(alloc, text)
+            }
         }
     }
 
     /// The shown text as it is, not cleaned, to be shared: a text that stands alone is not copied. The one error is a refused
     /// request for memory, or a count of owners that is full.
-    pub(crate) fn raw_text(&self, alloc: Global) -> Result<Shared<Text>, AllocError>
+    pub(crate) fn raw_text(
+        &self,
+        alloc: Global,
+        lent: &mut Lent,
+    ) -> Result<Shared<Text>, AllocError>
         ensures { IfOk result (λ text. text ≡ shown_text self.now) }
     {
         match self.only_text() {
-            Some(words) => words.to_shared(alloc),
+            Some(words) => words.to_shared(alloc, lent),
             None => {
-                let room = String::new(alloc);
+                let room = lent.take_room(alloc);
                 let marks = self.marks.as_slice();
-                Shared::new(alloc, shown_text(alloc, room, marks, &self.enters, false)?)
+                let text = shown_text(alloc, room, marks, &self.enters, false)?;
+                lent.share(alloc, text)
             }
         }
     }

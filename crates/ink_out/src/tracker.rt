@@ -1,6 +1,6 @@
 //! What decides which newlines are shown, kept up to date by each mark (docs/TEXT.md, "What is shown").
 
-ghost use Rattle.std.specs.Prelude.{◌≡◌, ℕ, List, [], ◌∷◌, ◌||◌, Option, is_some, length};
+ghost use Rattle.std.specs.Prelude.{◌≡◌, ℕ, List, [], ◌∷◌, ◌||◌, Option, is_some, length, true};
 ghost use Rattle.ink_model.specs.declared.mark.Mark.{Mark};
 ghost use Rattle.ink_model.specs.declared.mark.Mark.TheVariants as mark;
 ghost use Rattle.ink_out.specs.Next.{blank_left, hides_next, newline_left};
@@ -119,7 +119,8 @@ impl Tracker {
     /// Goes past a newline at an index.
     #[inline(always)]
     pub(crate) fn newline(&mut self, at: usize)
-        ensures { (before : List Mark) (settled : List ℕ) → at ≡ length before → Tracks before self.old settled → Tracks (mark.Newline ∷ before) self.new settled }
+        ensures waits { is_some self.old.newline ≡ true → self.new.newline ≡ self.old.newline }
+        ensures tracks { (before : List Mark) (settled : List ℕ) → at ≡ length before → Tracks before self.old settled → Tracks (mark.Newline ∷ before) self.new settled }
     {
         if self.newline.is_some() {
             return;

@@ -167,10 +167,13 @@ impl<'m> Walk<'m> {
         Ok(())
     }
 
+    // A newline. Behind one that waits it is never shown.
     fn newline(&mut self, at: usize) -> Result<(), AllocError>
         ensures { OnOk result ((cleans : Bool) (starts : List Start) (before : List Mark) → at ≡ length before → Walks cleans starts before self.old → Walks cleans starts (kinds.Newline ∷ before) self.new) }
     {
-        self.held.push(Held::Newline { at })?;
+        if self.tracker.newline.is_none() {
+            self.held.push(Held::Newline { at })?;
+        }
         self.tracker.newline(at);
         Ok(())
     }

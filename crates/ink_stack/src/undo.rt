@@ -1,13 +1,13 @@
 //! How changes of frames and threads are put back.
 
-ghost use Rattle.std.specs.Prelude.{◌≡◌, ◌≤◌, ◌<◌, ◌+◌, length, refl, reverse, true, vec_capacity};
+ghost use Rattle.std.specs.Prelude.{◌≡◌, ◌≤◌, ◌<◌, ◌+◌, is_some, length, refl, reverse, true, vec_capacity};
 ghost use Rattle.ink_model.specs.Frames.{ThreadsOf};
 ghost use Rattle.ink_model.specs.Threads.{frame_count, stale, stale_run, staled};
 ghost use Rattle.ink_stack.specs.Cells.{with_frame};
 ghost use Rattle.ink_stack.specs.Running.{threads_in};
 ghost use Rattle.ink_stack.specs.Undo.{HasGone, HasMode, Held, More, StaysHeld, rooms_of, threads_back, threads_spare, threads_stood};
 ghost use Rattle.ink_trail.specs.Parts.{PutsBack};
-ghost use Rattle.ink_trail.specs.Undo.{Trails, spare, trail_of};
+ghost use Rattle.ink_trail.specs.Undo.{Trails, spare, trail_of, writes_of};
 
 use crate::frame::Frame;
 use crate::running::Running;
@@ -199,7 +199,9 @@ impl<P: Copy> Threads<P> {
     // Puts the last pair back, whatever it is.
     #[inline(never)]
     fn undo_other(&mut self) -> bool
-        ensures { PutsBack threads_back result self.old.threads self.old.trail self.new.threads self.new.trail }
+        ensures cells { PutsBack threads_back result self.old.threads self.old.trail self.new.threads self.new.trail }
+        ensures marked { is_some self.new.trail.undo ≡ is_some self.old.trail.undo }
+        ensures writes { writes_of self.new.trail.undo ≡ writes_of self.old.trail.undo }
     {
         let Some(pair) = self.trail.take_last() else {
             return false;

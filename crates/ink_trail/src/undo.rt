@@ -37,10 +37,12 @@ pub trait Undo {
     fn trail(&self) -> &Trail<Self::Pair>
         ensures { result.now ≡ trail self.now };
 
-    /// Puts the last pair back, and takes it out of the trail. False where there is none, and nothing has changed then. Takes no
-    /// memory.
+    /// Puts the last pair back, and takes it out of the trail; the mark stands on, and `writes` says what it said. False where there
+    /// is none, and nothing has changed then. Takes no memory.
     fn undo_last(&mut self) -> bool
         ensures cells { PutsBack before result (cells self.old) (trail self.old) (cells self.new) (trail self.new) }
+        ensures marked { is_some (trail self.new).undo ≡ is_some (trail self.old).undo }
+        ensures writes { writes_of (trail self.new).undo ≡ writes_of (trail self.old).undo }
         ensures aside { aside self.new ≡ aside self.old };
 
     /// Starts a mark with an empty trail, and forgets an older one. Takes no memory.

@@ -1,17 +1,47 @@
-use Rattle.std.proofs.Common.{◌≡◌, ◌∙◌, ap, length, refl, rules, sym, Ok, Err}
+use Rattle.std.proofs.Common.{◌≡◌, ◌∙◌, ap, length, refl, rules, sym, true, [], Some, Ok, Err}
 use Rattle.ink_check.specs.Words.{story_tree}
+use Rattle.ink_host.proofs.Laws.{grew-none}
 use Rattle.ink_host.specs.Desk.{bound_by}
+use Rattle.ink_host.specs.Telling.{log_of}
+use Rattle.ink_look.specs.Ahead.{writes_words}
 use Rattle.ink_look.specs.Looking.{search_after}
+use Rattle.ink_look.proofs.Followed.{words_end}
 use Rattle.ink_look.proofs.Marks.{back_stays, stays_marked}
 use Rattle.ink_look.proofs.Steps.{cut_at, cuts_call, cuts_fault, goes, quiet_so, stops}
 use Rattle.ink_look.proofs.looking.look.Goals as goal
 use Rattle.ink_model.specs.Asks.{asks}
+use Rattle.ink_model.specs.Run.{At}
+use Rattle.ink_model.specs.Shown.{open_newline}
 use Rattle.ink_model.specs.Step.{step}
 use Rattle.ink_model.specs.declared.fault.Fault.TheVariants.{OutOfMemory}
-use Rattle.ink_step.proofs.Refusals.{kept_unless}
+use Rattle.ink_step.proofs.Refusals.{keeps_all, kept_unless}
 use Rattle.ink_step.specs.Marks.{config_back, presses}
+use Rattle.ink_step.specs.Parts.{config_of_parts}
 use Rattle.ink_step.specs.Words.{config_of}
 use Rattle.ink_step.specs.declared.flow.StepEnd.TheVariants as ends
+
+-- a text comes, behind which the newline stands
+pub returns-then-is_followed-clause-steps : goal.returns-then-is_followed-clause-steps
+returns-then-is_followed-clause-steps g c =
+    let s = story_tree c.args.story.now in
+    let b = bound_by g.P.PureFn.meaning c.args.desk.now.functions in
+    let old = config_of s c.args.machine.now in
+    let kept = config_back s c.args.machine.now in
+    let followed = c.is_followed.ensures c.if-is_followed.true in
+    let same : config_of_parts s c.parts.result ≡ old = c.parts.ensures.config s in
+    let words : writes_words s old ≡ true = ap (writes_words s) (sym same) ∙ followed.0 in
+    let opens : open_newline old.page.line ≡ Some c.args.newline = ap (λ d. open_newline d.page.line) (sym same) ∙ followed.1 in (
+      [],
+      grew-none g.F.TurnFn.log (log_of g.O.Watcher.state) c.args.desk.now,
+      (
+        refl,
+        λ left made. words_end s b c.args.newline old (At kept left made) left made words opens
+            ∙ cut_at s b c.args.newline kept old left made c.cut.result c.cut.ensures.cut (config_back s c.cut.new.machine) (config_of s c.cut.new.machine) (c.cut.ensures.config s),
+      ),
+    )
+
+pub returns-then-is_followed-clause-refusals : goal.returns-then-is_followed-clause-refusals
+returns-then-is_followed-clause-refusals g c = keeps_all g.F.TurnFn.refusals c.args.desk.now
 
 pub went_on-requires : goal.went_on-requires
 went_on-requires g c = record { waits = stays_marked c.args.machine.now c.step.new.self c.requires.waits c.in-Ok-Went.ensures.mark }
@@ -31,7 +61,7 @@ returns-in-Ok-Went-clause-steps g c =
         λ left made. goes s b c.args.newline (config_back s c.args.machine.now) old left made new q.1 (config_back s c.step.new.self)
             (back_stays s c.args.machine.now c.step.new.self c.requires.waits c.in-Ok-Went.ensures.mark)
             (search_after c.went_on.result (config_back s c.went_on.new.machine) (config_of s c.went_on.new.machine) left made) (q.2 left made)
-            (c.went_on.ensures.looked s old (sym (c.len-marks.ensures.marks ∙ ap (λ d. length d.page.line) (c.parts.ensures.config s))) left made),
+            (c.went_on.ensures.looked s old (sym (c.len-marks.ensures.marks ∙ ap (λ d. length d.page.line) (c.parts-2.ensures.config s))) left made),
       ),
     )
 
@@ -79,8 +109,8 @@ returns-in-Ok-WantsCall-clause-steps g c =
       h.1,
       (
         q.0,
-        λ left made. q.1 left made ∙ cut_at s b c.args.newline kept old left made c.cut.result c.cut.ensures.cut (config_back s c.cut.new.machine) (config_of s c.cut.new.machine)
-            (c.cut.ensures.config s ∙ back_stays s c.args.machine.now c.step.new.self c.requires.waits c.in-Ok-WantsCall.ensures.mark),
+        λ left made. q.1 left made ∙ cut_at s b c.args.newline kept old left made c.cut-in-Ok-WantsCall.result c.cut-in-Ok-WantsCall.ensures.cut (config_back s c.cut-in-Ok-WantsCall.new.machine) (config_of s c.cut-in-Ok-WantsCall.new.machine)
+            (c.cut-in-Ok-WantsCall.ensures.config s ∙ back_stays s c.args.machine.now c.step.new.self c.requires.waits c.in-Ok-WantsCall.ensures.mark),
       ),
     )
 

@@ -18,7 +18,7 @@ pub returns-in-BlankPart : goal.returns-in-BlankPart
 returns-in-BlankPart c before settled at knows t = rw (← c.mark.view_is, c.in-BlankPart.is) (c.blank-in-BlankPart.ensures before _ settled at t)
 
 pub returns-in-Newline : goal.returns-in-Newline
-returns-in-Newline c before settled at knows t = rw (← c.mark.view_is, c.in-Newline.is) (c.newline.ensures before settled at t)
+returns-in-Newline c before settled at knows t = rw (← c.mark.view_is, c.in-Newline.is) (c.newline.ensures.tracks before settled at t)
 
 pub returns-in-Glue : goal.returns-in-Glue
 returns-in-Glue c before settled at knows t = rw (← c.mark.view_is, c.in-Glue.is) (c.glue.ensures before settled t)
