@@ -1,5 +1,5 @@
 -- A line calls no turn function where a newline is shown.
-use Rattle.std.proofs.Common.{◌≡◌, refl, sym, subst, arith, ℕ, zero, suc, ◌+◌, ◌<◌, ◌≤◌, inl, inr, ◌⊎◌, List, [], Bool, true, false, Option, Some}
+use Rattle.std.proofs.Common.{◌≡◌, refl, subst, arith, ℕ, zero, suc, ◌+◌, ◌<◌, ◌≤◌, inl, inr, List, [], Bool, true, false, Option, Some}
 use Rattle.ink_model.specs.Configuration.{Configuration}
 use Rattle.ink_model.specs.Host.{Bound}
 use Rattle.ink_model.specs.Line.{IsFirm, IsLineOf, calls_in, newline_in, shows}
@@ -9,7 +9,7 @@ use Rattle.ink_model.specs.declared.host.Given.{Given}
 use Rattle.ink_line.specs.Laws.{IsOfLine}
 use Rattle.ink_line.proofs.Firm.{shown_is_firm, steps_to}
 use Rattle.ink_line.proofs.Found.{run_goes_on}
-use Rattle.ink_line.proofs.Looks.{same_or_below}
+use Rattle.ink_line.proofs.Looks.{at_either, same_or_below}
 use Rattle.ink_line.proofs.Moments.{calls_going}
 
 module _ (s : StoryTree) (b : Bound) (limit : ℕ) (m : ℕ → Moment) (runs : (n : ℕ) → m (suc n) ≡ next s b (m n))
@@ -27,13 +27,9 @@ module _ (s : StoryTree) (b : Bound) (limit : ℕ) (m : ℕ → Moment) (runs : 
   firm_from zero k e l quiet = at_call k l (omega (arith, e)) quiet (let same : n ≡ k = omega (arith, e) in subst (λ j. calls_in s b (m j) ≡ true) same calls)
   firm_from (suc d) k e l quiet = by (calls_in s b (m k)) refl (firm_from d (suc k) (omega (arith, e)) (omega (arith, l)))
     where
-      one_more : calls_in s b (m k) ≡ false → (j : ℕ) → p < j → (j < k) ⊎ (j ≡ k) → calls_in s b (m j) ≡ false
-      one_more t j x (inl r) = quiet j x r
-      one_more t j x (inr same) = subst (λ i. calls_in s b (m i) ≡ false) (sym same) t
-
       by : (t : Bool) → calls_in s b (m k) ≡ t → (QuietTo (suc k) → IsFirm s b limit m p) → IsFirm s b limit m p
       by true t on = at_call k l (omega (arith, e)) quiet t
-      by false t on = on (λ j x y. one_more t j x (same_or_below j k y))
+      by false t on = on (λ j x y. at_either (λ i. calls_in s b (m i) ≡ false) j k (same_or_below j k y) (quiet j x) t)
 
   pub firm_by_call : p < n → IsFirm s b limit m p
   firm_by_call l = let (d, e) = steps_to p n l in firm_from d (suc p) e (omega arith) (λ j x y. absurd (omega (arith, x, y)))

@@ -3,8 +3,8 @@ use Rattle.std.proofs.Common.{◌≡◌, refl, sym, ap, ◌∙◌, subst, ℕ, z
 use Rattle.ink_model.specs.Configuration.{Configuration, begun}
 use Rattle.ink_model.specs.Host.{Bound}
 use Rattle.ink_model.specs.Line.{Line, calls_in, goes_past, is_call, newline_in, page_at, shows}
-use Rattle.ink_model.specs.Run.{Made, Moment, At, Stopped, Faulted, Waits, came, cut_off, moment, moment_after, next}
-use Rattle.ink_model.specs.Step.{Outcome, Next, Stop, Faults, Stepped, Comes, Wants, step}
+use Rattle.ink_model.specs.Run.{Made, Moment, At, Stopped, Waits, came, cut_off, moment, moment_after, next}
+use Rattle.ink_model.specs.Step.{Outcome, Next, Stepped, Comes, Wants, step}
 use Rattle.ink_model.specs.Tree.{StoryTree}
 use Rattle.ink_model.specs.declared.host.Given.{Given}
 use Rattle.ink_model.specs.declared.limits.TheConstants.{MAX_STEPS}
@@ -32,20 +32,15 @@ module _ (s : StoryTree) (b : Bound) (later : List (Option Given)) where
 
   same_page : (x : Moment) → page_at (more x) ≡ page_at x
   same_page (At c left made) = refl
-  same_page (Stopped c left made) = refl
-  same_page (Faulted f c left made) = refl
-  same_page (Waits name made) = refl
+  same_page x = refl
 
   same_calls : (x : Moment) → calls_in s b (more x) ≡ calls_in s b x
   same_calls (At c left made) = refl
-  same_calls (Stopped c left made) = refl
-  same_calls (Faulted f c left made) = refl
-  same_calls (Waits name made) = refl
+  same_calls x = refl
 
   quiet_after : (c : Configuration) (o : Outcome) (left : List (Option Given)) (made : List Made) → IsAnswered (moment_after c o left made)
   quiet_after c (Next d) left made = tt
-  quiet_after c (Stop d) left made = tt
-  quiet_after c (Faults f) left made = tt
+  quiet_after c o left made = tt
 
   quiet_came : (c : Configuration) (o : Stepped) (left : List (Option Given)) (made : List Made) → is_call o ≡ false → IsAnswered (came s c o left made)
   quiet_came c (Comes o) left made e = quiet_after c o left made
@@ -53,9 +48,7 @@ module _ (s : StoryTree) (b : Bound) (later : List (Option Given)) where
 
   quiet_same : (x : Moment) → calls_in s b x ≡ false → next s b (more x) ≡ more (next s b x)
   quiet_same (At c left made) e = next_same s b [] later (At c left made) (quiet_came c (step s b c) left made e)
-  quiet_same (Stopped c left made) e = refl
-  quiet_same (Faulted f c left made) e = refl
-  quiet_same (Waits name made) e = refl
+  quiet_same x e = refl
 
   -- ---- one step of the search
 
@@ -65,21 +58,15 @@ module _ (s : StoryTree) (b : Bound) (later : List (Option Given)) where
 
   sought_same : (x y : Moment) → sought (more x) (more y) ≡ onward (sought x y)
   sought_same x (At c left made) = rw (same_page x) (kept_same (At c left made) (newline_in x (At c left made)))
-  sought_same x (Stopped c left made) = refl
-  sought_same x (Faulted f c left made) = refl
-  sought_same x (Waits name made) = refl
+  sought_same x y = refl
 
   sought_enough : (x y : Moment) → Enough (sought x y) → IsAnswered y
-  sought_enough x (At c left made) h = tt
-  sought_enough x (Stopped c left made) h = tt
-  sought_enough x (Faulted f c left made) h = tt
   sought_enough x (Waits name made) h = h
+  sought_enough x y h = tt
 
   open_same : (kept : Moment) (i : ℕ) (y : Moment) → stays_open (more kept) i (more y) ≡ onward (stays_open kept i y)
   open_same kept i (At c left made) = refl
-  open_same kept i (Stopped c left made) = refl
-  open_same kept i (Faulted f c left made) = refl
-  open_same kept i (Waits name made) = refl
+  open_same kept i y = refl
 
   looked_by_same : (t u : Bool) (kept : Moment) (i : ℕ) (x y : Moment) → looked_by t u (more kept) i (more x) (more y) ≡ onward (looked_by t u kept i x y)
   looked_by_same false u kept i x y = sought_same x y
@@ -89,8 +76,7 @@ module _ (s : StoryTree) (b : Bound) (later : List (Option Given)) where
   looked_same : (kept : Moment) (i : ℕ) (x y : Moment) → looked (more kept) i (more x) (more y) ≡ onward (looked kept i x y)
   looked_same kept i x (At c left made) = looked_by_same (shows (At c left made) i) (goes_past (At c left made) i) kept i x (At c left made)
   looked_same kept i x (Stopped c left made) = looked_by_same (shows (Stopped c left made) i) (goes_past (Stopped c left made) i) kept i x (Stopped c left made)
-  looked_same kept i x (Faulted f c left made) = refl
-  looked_same kept i x (Waits name made) = refl
+  looked_same kept i x y = refl
 
   looked_on_same : (t : Bool) (kept : Moment) (i : ℕ) (x : Moment) → calls_in s b x ≡ t
       → looked_on t (more kept) i (more x) (next s b (more x)) ≡ onward (looked_on t kept i x (next s b x))
@@ -117,10 +103,8 @@ module _ (s : StoryTree) (b : Bound) (later : List (Option Given)) where
   -- ---- what it comes to
 
   cut_enough : (now : Moment) → IsAnswered (cut_off now) → IsAnswered now
-  cut_enough (At c left made) h = tt
-  cut_enough (Stopped c left made) h = tt
-  cut_enough (Faulted f c left made) h = tt
   cut_enough (Waits name made) h = h
+  cut_enough now h = tt
 
   found_enough : (x : Search) → IsAnswered (found x) → Enough x
   found_enough (Seeking now) h = cut_enough now h
@@ -129,9 +113,7 @@ module _ (s : StoryTree) (b : Bound) (later : List (Option Given)) where
 
   cut_same : (x : Moment) → cut_off (more x) ≡ more (cut_off x)
   cut_same (At c left made) = refl
-  cut_same (Stopped c left made) = refl
-  cut_same (Faulted f c left made) = refl
-  cut_same (Waits name made) = refl
+  cut_same x = refl
 
   found_same : (x : Search) → found (onward x) ≡ more (found x)
   found_same (Seeking now) = cut_same now

@@ -1,14 +1,12 @@
 -- A newline that is shown up to a step that makes it firm is firm.
-use Rattle.std.proofs.Common.{◌≡◌, refl, sym, subst, arith, ℕ, zero, suc, ◌+◌, ◌-◌, ◌<◌, ◌≤◌, inl, inr, ◌⊎◌, Bool, true, false, Some}
+use Rattle.std.proofs.Common.{◌≡◌, refl, subst, arith, ℕ, zero, suc, ◌+◌, ◌-◌, ◌<◌, ◌≤◌, inr, Bool, true, false, Some}
 use Rattle.ink_model.specs.Host.{Bound}
 use Rattle.ink_model.specs.Line.{IsFirm, MakesFirm, calls_in, goes_on, goes_past, newline_in, open_in, page_at, shows}
 use Rattle.ink_model.specs.Run.{Moment, next}
 use Rattle.ink_model.specs.Tree.{StoryTree}
+use Rattle.ink_line.proofs.Looks.{at_either, last_or_within}
 use Rattle.ink_line.proofs.Moments.{newline_is, went_on}
 use Rattle.ink_line.proofs.Opens.{is_open}
-
-pub last_of : (j k : ℕ) → j ≤ suc k → (j ≤ k) ⊎ (j ≡ suc k)
-last_of j k r = grind (arith, r)
 
 pub steps_to : (p n : ℕ) → p < n → (d : ℕ) × (d + suc p ≡ n)
 steps_to p n l = (n - suc p, omega (arith, l))
@@ -43,13 +41,9 @@ module _ (s : StoryTree) (b : Bound) (limit : ℕ) (m : ℕ → Moment) (runs : 
       here : shows (m (suc k)) newline ≡ true
       here = shown (suc k) (omega (arith, l)) (omega (arith, e))
 
-      one_more : goes_past (m (suc k)) newline ≡ false → (j : ℕ) → p < j → (j ≤ k) ⊎ (j ≡ suc k) → open_in (m j) ≡ Some newline
-      one_more t j x (inl r) = opens j x r
-      one_more t j x (inr same) = subst (λ i. open_in (m i) ≡ Some newline) (sym same) (is_open (page_at (m (suc k))).line newline here t)
-
       by : (t : Bool) → goes_past (m (suc k)) newline ≡ t → (OpenTo (suc k) → IsFirm s b limit m p) → IsFirm s b limit m p
       by true t on = firm_at k l (omega (arith, e)) opens (inr (inr (inr (here, t))))
-      by false t on = on (λ j x y. one_more t j x (last_of j k y))
+      by false t on = on (λ j x y. at_either (λ i. open_in (m i) ≡ Some newline) j (suc k) (last_or_within j k y) (opens j x) (is_open (page_at (m (suc k))).line newline here t))
 
   pub shown_is_firm : IsFirm s b limit m p
   shown_is_firm = let (d, e) = steps_to p until later in

@@ -4,7 +4,7 @@ use Rattle.ink_model.specs.Configuration.{Configuration, begun, settled}
 use Rattle.ink_model.specs.Host.{Bound}
 use Rattle.ink_model.specs.Line.{EndsLine, Line, line_end}
 use Rattle.ink_model.specs.Run.{Made, Moment, At, Stopped, Faulted, Waits, RunEnd, Kept, Broke, answered, answers_of, came, cut_off, moment, moment_after, next, run}
-use Rattle.ink_model.specs.Step.{Outcome, Next, Stop, Faults, Stepped, Comes, Wants, step}
+use Rattle.ink_model.specs.Step.{Outcome, Next, Stepped, Comes, Wants, step}
 use Rattle.ink_model.specs.Store.{Values}
 use Rattle.ink_model.specs.Tree.{StoryTree}
 use Rattle.ink_model.specs.declared.fault.Fault.{Fault}
@@ -22,8 +22,7 @@ module _ (s : StoryTree) (b : Bound) (before : List Made) (later : List (Option 
   after_same : (c : Configuration) (o : Outcome) (left : List (Option Given)) (made : List Made)
       → moment_after c o (left ++ later) (before ++ made) ≡ extended before later (moment_after c o left made)
   after_same c (Next d) left made = refl
-  after_same c (Stop d) left made = refl
-  after_same c (Faults f) left made = refl
+  after_same c o left made = refl
 
   came_same : (c : Configuration) (o : Stepped) (left : List (Option Given)) (made : List Made) → IsAnswered (came s c o left made)
       → came s c o (left ++ later) (before ++ made) ≡ extended before later (came s c o left made)
@@ -35,15 +34,11 @@ module _ (s : StoryTree) (b : Bound) (before : List Made) (later : List (Option 
 
   pub next_same : (x : Moment) → IsAnswered (next s b x) → next s b (extended before later x) ≡ extended before later (next s b x)
   next_same (At c left made) h = came_same c (step s b c) left made h
-  next_same (Stopped c left made) h = refl
-  next_same (Faulted f c left made) h = refl
-  next_same (Waits name made) h = refl
+  next_same x h = refl
 
   pub was_answered : (x : Moment) → IsAnswered (next s b x) → IsAnswered x
-  was_answered (At c left made) h = tt
-  was_answered (Stopped c left made) h = tt
-  was_answered (Faulted f c left made) h = tt
   was_answered (Waits name made) h = h
+  was_answered x h = tt
 
   -- change nothing of a run that needs none of them
   run_same : (n : ℕ) (x : Moment) → IsAnswered (run s b n x) → run s b n (extended before later x) ≡ extended before later (run s b n x)
@@ -78,24 +73,17 @@ never_kept f globals d r made e = let ends : Some (Broke f globals) ≡ Some (Ke
 
 kept_is : (m : Moment) (d : Configuration) (made : List Made) → line_end m ≡ kept_end d made → IsKept d made m
 kept_is (At c [] r) d made e = let (x, y) = same_kept c d r made e in ap (λ k. At k [] r) x ∙ ap (At d []) y
-kept_is (At c (a ∷ left) r) d made e = absurd cc
 kept_is (Stopped c [] r) d made e = let (x, y) = same_kept c d r made e in ap (λ k. Stopped k [] r) x ∙ ap (Stopped d []) y
-kept_is (Stopped c (a ∷ left) r) d made e = absurd cc
 kept_is (Faulted f c [] r) d made e = absurd (never_kept f c.shared.globals d r made e)
-kept_is (Faulted f c (a ∷ left) r) d made e = absurd cc
-kept_is (Waits name r) d made e = absurd cc
+kept_is m d made e = absurd cc
 
 no_cut_at : (x : Moment) (d : Configuration) (left : List (Option Given)) (made : List Made) → cut_off x ≡ At d left made → ⊥
 no_cut_at (At c l r) d left made e = cc
-no_cut_at (Stopped c l r) d left made e = cc
-no_cut_at (Faulted f c l r) d left made e = cc
-no_cut_at (Waits name r) d left made e = cc
+no_cut_at x d left made e = cc
 
 cut_stopped : (x : Moment) (d : Configuration) (left : List (Option Given)) (made : List Made) → cut_off x ≡ Stopped d left made → x ≡ Stopped d left made
-cut_stopped (At c l r) d left made e = cc
 cut_stopped (Stopped c l r) d left made e = e
-cut_stopped (Faulted f c l r) d left made e = cc
-cut_stopped (Waits name r) d left made e = cc
+cut_stopped x d left made e = cc
 
 module _ (s : StoryTree) (b : Bound) where
   -- after how many steps of the run, with calls before it and answers left over
@@ -114,8 +102,7 @@ module _ (s : StoryTree) (b : Bound) where
     ap anew (moment_same s b before later MAX_STEPS (begun c) (answers_of made) _
         (cut_stopped (moment s b (begun c) (answers_of made) MAX_STEPS) d [] made (h.ends ∙ is)) tt),
   )
-  stands_at c made d (Faulted f e left r) h is before later = absurd is
-  stands_at c made d (Waits name r) h is before later = absurd is
+  stands_at c made d m h is before later = absurd is
 
   pub line_stands : (c : Configuration) (made : List Made) (d : Configuration) → EndsLine s b c made (Kept d) → (before : List Made) (later : List (Option Given)) → Reaches c made d before later
   line_stands c made d (m, line, ends) before later = stands_at c made d m line (kept_is m d made ends) before later

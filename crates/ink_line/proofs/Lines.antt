@@ -1,20 +1,17 @@
 -- At most one line of a run.
-use Rattle.std.proofs.Common.{◌≡◌, sym, ap, ◌∙◌, arith, ℕ, suc, ◌<◌, inl, inr, ◌⊎◌}
+use Rattle.std.proofs.Common.{◌≡◌, sym, ap, ◌∙◌, ℕ, suc, inl, inr}
 use Rattle.ink_model.specs.Host.{Bound}
 use Rattle.ink_model.specs.Run.{Moment}
 use Rattle.ink_model.specs.Tree.{StoryTree}
 use Rattle.ink_model.specs.Line.{IsLineOf}
-
-three_ways : (p q : ℕ) → (p < q) ⊎ ((q < p) ⊎ (p ≡ q))
-three_ways p q = grind arith
+use Rattle.ink_line.proofs.Looks.{order}
 
 pub one_line : (s : StoryTree) (b : Bound) (limit : ℕ) (m : ℕ → Moment) (x y : Moment) → IsLineOf s b limit m x → IsLineOf s b limit m y → x ≡ y
-one_line s b limit m x y (inl h) (inl k) = by (three_ways h.step k.step)
-  where
-    by : (h.step < k.step) ⊎ ((k.step < h.step) ⊎ (h.step ≡ k.step)) → x ≡ y
-    by (inl below) = absurd (k.first h.step below h.firm)
-    by (inr (inl above)) = absurd (h.first k.step above k.firm)
-    by (inr (inr same)) = sym h.ends ∙ (ap (λ n. m (suc n)) same ∙ k.ends)
+one_line s b limit m x y (inl h) (inl k) = elim (order k.step h.step) [
+  | inl below ↦ absurd (k.first h.step below h.firm)
+  | inr (inl above) ↦ absurd (h.first k.step above k.firm)
+  | inr (inr same) ↦ sym h.ends ∙ (ap (λ n. m (suc n)) (sym same) ∙ k.ends)
+]
 one_line s b limit m x y (inl h) (inr k) = absurd (k.none h.step h.firm)
 one_line s b limit m x y (inr h) (inl k) = absurd (h.none k.step k.firm)
 one_line s b limit m x y (inr h) (inr k) = sym h.ends ∙ k.ends

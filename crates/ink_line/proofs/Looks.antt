@@ -4,24 +4,29 @@ use Rattle.ink_model.specs.Configuration.{Configuration}
 use Rattle.ink_model.specs.Host.{Bound}
 use Rattle.ink_model.specs.Line.{IsFirm, IsLineOf, MakesFirm, NoneBelow, StaysOpen, calls_in, goes_on, goes_past, has_faulted, is_call, newline_in, open_in, page_at, shows}
 use Rattle.ink_model.specs.Run.{Made, Moment, At, Stopped, Faulted, Waits, came, cut_off, moment_after, next}
-use Rattle.ink_model.specs.Step.{Outcome, Next, Stop, Faults, Stepped, Comes, Wants, step}
+use Rattle.ink_model.specs.Step.{Outcome, Next, Stepped, Comes, Wants, step}
 use Rattle.ink_model.specs.Tree.{StoryTree}
 use Rattle.ink_model.specs.declared.host.Given.{Given}
 use Rattle.ink_line.specs.Look.{Knows, Search, Seeking, Looking, Over, found, kept_at, look_on, looked, looked_by, looked_on, search, sought, stays_open}
 use Rattle.ink_line.proofs.Moments.{both, cut_ended, ended_or_faulted, newline_is, no_other, some_same, stays, went_on}
 use Rattle.ink_line.proofs.Opens.{is_open, open_is}
 
-order : (q n : ℕ) → (n < q) ⊎ ((q < n) ⊎ (q ≡ n))
+pub order : (q n : ℕ) → (n < q) ⊎ ((q < n) ⊎ (q ≡ n))
 order q n = grind arith
 
 pub same_or_below : (q n : ℕ) → q < suc n → (q < n) ⊎ (q ≡ n)
 same_or_below q n l = grind (arith, l)
 
-last_or_within : (k n : ℕ) → k ≤ suc n → (k ≤ n) ⊎ (k ≡ suc n)
+pub last_or_within : (k n : ℕ) → k ≤ suc n → (k ≤ n) ⊎ (k ≡ suc n)
 last_or_within k n r = grind (arith, r)
 
 below_or_not : (q n : ℕ) → (q < n) ⊎ (n ≤ q)
 below_or_not q n = grind arith
+
+-- it holds of one number, or that is another of which it holds
+pub at_either : {A : Type 0} (P : ℕ → Type 0) (k n : ℕ) → A ⊎ (k ≡ n) → (A → P k) → P n → P k
+at_either P k n (inl l) f x = f l
+at_either P k n (inr same) f x = subst P (sym same) x
 
 module _ (s : StoryTree) (b : Bound) (limit : ℕ) (m : ℕ → Moment) (runs : (n : ℕ) → m (suc n) ≡ next s b (m n)) where
   -- ---- an open newline that comes to nothing
@@ -75,26 +80,21 @@ module _ (s : StoryTree) (b : Bound) (limit : ℕ) (m : ℕ → Moment) (runs : 
 
   ended : (n : ℕ) → n < limit → NoneBelow s b limit m n → goes_on (m (suc n)) ≡ false → IsLineOf s b limit m (m (suc n))
   ended n room none e = inr (record {
-    none = λ q f. by q f (below_or_not q n);
+    none = λ q f. elim (below_or_not q n) [
+      | inl l ↦ none q l f
+      | inr l ↦ both (went_on s b m runs (suc n) f.until (omega (arith, l, f.opens.later)) f.opens.going) e
+    ];
     ends = ap cut_off (stays s b m runs (suc n) limit (omega (arith, room)) e) ∙ cut_ended (m (suc n)) e;
   })
-    where
-      by : (q : ℕ) → IsFirm s b limit m q → (q < n) ⊎ (n ≤ q) → ⊥
-      by q f (inl l) = none q l f
-      by q f (inr l) = both (went_on s b m runs (suc n) f.until (omega (arith, l, f.opens.later)) f.opens.going) e
 
   -- ---- no newline is open
 
   at_its_newline : (n : ℕ) → NoneBelow s b limit m n → goes_on (m (suc n)) ≡ true → (o : Option ℕ) → newline_in (m n) (m (suc n)) ≡ o
       → Knows s b limit m (suc n) (kept_at (m (suc n)) o)
-  at_its_newline n none g None e = (refl, g, λ q l f. by q f (same_or_below q n l))
+  at_its_newline n none g None e = (refl, g, λ q l f. elim (same_or_below q n l) [ inl r ↦ none q r f | inr same ↦ wrong f.opens.newline (sym e ∙ subst (λ k. newline_in (m k) (m (suc k)) ≡ Some f.opens.newline) same f.opens.has) ])
     where
-      by : (q : ℕ) → IsFirm s b limit m q → (q < n) ⊎ (q ≡ n) → ⊥
-      by q f (inl l) = none q l f
-      by q f (inr same) = wrong (sym e ∙ subst (λ k. newline_in (m k) (m (suc k)) ≡ Some f.opens.newline) same f.opens.has)
-        where
-          wrong : None ≡ Some f.opens.newline → ⊥
-          wrong h = cc
+      wrong : (i : ℕ) → None ≡ Some i → ⊥
+      wrong i h = cc
   at_its_newline n none g (Some i) e = (
     n,
     record {
@@ -117,16 +117,13 @@ module _ (s : StoryTree) (b : Bound) (limit : ℕ) (m : ℕ → Moment) (runs : 
   sought_knows : (n : ℕ) → n < limit → NoneBelow s b limit m n → (y : Moment) → m (suc n) ≡ y → Knows s b limit m (suc n) (sought (m n) y)
   sought_knows n room none (At c left made) e =
       subst (λ y. Knows s b limit m (suc n) (kept_at y (newline_in (m n) y))) e (at_its_newline n none (ap goes_on e) (newline_in (m n) (m (suc n))) refl)
-  sought_knows n room none (Stopped c left made) e = subst (IsLineOf s b limit m) e (ended n room none (ap goes_on e))
-  sought_knows n room none (Faulted f c left made) e = subst (IsLineOf s b limit m) e (ended n room none (ap goes_on e))
-  sought_knows n room none (Waits name made) e = subst (IsLineOf s b limit m) e (ended n room none (ap goes_on e))
+  sought_knows n room none y e = subst (IsLineOf s b limit m) e (ended n room none (ap goes_on e))
 
   -- ---- a newline is open
 
   no_wait_after : (c : Configuration) (o : Outcome) (left : List (Option Given)) (made : List Made) (name : List ℕ) (r : List Made) → moment_after c o left made ≡ Waits name r → ⊥
   no_wait_after c (Next d) left made name r h = cc
-  no_wait_after c (Stop d) left made name r h = cc
-  no_wait_after c (Faults f) left made name r h = cc
+  no_wait_after c o left made name r h = cc
 
   no_wait : (c : Configuration) (left : List (Option Given)) (made : List Made) (o : Stepped) (name : List ℕ) (r : List Made) → is_call o ≡ false → came s c o left made ≡ Waits name r → ⊥
   no_wait c left made (Comes o) name r e h = no_wait_after c o left made name r h
@@ -134,21 +131,11 @@ module _ (s : StoryTree) (b : Bound) (limit : ℕ) (m : ℕ → Moment) (runs : 
 
   never_waits : (x : Moment) (name : List ℕ) (r : List Made) → goes_on x ≡ true → calls_in s b x ≡ false → next s b x ≡ Waits name r → ⊥
   never_waits (At c left made) name r g e h = no_wait c left made (step s b c) name r e h
-  never_waits (Stopped c left made) name r g e h = true≢false (sym g)
-  never_waits (Faulted f c left made) name r g e h = true≢false (sym g)
-  never_waits (Waits n made) name r g e h = true≢false (sym g)
+  never_waits x name r g e h = true≢false (sym g)
 
   module _ (p n : ℕ) (kept : Moment) (h : StaysOpen s b m p n) (first : NoneBelow s b limit m p) (is : m (suc p) ≡ kept) (room : n < limit) where
     back : MakesFirm s b limit m n h.newline → IsLineOf s b limit m kept
     back makes = inl (record { step = p; firm = record { until = n; within = omega (arith, room); opens = h; makes = makes }; first = first; ends = is })
-
-    below : (P : ℕ → Type 0) (k : ℕ) → (k < n) ⊎ (k ≡ n) → (k < n → P k) → P n → P k
-    below P k (inl l) f x = f l
-    below P k (inr same) f x = subst P (sym same) x
-
-    up_to : (P : ℕ → Type 0) (k : ℕ) → (k ≤ n) ⊎ (k ≡ suc n) → (k ≤ n → P k) → P (suc n) → P k
-    up_to P k (inl l) f x = f l
-    up_to P k (inr same) f x = subst P (sym same) x
 
     -- it is shown still, and nothing is behind it
     stays_knows : calls_in s b (m n) ≡ false → (y : Moment) → m (suc n) ≡ y → has_faulted y ≡ false → shows y h.newline ≡ true → goes_past y h.newline ≡ false
@@ -159,9 +146,9 @@ module _ (s : StoryTree) (b : Bound) (limit : ℕ) (m : ℕ → Moment) (runs : 
         newline = h.newline;
         has = h.has;
         later = omega (arith, h.later);
-        stays = λ k l r. up_to (λ j. open_in (m j) ≡ Some h.newline) k (last_or_within k n r) (h.stays k l)
+        stays = λ k l r. at_either (λ j. open_in (m j) ≡ Some h.newline) k (suc n) (last_or_within k n r) (h.stays k l)
             (ap open_in e ∙ is_open c.page.line h.newline shown past);
-        quiet = λ k l r. below (λ j. calls_in s b (m j) ≡ false) k (same_or_below k n r) (h.quiet k l) quiet;
+        quiet = λ k l r. at_either (λ j. calls_in s b (m j) ≡ false) k n (same_or_below k n r) (h.quiet k l) quiet;
         going = ap goes_on e;
       },
       refl,

@@ -1,10 +1,11 @@
 -- Moments of a run: what has ended stays so, and what a step's newline is.
-use Rattle.std.proofs.Common.{◌≡◌, refl, sym, ap, ◌∙◌, subst, arith, ℕ, zero, suc, ◌+◌, ◌-◌, ◌≤◌, nat_le, length, Bool, true, false, true≢false, if◌then◌else◌, Option, Some, None}
+use Rattle.std.proofs.Common.{◌≡◌, refl, sym, ap, ◌∙◌, subst, arith, ℕ, zero, suc, ◌+◌, ◌-◌, ◌≤◌, nat_le, length, Bool, true, false, true≢false, Option, Some, None}
+use Rattle.std.proofs.lemmas.Bool.{cond_both, true_from_ne_false}
 use Rattle.std.proofs.lemmas.Bool.Decides.{nat_tests}
 use Rattle.ink_model.specs.Host.{Bound}
 use Rattle.ink_model.specs.Line.{at_least, calls_in, goes_on, has_faulted, newline_in, open_in, page_at}
 use Rattle.ink_model.specs.Output.{is_line}
-use Rattle.ink_model.specs.Run.{Moment, At, Stopped, Faulted, Waits, cut_off, next}
+use Rattle.ink_model.specs.Run.{Moment, At, cut_off, next}
 use Rattle.ink_model.specs.Tree.{StoryTree}
 use Rattle.ink_line.proofs.Opens.{open_is, shown_below}
 
@@ -18,19 +19,13 @@ some_same i k e = cc
 
 least_is : (n : ℕ) (o : Option ℕ) (i : ℕ) → at_least n o ≡ Some i → (o ≡ Some i) × (n ≤ i)
 least_is n None i e = cc
-least_is n (Some k) i e = by (nat_le n k) refl e
-  where
-    by : (b : Bool) → nat_le n k ≡ b → (if b then Some k else None) ≡ Some i → (Some k ≡ Some i) × (n ≤ i)
-    by true t h = (h, subst (λ j. n ≤ j) (some_same k i h) (grind (arith, nat_tests, t)))
-    by false t h = cc
+least_is n (Some k) i e = cond_both (nat_le n k) (Some k) None (λ o. o ≡ Some i → (Some k ≡ Some i) × (n ≤ i))
+    (λ t h. (h, subst (λ j. n ≤ j) (some_same k i h) (grind (arith, nat_tests, t)))) (λ t h. cc) e
 
 -- it is the open one, and none of the marks before
 pub newline_is : (old new : Moment) (i : ℕ) → newline_in old new ≡ Some i → (open_in new ≡ Some i) × (length (page_at old).line ≤ i)
-newline_is old new i e = by (is_line (page_at new).sections) e
-  where
-    by : (b : Bool) → (if b then at_least (length (page_at old).line) (open_in new) else None) ≡ Some i → (open_in new ≡ Some i) × (length (page_at old).line ≤ i)
-    by true h = least_is (length (page_at old).line) (open_in new) i h
-    by false h = cc
+newline_is old new i e = cond_both (is_line (page_at new).sections) (at_least (length (page_at old).line) (open_in new)) None
+    (λ o. o ≡ Some i → (open_in new ≡ Some i) × (length (page_at old).line ≤ i)) (λ _ h. least_is (length (page_at old).line) (open_in new) i h) (λ _ h. cc) e
 
 -- while a newline stays open over a step, that step has none
 pub no_other : (old new : Moment) (i k : ℕ) → open_in old ≡ Some i → open_in new ≡ Some i → newline_in old new ≡ Some k → ⊥
@@ -43,28 +38,20 @@ no_other old new i k before after e =
 
 pub ended_or_faulted : (x : Moment) → goes_on x ≡ true → has_faulted x ≡ true → ⊥
 ended_or_faulted (At c left made) g f = true≢false (sym f)
-ended_or_faulted (Stopped c left made) g f = true≢false (sym g)
-ended_or_faulted (Faulted e c left made) g f = true≢false (sym g)
-ended_or_faulted (Waits name made) g f = true≢false (sym g)
+ended_or_faulted x g f = true≢false (sym g)
 
 pub cut_ended : (x : Moment) → goes_on x ≡ false → cut_off x ≡ x
 cut_ended (At c left made) e = absurd (true≢false e)
-cut_ended (Stopped c left made) e = refl
-cut_ended (Faulted f c left made) e = refl
-cut_ended (Waits name made) e = refl
+cut_ended x e = refl
 
 module _ (s : StoryTree) (b : Bound) where
   pub calls_going : (x : Moment) → calls_in s b x ≡ true → goes_on x ≡ true
   calls_going (At c left made) e = refl
-  calls_going (Stopped c left made) e = absurd (true≢false (sym e))
-  calls_going (Faulted f c left made) e = absurd (true≢false (sym e))
-  calls_going (Waits name made) e = absurd (true≢false (sym e))
+  calls_going x e = absurd (true≢false (sym e))
 
   next_stays : (x : Moment) → goes_on x ≡ false → next s b x ≡ x
   next_stays (At c left made) e = absurd (true≢false e)
-  next_stays (Stopped c left made) e = refl
-  next_stays (Faulted f c left made) e = refl
-  next_stays (Waits name made) e = refl
+  next_stays x e = refl
 
   module _ (m : ℕ → Moment) (runs : (n : ℕ) → m (suc n) ≡ next s b (m n)) where
     stays_by : (n d : ℕ) → goes_on (m n) ≡ false → m (d + n) ≡ m n
@@ -80,8 +67,4 @@ module _ (s : StoryTree) (b : Bound) where
 
     -- and one that goes on went on before
     pub went_on : (k n : ℕ) → k ≤ n → goes_on (m n) ≡ true → goes_on (m k) ≡ true
-    went_on k n le g = by (goes_on (m k)) refl
-      where
-        by : (a : Bool) → goes_on (m k) ≡ a → goes_on (m k) ≡ true
-        by true e = e
-        by false e = absurd (both g (ap goes_on (stays k n le e) ∙ e))
+    went_on k n le g = true_from_ne_false (goes_on (m k)) (λ e. both g (ap goes_on (stays k n le e) ∙ e))

@@ -5,7 +5,7 @@ use Rattle.std.proofs.lemmas.List.{reverse-append, reverse-reverse, length-rever
 use Rattle.std.proofs.Math.Bool.{or-false}
 use Rattle.ink_model.specs.Shown.{clear, some, ends, newline_shown, newlines_before, is_among, is_shown, open_before, open_newline, has_more, more_from}
 use Rattle.ink_model.specs.declared.mark.Mark.{Mark}
-use Rattle.ink_model.specs.declared.mark.Mark.TheVariants.{Text, Blank, Newline, Glue, Tag, Enter, Leave}
+use Rattle.ink_model.specs.declared.mark.Mark.TheVariants.{Text, Newline, Tag}
 
 -- ---- what stands behind an index
 
@@ -13,11 +13,7 @@ pub has_more-append : (ms ns : List Mark) → has_more (ms ++ ns) ≡ (has_more 
 has_more-append [] ns = refl
 has_more-append (Text t ∷ ms) ns = refl
 has_more-append (Tag t ∷ ms) ns = refl
-has_more-append (Blank t ∷ ms) ns = has_more-append ms ns
-has_more-append (Newline ∷ ms) ns = has_more-append ms ns
-has_more-append (Glue ∷ ms) ns = has_more-append ms ns
-has_more-append (Enter n ∷ ms) ns = has_more-append ms ns
-has_more-append (Leave n ∷ ms) ns = has_more-append ms ns
+has_more-append (m ∷ ms) ns = has_more-append ms ns
 
 -- a Text or Tag stands behind it, among marks that are listed from the last on
 abbrev behind : List Mark → ℕ → Bool
@@ -51,12 +47,7 @@ newlines_within : (before after : List Mark) (i : ℕ) → is_among i (newlines_
 newlines_within [] after i e = absurd (false≢true e)
 newlines_within (Newline ∷ before) after i e =
     shown_within (newline_shown before after) (length before) i (newlines_before before (Newline ∷ after)) (newlines_within before (Newline ∷ after) i) e
-newlines_within (Text t ∷ before) after i e = omega (arith, newlines_within before (Text t ∷ after) i e)
-newlines_within (Blank t ∷ before) after i e = omega (arith, newlines_within before (Blank t ∷ after) i e)
-newlines_within (Glue ∷ before) after i e = omega (arith, newlines_within before (Glue ∷ after) i e)
-newlines_within (Tag t ∷ before) after i e = omega (arith, newlines_within before (Tag t ∷ after) i e)
-newlines_within (Enter n ∷ before) after i e = omega (arith, newlines_within before (Enter n ∷ after) i e)
-newlines_within (Leave n ∷ before) after i e = omega (arith, newlines_within before (Leave n ∷ after) i e)
+newlines_within (m ∷ before) after i e = omega (arith, newlines_within before (m ∷ after) i e)
 
 pub shown_below : (ms : List Mark) (i : ℕ) → is_shown ms i ≡ true → i < length ms
 shown_below ms i shown = omega (arith, newlines_within (reverse ms) [] i shown, length-reverse ms)
@@ -99,10 +90,7 @@ opens_there (Newline ∷ before) after i e h =
           let found = there (rw s at e) in
           (or_right shows ended found.0, rw s found.1)
     ]
-opens_there (Blank t ∷ before) after i e h = opens_there before (Blank t ∷ after) i e (plain_behind (Blank t) before after i refl e h)
-opens_there (Glue ∷ before) after i e h = opens_there before (Glue ∷ after) i e (plain_behind Glue before after i refl e h)
-opens_there (Enter n ∷ before) after i e h = opens_there before (Enter n ∷ after) i e (plain_behind (Enter n) before after i refl e h)
-opens_there (Leave n ∷ before) after i e h = opens_there before (Leave n ∷ after) i e (plain_behind (Leave n) before after i refl e h)
+opens_there (m ∷ before) after i e h = opens_there before (m ∷ after) i e (plain_behind m before after i refl e h)
 
 same_behind : (ms : List Mark) (i : ℕ) → behind (reverse ms) i ≡ more_from ms (suc i)
 same_behind ms i = ap (λ ns. has_more (drop (suc i) ns)) (reverse-reverse ms)
@@ -130,10 +118,7 @@ open_there (Newline ∷ before) after i e = elim (cases_Bool (newline_shown befo
       let found = open_there before (Newline ∷ after) i (rw s at e) in
       (rw s found.0, over Newline before i refl (newlines_within before (Newline ∷ after) i found.0) ∙ found.1)
 ]
-open_there (Blank t ∷ before) after i e = onward (Blank t) before after i refl (open_there before (Blank t ∷ after) i e)
-open_there (Glue ∷ before) after i e = onward Glue before after i refl (open_there before (Glue ∷ after) i e)
-open_there (Enter n ∷ before) after i e = onward (Enter n) before after i refl (open_there before (Enter n ∷ after) i e)
-open_there (Leave n ∷ before) after i e = onward (Leave n) before after i refl (open_there before (Leave n ∷ after) i e)
+open_there (m ∷ before) after i e = onward m before after i refl (open_there before (m ∷ after) i e)
 
 pub open_is : (ms : List Mark) (i : ℕ) → open_newline ms ≡ Some i → (is_shown ms i ≡ true) × (more_from ms (suc i) ≡ false)
 open_is ms i e = let found = open_there (reverse ms) [] i e in (found.0, sym (same_behind ms i) ∙ found.1)

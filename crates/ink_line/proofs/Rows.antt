@@ -1,6 +1,6 @@
 -- A row of `continue` commands is one run, and the calls among its events are that run's.
 use Rattle.std.proofs.Common.{◌≡◌, refl, sym, ap, ◌∙◌, subst, ℕ, zero, suc, List, [], ◌∷◌, ◌++◌, append-nil, inl, inr, Bool, true, false, MatchBool}
-use Rattle.ink_model.specs.Answer.{Reply, Tells, Refuses}
+use Rattle.ink_model.specs.Answer.{Tells, Refuses}
 use Rattle.ink_model.specs.Changed.{Keeps}
 use Rattle.ink_model.specs.Configuration.{Configuration, begun, can_go_on, settled}
 use Rattle.ink_model.specs.Events.{after, calls, later}
@@ -46,13 +46,6 @@ pub record Told (s : StoryTree) (h : Bindings) (c : Configuration) (es : List Ev
   pub called_so : called es ≡ made
   pub ready : new.condition ≡ Ready (settled kept)
 
-abbrev is_line : Reply → Bool
-is_line (Tells line) = true
-is_line reply = false
-
-no_line : (line : Passage) (reply : Reply) → Tells line ≡ reply → is_line reply ≡ false → ⊥
-no_line line reply h e = let same : true ≡ false = ap is_line h ∙ e in absurd cc
-
 module _ (s : StoryTree) (h : Bindings) (c : Configuration) (es : List Event) (line : Passage) (old new : State) where
   kept_told : (made : List Made) (d : Configuration) → EndsLine s h.functions c made (Kept d)
       → TellsDone (told h.watches c.shared.globals d.shared.globals) (Ready (settled d)) (telling d) (calls old.stamp made) es old (Tells line) new → Told s h c es new
@@ -69,24 +62,21 @@ module _ (s : StoryTree) (h : Bindings) (c : Configuration) (es : List Event) (l
             ∙ (ap (λ l. made ++ l) (none_called (later old.stamp (calls old.stamp made)) (told h.watches c.shared.globals d.shared.globals) x.telling.answers) ∙ append-nil made)));
         ready = ap (λ (st : State). st.condition) leaves;
       }
-      by false replies leaves = absurd (no_line line _ replies refl)
+      by false replies leaves = absurd (cc replies)
 
   ends_told : (made : List Made) (end : RunEnd) → EndsLine s h.functions c made end → EndsAs h c.shared.globals end made es old (Tells line) new → Told s h c es new
   ends_told made (Kept d) ends (inl x) = kept_told made d ends x
-  ends_told made (Kept d) ends (inr x) = absurd (no_line line _ x.1.1 refl)
-  ends_told made (Broke f globals) ends x = absurd (no_line line _ x.1 refl)
+  ends_told made (Kept d) ends (inr x) = absurd (cc x.1.1)
+  ends_told made (Broke f globals) ends x = absurd (cc x.1)
 
   runs_told : (made : List Made) → RunsLine s h c made es old (Tells line) new → Told s h c es new
   runs_told made (inl x) = ends_told made x.0 x.1 x.2
-  runs_told made (inr x) = absurd (no_line line _ x.2.1 refl)
+  runs_told made (inr x) = absurd (cc x.2.1)
 
   continue_told : (k : Condition) → k ≡ Ready c → ContinueFrom s h es k old (Tells line) new → Told s h c es new
   continue_told (Broken f globals) is x = absurd cc
-  continue_told (Ready d) is x = by (can_go_on c) (subst (λ k. ContinueFrom s h es k old (Tells line) new) is x)
-    where
-      by : (b : Bool) → MatchBool b ((made : List Made) × RunsLine s h c made es old (Tells line) new) ((es ≡ []) × Keeps (Refuses refusal.CannotContinue) old (Tells line) new) → Told s h c es new
-      by true x = runs_told x.0 x.1
-      by false x = absurd (no_line line _ x.1.0 refl)
+  continue_told (Ready d) is x = (elim (can_go_on c) as (λ b. MatchBool b ((made : List Made) × RunsLine s h c made es old (Tells line) new) ((es ≡ []) × Keeps (Refuses refusal.CannotContinue) old (Tells line) new) → Told s h c es new)
+      [ true ↦ λ y. runs_told y.0 y.1 | false ↦ λ y. absurd (cc y.1.0) ]) (subst (λ k. ContinueFrom s h es k old (Tells line) new) is x)
 
 -- ---- rows
 

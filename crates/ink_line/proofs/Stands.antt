@@ -1,7 +1,7 @@
 -- A newline that is shown goes on to be shown where a text is written behind it, whatever stands behind that.
-use Rattle.std.proofs.Common.{◌≡◌, ◌∙◌, refl, sym, ap, subst, inl, inr, ℕ, suc, eqb, List, [], ◌∷◌, ◌++◌, length, drop, reverse, Bool, true, false, not, ◌||◌, ◌&&◌, cond, if◌then◌else◌, append-nil, append_assoc}
+use Rattle.std.proofs.Common.{◌≡◌, ◌∙◌, refl, sym, ap, subst, inl, inr, ℕ, suc, eqb, List, [], ◌∷◌, ◌++◌, length, drop, reverse, Bool, true, false, not, ◌||◌, ◌&&◌, append-nil, append_assoc}
 use Rattle.std.specs.List.{list_any}
-use Rattle.std.proofs.lemmas.Bool.{cases_Bool, or_cases, or_left, or_right, eq-eqb, eqb-true, false≢true}
+use Rattle.std.proofs.lemmas.Bool.{cases_Bool, cond_both, or_cases, or_left, or_right, eq-eqb, eqb-true, false≢true}
 use Rattle.std.proofs.lemmas.List.{length-reverse, reverse-append, reverse-reverse}
 use Rattle.std.proofs.lemmas.List.Folds.{list_any-append}
 use Rattle.std.proofs.lemmas.List.Sorted.{list_any-IsPermutation, IsPermutation-reverse}
@@ -40,12 +40,7 @@ more (m ∷ ms) xs ys h = one_more m (ms ++ xs) (ms ++ ys) (more ms xs ys h)
 behind_text : (ms ns : List Mark) → has_text ms ≡ true → Alike ms (ms ++ ns)
 behind_text [] ns h = absurd (false≢true h)
 behind_text (Text t ∷ ms) ns h = record { glue = refl; gluing = refl; covers = λ between. refl }
-behind_text (Blank t ∷ ms) ns h = one_more (Blank t) ms (ms ++ ns) (behind_text ms ns h)
-behind_text (Newline ∷ ms) ns h = one_more Newline ms (ms ++ ns) (behind_text ms ns h)
-behind_text (Glue ∷ ms) ns h = one_more Glue ms (ms ++ ns) (behind_text ms ns h)
-behind_text (Tag t ∷ ms) ns h = one_more (Tag t) ms (ms ++ ns) (behind_text ms ns h)
-behind_text (Enter n ∷ ms) ns h = one_more (Enter n) ms (ms ++ ns) (behind_text ms ns h)
-behind_text (Leave n ∷ ms) ns h = one_more (Leave n) ms (ms ++ ns) (behind_text ms ns h)
+behind_text (m ∷ ms) ns h = one_more m ms (ms ++ ns) (behind_text ms ns h)
 
 blank_alike : (before xs ys : List Mark) → Alike xs ys → blank_shown before xs ≡ blank_shown before ys
 blank_alike before xs ys h = ap (λ c. not (c || (broken before && glued xs))) (h.covers []) ∙ ap (λ g. not (covered [] ys || (broken before && g))) h.glue
@@ -57,11 +52,7 @@ some_alike : (before xs ys : List Mark) → Alike xs ys → some before xs ≡ s
 some_alike [] xs ys h = refl
 some_alike (Text t ∷ before) xs ys h = refl
 some_alike (Blank t ∷ before) xs ys h = ap (λ b. b || some before (Blank t ∷ xs)) (blank_alike before xs ys h) ∙ ap (λ b. blank_shown before ys || b) (some_alike before (Blank t ∷ xs) (Blank t ∷ ys) (one_more (Blank t) xs ys h))
-some_alike (Newline ∷ before) xs ys h = some_alike before (Newline ∷ xs) (Newline ∷ ys) (one_more Newline xs ys h)
-some_alike (Glue ∷ before) xs ys h = some_alike before (Glue ∷ xs) (Glue ∷ ys) (one_more Glue xs ys h)
-some_alike (Tag t ∷ before) xs ys h = some_alike before (Tag t ∷ xs) (Tag t ∷ ys) (one_more (Tag t) xs ys h)
-some_alike (Enter n ∷ before) xs ys h = some_alike before (Enter n ∷ xs) (Enter n ∷ ys) (one_more (Enter n) xs ys h)
-some_alike (Leave n ∷ before) xs ys h = some_alike before (Leave n ∷ xs) (Leave n ∷ ys) (one_more (Leave n) xs ys h)
+some_alike (m ∷ before) xs ys h = some_alike before (m ∷ xs) (m ∷ ys) (one_more m xs ys h)
 
 ends_alike : (before xs ys : List Mark) → Alike xs ys → ends before xs ≡ ends before ys
 ends_alike [] xs ys h = refl
@@ -71,11 +62,7 @@ ends_alike (Newline ∷ before) xs ys h =
     ap (λ c. (c && some before (Newline ∷ xs)) || ends before (Newline ∷ xs)) (clear_alike before xs ys h)
     ∙ ap (λ b. (clear before ys && b) || ends before (Newline ∷ xs)) (some_alike before (Newline ∷ xs) (Newline ∷ ys) next)
     ∙ ap (λ b. (clear before ys && some before (Newline ∷ ys)) || b) (ends_alike before (Newline ∷ xs) (Newline ∷ ys) next)
-ends_alike (Blank t ∷ before) xs ys h = ends_alike before (Blank t ∷ xs) (Blank t ∷ ys) (one_more (Blank t) xs ys h)
-ends_alike (Glue ∷ before) xs ys h = ends_alike before (Glue ∷ xs) (Glue ∷ ys) (one_more Glue xs ys h)
-ends_alike (Tag t ∷ before) xs ys h = ends_alike before (Tag t ∷ xs) (Tag t ∷ ys) (one_more (Tag t) xs ys h)
-ends_alike (Enter n ∷ before) xs ys h = ends_alike before (Enter n ∷ xs) (Enter n ∷ ys) (one_more (Enter n) xs ys h)
-ends_alike (Leave n ∷ before) xs ys h = ends_alike before (Leave n ∷ xs) (Leave n ∷ ys) (one_more (Leave n) xs ys h)
+ends_alike (m ∷ before) xs ys h = ends_alike before (m ∷ xs) (m ∷ ys) (one_more m xs ys h)
 
 shown_alike : (before xs ys : List Mark) → Alike xs ys → newline_shown before xs ≡ newline_shown before ys
 shown_alike before xs ys h =
@@ -102,41 +89,25 @@ at_same i ms ns e h = record { before = h.before; after = h.after; is = e ∙ h.
 
 found_at : (before after : List Mark) (i : ℕ) → is_among i (newlines_before before after) ≡ true → IsAt i (reverse before ++ after)
 found_at [] after i e = absurd (false≢true e)
-found_at (Newline ∷ before) after i e = by (newline_shown before after) refl (found_at before (Newline ∷ after) i) e
-  where
-    turned : IsAt i (reverse before ++ Newline ∷ after) → IsAt i (reverse (Newline ∷ before) ++ after)
-    turned there = at_same i (reverse (Newline ∷ before) ++ after) (reverse before ++ Newline ∷ after) (turned_onto Newline before after) there
-
-    by : (b : Bool) → newline_shown before after ≡ b → (is_among i (newlines_before before (Newline ∷ after)) ≡ true → IsAt i (reverse before ++ Newline ∷ after))
-        → is_among i (cond b (length before ∷ newlines_before before (Newline ∷ after)) (newlines_before before (Newline ∷ after))) ≡ true → IsAt i (reverse (Newline ∷ before) ++ after)
-    by true s further k = elim (or_cases (eqb i (length before)) (is_among i (newlines_before before (Newline ∷ after))) k) [
-      | inl here ↦ record { before = before; after = after; is = turned_onto Newline before after; at = sym (eqb-true i (length before) here); shown = s }
-      | inr there ↦ turned (further there)
+found_at (Newline ∷ before) after i e =
+    let turned = λ (there : IsAt i (reverse before ++ Newline ∷ after)). at_same i (reverse (Newline ∷ before) ++ after) (reverse before ++ Newline ∷ after) (turned_onto Newline before after) there in
+    elim (cases_Bool (newline_shown before after)) [
+      | inl s ↦ elim (or_cases (eqb i (length before)) (is_among i (newlines_before before (Newline ∷ after))) (rw s at e)) [
+        | inl here ↦ record { before = before; after = after; is = turned_onto Newline before after; at = sym (eqb-true i (length before) here); shown = s }
+        | inr there ↦ turned (found_at before (Newline ∷ after) i there)
+      ]
+      | inr s ↦ turned (found_at before (Newline ∷ after) i (rw s at e))
     ]
-    by false s further k = turned (further k)
-found_at (Text t ∷ before) after i e = at_same i (reverse (Text t ∷ before) ++ after) (reverse before ++ Text t ∷ after) (turned_onto (Text t) before after) (found_at before (Text t ∷ after) i e)
-found_at (Blank t ∷ before) after i e = at_same i (reverse (Blank t ∷ before) ++ after) (reverse before ++ Blank t ∷ after) (turned_onto (Blank t) before after) (found_at before (Blank t ∷ after) i e)
-found_at (Glue ∷ before) after i e = at_same i (reverse (Glue ∷ before) ++ after) (reverse before ++ Glue ∷ after) (turned_onto Glue before after) (found_at before (Glue ∷ after) i e)
-found_at (Tag t ∷ before) after i e = at_same i (reverse (Tag t ∷ before) ++ after) (reverse before ++ Tag t ∷ after) (turned_onto (Tag t) before after) (found_at before (Tag t ∷ after) i e)
-found_at (Enter n ∷ before) after i e = at_same i (reverse (Enter n ∷ before) ++ after) (reverse before ++ Enter n ∷ after) (turned_onto (Enter n) before after) (found_at before (Enter n ∷ after) i e)
-found_at (Leave n ∷ before) after i e = at_same i (reverse (Leave n ∷ before) ++ after) (reverse before ++ Leave n ∷ after) (turned_onto (Leave n) before after) (found_at before (Leave n ∷ after) i e)
+found_at (m ∷ before) after i e = at_same i (reverse (m ∷ before) ++ after) (reverse before ++ m ∷ after) (turned_onto m before after) (found_at before (m ∷ after) i e)
 
 pub is_at : (ms : List Mark) (i : ℕ) → is_shown ms i ≡ true → IsAt i ms
 is_at ms i shown = at_same i ms (reverse (reverse ms) ++ []) (sym (append-nil (reverse (reverse ms)) ∙ reverse-reverse ms)) (found_at (reverse ms) [] i shown)
 
 -- and the other way round
 among : (m : Mark) (before after : List Mark) (i : ℕ) → is_among i (newlines_before before (m ∷ after)) ≡ true → is_among i (newlines_before (m ∷ before) after) ≡ true
-among Newline before after i e = by (newline_shown before after)
-  where
-    by : (b : Bool) → is_among i (cond b (length before ∷ newlines_before before (Newline ∷ after)) (newlines_before before (Newline ∷ after))) ≡ true
-    by true = or_right (eqb i (length before)) (is_among i (newlines_before before (Newline ∷ after))) e
-    by false = e
-among (Text t) before after i e = e
-among (Blank t) before after i e = e
-among Glue before after i e = e
-among (Tag t) before after i e = e
-among (Enter n) before after i e = e
-among (Leave n) before after i e = e
+among Newline before after i e = cond_both (newline_shown before after) _ _ (λ ns. is_among i ns ≡ true)
+    (λ _. or_right (eqb i (length before)) (is_among i (newlines_before before (Newline ∷ after))) e) (λ _. e)
+among m before after i e = e
 
 among_all : (ms before after : List Mark) (i : ℕ) → is_among i (newlines_before before (ms ++ after)) ≡ true → is_among i (newlines_before (reverse ms ++ before) after) ≡ true
 among_all [] before after i e = e
@@ -158,12 +129,7 @@ pub record Stands (i : ℕ) (ms : List Mark) : Type 0 where
 has_text-append : (ms ns : List Mark) → has_text (ms ++ ns) ≡ (has_text ms || has_text ns)
 has_text-append [] ns = refl
 has_text-append (Text t ∷ ms) ns = refl
-has_text-append (Blank t ∷ ms) ns = has_text-append ms ns
-has_text-append (Newline ∷ ms) ns = has_text-append ms ns
-has_text-append (Glue ∷ ms) ns = has_text-append ms ns
-has_text-append (Tag t ∷ ms) ns = has_text-append ms ns
-has_text-append (Enter n ∷ ms) ns = has_text-append ms ns
-has_text-append (Leave n ∷ ms) ns = has_text-append ms ns
+has_text-append (m ∷ ms) ns = has_text-append ms ns
 
 -- more marks behind
 more_behind : (i : ℕ) (ms ns : List Mark) → (place : IsAt i ms) → Alike place.after (place.after ++ ns) → has_text (place.after ++ ns) ≡ true → Stands i (ms ++ ns)
@@ -186,11 +152,7 @@ more_has : (ms : List Mark) → has_text ms ≡ true → has_more ms ≡ true
 more_has [] h = absurd (false≢true h)
 more_has (Text t ∷ ms) h = refl
 more_has (Tag t ∷ ms) h = refl
-more_has (Blank t ∷ ms) h = more_has ms h
-more_has (Newline ∷ ms) h = more_has ms h
-more_has (Glue ∷ ms) h = more_has ms h
-more_has (Enter n ∷ ms) h = more_has ms h
-more_has (Leave n ∷ ms) h = more_has ms h
+more_has (m ∷ ms) h = more_has ms h
 
 drop_past : (front : List Mark) (m : Mark) (back : List Mark) → drop (suc (length front)) (front ++ m ∷ back) ≡ back
 drop_past [] m back = refl
@@ -219,43 +181,14 @@ plain-append [] ns h k = k
 plain-append (Text t ∷ ms) ns h k = plain-append ms ns h k
 plain-append (Blank t ∷ ms) ns h k = plain-append ms ns h k
 plain-append (Newline ∷ ms) ns h k = plain-append ms ns h k
-plain-append (Glue ∷ ms) ns h k = absurd h
-plain-append (Tag t ∷ ms) ns h k = absurd h
-plain-append (Enter n ∷ ms) ns h k = absurd h
-plain-append (Leave n ∷ ms) ns h k = absurd h
+plain-append (m ∷ ms) ns h k = absurd h
 
 plain_alike : (ms : List Mark) → Plain ms → Alike [] ms
-plain_alike ms h = record { glue = sym (glue ms h); gluing = sym (gluing ms h); covers = λ between. sym (covers ms h between) }
-  where
-    glue : (ms : List Mark) → Plain ms → glued ms ≡ false
-    glue [] h = refl
-    glue (Text t ∷ ms) h = refl
-    glue (Blank t ∷ ms) h = glue ms h
-    glue (Newline ∷ ms) h = glue ms h
-    glue (Glue ∷ ms) h = absurd h
-    glue (Tag t ∷ ms) h = absurd h
-    glue (Enter n ∷ ms) h = absurd h
-    glue (Leave n ∷ ms) h = absurd h
-
-    gluing : (ms : List Mark) → Plain ms → glues ms ≡ false
-    gluing [] h = refl
-    gluing (Text t ∷ ms) h = refl
-    gluing (Blank t ∷ ms) h = gluing ms h
-    gluing (Newline ∷ ms) h = gluing ms h
-    gluing (Glue ∷ ms) h = absurd h
-    gluing (Tag t ∷ ms) h = absurd h
-    gluing (Enter n ∷ ms) h = absurd h
-    gluing (Leave n ∷ ms) h = absurd h
-
-    covers : (ms : List Mark) → Plain ms → (between : List Mark) → covered between ms ≡ false
-    covers [] h between = refl
-    covers (Text t ∷ ms) h between = refl
-    covers (Blank t ∷ ms) h between = covers ms h (Blank t ∷ between)
-    covers (Newline ∷ ms) h between = covers ms h (Newline ∷ between)
-    covers (Glue ∷ ms) h between = absurd h
-    covers (Tag t ∷ ms) h between = absurd h
-    covers (Enter n ∷ ms) h between = absurd h
-    covers (Leave n ∷ ms) h between = absurd h
+plain_alike [] h = same []
+plain_alike (Text t ∷ ms) h = record { glue = refl; gluing = refl; covers = λ between. refl }
+plain_alike (Blank t ∷ ms) h = let k = plain_alike ms h in record { glue = k.glue; gluing = k.gluing; covers = λ between. k.covers (Blank t ∷ between) }
+plain_alike (Newline ∷ ms) h = let k = plain_alike ms h in record { glue = k.glue; gluing = k.gluing; covers = λ between. k.covers (Newline ∷ between) }
+plain_alike (m ∷ ms) h = absurd h
 
 -- a byte among these is no white
 abbrev pub has_words : List ℕ → Bool
@@ -287,44 +220,32 @@ written_piece (c ∷ cs) = elim (cases_Bool (list_any (λ x. not (is_blank x)) (
   | inr e ↦ rw e (record { plain = tt; text = λ h. absurd (false≢true (sym e ∙ no_blank (c ∷ cs) h)) })
 ]
 
+-- marks with a newline behind them, and then these
+written_around : (words : Bool) (xs ys : List Mark) → Plain xs → Plain ys → (words ≡ true → (has_text xs || has_text ys) ≡ true) → Written words (xs ++ Newline ∷ ys)
+written_around words xs ys h k text = record { plain = plain-append xs (Newline ∷ ys) h k; text = λ w. has_text-append xs (Newline ∷ ys) ∙ text w }
+
 written_end : (cs : List ℕ) → Written (has_words cs) (cut_end cs)
-written_end cs = by (has_newline (trailing is_white cs))
-  where
-    front : Written (has_words (trimmed is_white cs ++ leading is_blank (trailing is_white cs))) (piece (trimmed is_white cs ++ leading is_blank (trailing is_white cs)))
-    front = written_piece (trimmed is_white cs ++ leading is_blank (trailing is_white cs))
-
-    words : has_words cs ≡ true → has_words (trimmed is_white cs ++ leading is_blank (trailing is_white cs)) ≡ true
-    words h = list_any-append (λ c. not (is_white c)) (trimmed is_white cs) (leading is_blank (trailing is_white cs))
-        ∙ or_left (has_words (trimmed is_white cs)) (has_words (leading is_blank (trailing is_white cs))) (words_trimmed cs ∙ h)
-
-    by : (b : Bool) → Written (has_words cs) (if b then piece (trimmed is_white cs ++ leading is_blank (trailing is_white cs)) ++ Newline ∷ piece (trailing is_blank cs) else piece cs)
-    by true =
-        let xs = piece (trimmed is_white cs ++ leading is_blank (trailing is_white cs)) in
-        let ys = piece (trailing is_blank cs) in
-        record {
-          plain = plain-append xs (Newline ∷ ys) front.plain (written_piece (trailing is_blank cs)).plain;
-          text = λ h. has_text-append xs (Newline ∷ ys) ∙ or_left (has_text xs) (has_text ys) (front.text (words h));
-        }
-    by false = written_piece cs
+written_end cs =
+    let front = trimmed is_white cs ++ leading is_blank (trailing is_white cs) in
+    let xs = written_piece front in
+    let words : has_words cs ≡ true → has_words front ≡ true =
+    λ h. list_any-append (λ c. not (is_white c)) (trimmed is_white cs) (leading is_blank (trailing is_white cs))
+    ∙ or_left (has_words (trimmed is_white cs)) (has_words (leading is_blank (trailing is_white cs))) (words_trimmed cs ∙ h) in
+    cond_both (has_newline (trailing is_white cs)) _ _ (Written (has_words cs))
+    (λ _. written_around (has_words cs) (piece front) (piece (trailing is_blank cs)) xs.plain (written_piece (trailing is_blank cs)).plain (λ h. or_left (has_text (piece front)) (has_text (piece (trailing is_blank cs))) (xs.text (words h))))
+    (λ _. written_piece cs)
 
 written_cut : (cs : List ℕ) → Written (has_words cs) (cut cs)
 unfolding cut
-written_cut cs = by (has_newline (leading is_white cs))
-  where
-    words : has_words cs ≡ true → has_words (trailing is_blank (leading is_white cs) ++ without is_white cs) ≡ true
-    words h = list_any-append (λ c. not (is_white c)) (trailing is_blank (leading is_white cs)) (without is_white cs)
-        ∙ or_right (has_words (trailing is_blank (leading is_white cs))) (has_words (without is_white cs)) (words_without cs ∙ h)
-
-    by : (b : Bool) → Written (has_words cs) (if b then piece (leading is_blank cs) ++ Newline ∷ cut_end (trailing is_blank (leading is_white cs) ++ without is_white cs) else cut_end cs)
-    by true =
-        let xs = piece (leading is_blank cs) in
-        let ys = cut_end (trailing is_blank (leading is_white cs) ++ without is_white cs) in
-        let back = written_end (trailing is_blank (leading is_white cs) ++ without is_white cs) in
-        record {
-          plain = plain-append xs (Newline ∷ ys) (written_piece (leading is_blank cs)).plain back.plain;
-          text = λ h. has_text-append xs (Newline ∷ ys) ∙ or_right (has_text xs) (has_text ys) (back.text (words h));
-        }
-    by false = written_end cs
+written_cut cs =
+    let back = trailing is_blank (leading is_white cs) ++ without is_white cs in
+    let ys = written_end back in
+    let words : has_words cs ≡ true → has_words back ≡ true =
+    λ h. list_any-append (λ c. not (is_white c)) (trailing is_blank (leading is_white cs)) (without is_white cs)
+    ∙ or_right (has_words (trailing is_blank (leading is_white cs))) (has_words (without is_white cs)) (words_without cs ∙ h) in
+    cond_both (has_newline (leading is_white cs)) _ _ (Written (has_words cs))
+    (λ _. written_around (has_words cs) (piece (leading is_blank cs)) (cut_end back) (written_piece (leading is_blank cs)).plain ys.plain (λ h. or_right (has_text (piece (leading is_blank cs))) (has_text (cut_end back)) (ys.text (words h))))
+    (λ _. written_end cs)
 
 let_plain : (fresh : Bool) (ms : List Mark) → Plain ms → Plain (let_through fresh ms)
 let_plain fresh [] h = tt
@@ -332,21 +253,13 @@ let_plain fresh (Text t ∷ ms) h = let_plain false ms h
 let_plain true (Newline ∷ ms) h = let_plain true ms h
 let_plain false (Newline ∷ ms) h = let_plain false ms h
 let_plain fresh (Blank t ∷ ms) h = let_plain fresh ms h
-let_plain fresh (Glue ∷ ms) h = absurd h
-let_plain fresh (Tag t ∷ ms) h = absurd h
-let_plain fresh (Enter n ∷ ms) h = absurd h
-let_plain fresh (Leave n ∷ ms) h = absurd h
+let_plain fresh (m ∷ ms) h = absurd h
 
 let_text : (fresh : Bool) (ms : List Mark) → has_text ms ≡ true → has_text (let_through fresh ms) ≡ true
 let_text fresh [] h = h
 let_text fresh (Text t ∷ ms) h = refl
-let_text true (Newline ∷ ms) h = let_text true ms h
-let_text false (Newline ∷ ms) h = let_text false ms h
-let_text fresh (Blank t ∷ ms) h = let_text fresh ms h
-let_text fresh (Glue ∷ ms) h = let_text fresh ms h
-let_text fresh (Tag t ∷ ms) h = let_text fresh ms h
-let_text fresh (Enter n ∷ ms) h = let_text fresh ms h
-let_text fresh (Leave n ∷ ms) h = let_text fresh ms h
+let_text true (m ∷ ms) h = let_text true ms h
+let_text false (m ∷ ms) h = let_text false ms h
 
 -- behind a shown newline a text with words is written
 pub words_stand : (i : ℕ) (ms : List Mark) (fresh : Bool) (t : List ℕ) → is_shown ms i ≡ true → has_words t ≡ true → Stands i (ms ++ let_through fresh (cut t))

@@ -1,10 +1,11 @@
 -- Flows by name, whatever a flow is: what going to one and taking one away keep.
-use Rattle.std.proofs.Common.{◌≡◌, ◌∙◌, ap, sym, refl, ℕ, suc, List, [], ◌∷◌, ◌++◌, length, Bool, true, false, true≢false, cond, if◌then◌else◌, bytes_eq, Option, Some, None, is_none, is_some, unwrap_or, option_and_then, arith}
-use Rattle.std.proofs.lemmas.Bool.{cond_both}
+use Rattle.std.proofs.Common.{◌≡◌, ◌∙◌, ap, sym, refl, ℕ, suc, List, [], ◌∷◌, ◌++◌, length, Bool, true, false, true≢false, cond, if◌then◌else◌, bytes_eq, Option, Some, None, is_none, is_some, unwrap_or, inl, inr, arith}
+use Rattle.std.proofs.lemmas.Bool.{cases_Bool, cond_both}
 use Rattle.ink_model.specs.Flows.{AsideOf, FlowsOf, all_flows, begins_with_default, current_name, default_flow, dropped, filled, flow_named, goes_to, holes}
 use Rattle.ink_model.specs.Named.{Rows, at, once, put, without}
 use Rattle.ink_sound.specs.Beside.{with_last}
 use Rattle.ink_sound.proofs.Named.{each_of_others, its_name, same_name}
+use Rattle.ink_sound.proofs.Rows.{some_alike}
 
 -- the flow that is always there has its name
 default_is : (n : List ℕ) → bytes_eq n default_flow ≡ true → bytes_eq default_flow n ≡ true
@@ -36,17 +37,8 @@ module _ {F : Type 0} where
 
   pub filled_at : (f : F) (n : List ℕ) (rows : AsideOf F) → is_some (at n (filled f rows)) ≡ is_some (at n rows)
   filled_at f n [] = refl
-  filled_at f n ((m, None) ∷ rows) = by (bytes_eq n m)
-    where
-      by : (b : Bool) → is_some (cond b (Some (Some f)) (at n rows)) ≡ is_some (cond b (Some None) (at n rows))
-      by true = refl
-      by false = refl
-  filled_at f n ((m, Some x) ∷ rows) = by (bytes_eq n m) (filled_at f n rows)
-    where
-      by : (b : Bool) → is_some (at n (filled f rows)) ≡ is_some (at n rows)
-          → is_some (cond b (Some (Some x)) (at n (filled f rows))) ≡ is_some (cond b (Some (Some x)) (at n rows))
-      by true more = refl
-      by false more = more
+  filled_at f n ((m, None) ∷ rows) = some_alike (bytes_eq n m) (Some f) None (at n rows) (at n rows) refl
+  filled_at f n ((m, Some x) ∷ rows) = some_alike (bytes_eq n m) (Some x) (Some x) (at n (filled f rows)) (at n rows) (filled_at f n rows)
 
   pub filled_once : (f : F) (rows : AsideOf F) → once (filled f rows) ≡ once rows
   filled_once f [] = refl
@@ -89,13 +81,10 @@ module _ {F : Type 0} where
       → all_flows (flow_named name fresh left) (put name None left) ≡ with_last name fresh (all_flows g left)
   put_all fresh g name [] h = refl
   put_all fresh g name ((n, None) ∷ rows) h = absurd (omega arith)
-  put_all fresh g name ((n, Some x) ∷ rows) h = by (bytes_eq name n) (put_all fresh g name rows h)
-    where
-      by : (b : Bool) → all_flows (flow_named name fresh rows) (put name None rows) ≡ with_last name fresh (all_flows g rows)
-          → all_flows (unwrap_or (option_and_then (λ o. o) (cond b (Some (Some x)) (at name rows))) fresh) (cond b ((n, None) ∷ rows) ((n, Some x) ∷ put name None rows))
-          ≡ (if is_some (cond b (Some x) (at name (all_flows g rows))) then (n, x) ∷ all_flows g rows else ((n, x) ∷ all_flows g rows) ++ (name, fresh) ∷ [])
-      by true more = ap (λ l. (n, x) ∷ l) (same_all x g rows h)
-      by false more = ap (λ l. (n, x) ∷ l) more ∙ behind (n, x) (name, fresh) (all_flows g rows) (is_some (at name (all_flows g rows)))
+  put_all fresh g name ((n, Some x) ∷ rows) h = elim (cases_Bool (bytes_eq name n)) [
+    | inl e ↦ rw e (ap (λ l. (n, x) ∷ l) (same_all x g rows h))
+    | inr e ↦ rw e (ap (λ l. (n, x) ∷ l) (put_all fresh g name rows h) ∙ behind (n, x) (name, fresh) (all_flows g rows) (is_some (at name (all_flows g rows))))
+  ]
 
   pub going_all : (fresh : F) (name : List ℕ) (fs : FlowsOf F) → holes fs.aside ≡ 1
       → all_flows (goes_to fresh name fs).current (goes_to fresh name fs).aside ≡ with_last name fresh (all_flows fs.current fs.aside)

@@ -1,11 +1,11 @@
 -- What commands do to the flows that stand aside, and that those make no difference to most.
-use Rattle.std.proofs.Common.{◌≡◌, ap, refl, true, true≢false, sym, ℕ, List, [], ◌∷◌, inl, inr, Bool, false, Option, Some, None, is_some, Result, Ok, Err, MatchBool}
+use Rattle.std.proofs.Common.{◌≡◌, ap, refl, true, ℕ, List, [], ◌∷◌, inl, inr, Bool, false, Option, Some, None, is_some, Result, Ok, Err, MatchBool}
 use Rattle.ink_model.specs.Answer.{Reply, Refuses}
 use Rattle.ink_model.specs.Changed.{Keeps}
 use Rattle.ink_model.specs.Choosing.{chosen, jump_place, jumped, open_choice}
 use Rattle.ink_model.specs.Command as command
 use Rattle.ink_model.specs.Command.{Command}
-use Rattle.ink_model.specs.Configuration.{ChoiceOf, Configuration, can_go_on, settled, with_globals}
+use Rattle.ink_model.specs.Configuration.{Configuration, can_go_on, settled, with_globals}
 use Rattle.ink_model.specs.Flows.{Aside, Game, alone}
 use Rattle.ink_model.specs.Host.{Bindings, value_given}
 use Rattle.ink_model.specs.Line.{EndsLine}
@@ -25,7 +25,6 @@ use Rattle.ink_model.specs.declared.fault.Refusal.TheVariants as refusal
 use Rattle.ink_model.specs.declared.host.Change.{Change}
 use Rattle.ink_model.specs.declared.host.Event.{Event}
 use Rattle.ink_model.specs.declared.host.Given.{Given}
-use Rattle.ink_model.specs.declared.place.Part.{Part}
 use Rattle.serde_json.specs.Data.{Data}
 use Rattle.ink_sound.specs.Beside.{keeps_flows, shows_no_flows}
 
@@ -68,19 +67,13 @@ module _ (s : StoryTree) (h : Bindings) (others : Aside) where
 
     chooses : (n : ℕ) (k : Condition) (old new : State) → ChoosesFrom s n k old reply new → Stays old new (ChoosesFrom s n k (beside old) reply (beside new))
     chooses n (Broken f globals) old new x = kept _ old new x
-    chooses n (Ready c) old new x = by (open_choice n c) x
-      where
-        by : (choice : Option (ChoiceOf (List Part))) → ChoosesBy s choice c old reply new → Stays old new (ChoosesBy s choice c (beside old) reply (beside new))
-        by None y = kept _ old new y
-        by (Some choice) y = lands (chosen choice c) old new y
+    chooses n (Ready c) old new x = (elim (open_choice n c) as (λ o. ChoosesBy s o c old reply new → Stays old new (ChoosesBy s o c (beside old) reply (beside new)))
+        [ None ↦ kept _ old new | Some choice ↦ lands (chosen choice c) old new ]) x
 
     jumps : (path : List ℕ) (k : Condition) (old new : State) → JumpsFrom s path k old reply new → Stays old new (JumpsFrom s path k (beside old) reply (beside new))
     jumps path (Broken f globals) old new x = kept _ old new x
-    jumps path (Ready c) old new x = by (jump_place s path) x
-      where
-        by : (q : Option (List Part)) → JumpsBy s q c old reply new → Stays old new (JumpsBy s q c (beside old) reply (beside new))
-        by None y = kept _ old new y
-        by (Some q) y = lands (jumped q c) old new y
+    jumps path (Ready c) old new x = (elim (jump_place s path) as (λ o. JumpsBy s o c old reply new → Stays old new (JumpsBy s o c (beside old) reply (beside new)))
+        [ None ↦ kept _ old new | Some q ↦ lands (jumped q c) old new ]) x
 
     -- ---- setting and asking
 
@@ -115,11 +108,8 @@ module _ (s : StoryTree) (h : Bindings) (others : Aside) where
 
     visits : (path : List ℕ) (k : Condition) (old new : State) → VisitsFrom s path k old reply new → Stays old new (VisitsFrom s path k (beside old) reply (beside new))
     visits path (Broken f globals) old new x = kept _ old new x
-    visits path (Ready c) old new x = by (visits_by s path c) x
-      where
-        by : (z : Option _) → VisitsBy z old reply new → Stays old new (VisitsBy z (beside old) reply (beside new))
-        by None y = kept _ old new y
-        by (Some z) y = kept _ old new y
+    visits path (Ready c) old new x = (elim (visits_by s path c) as (λ z. VisitsBy z old reply new → Stays old new (VisitsBy z (beside old) reply (beside new)))
+        [ None ↦ kept _ old new | Some z ↦ kept _ old new ]) x
 
     -- ---- running
 
@@ -164,15 +154,15 @@ module _ (s : StoryTree) (h : Bindings) (others : Aside) where
 
     begins : (cs : List Change) (g : Game) (old new : State) → BeginsAnew cs g es old reply new → DoesSo (λ st. BeginsAnew cs g es (beside old) reply st) new
     begins cs g old new (inl x) = record { after = new; leads = inl x; condition = refl; stamp = refl }
-    begins cs g old new (inr x) = let y = kept _ old new x.2 in record { after = beside new; leads = inr (x.0, x.1, y.1); condition = refl; stamp = refl }
+    begins cs g old new (inr x) = let y = kept _ old new x.2 in staying _ old new (y.0, inr (x.0, x.1, y.1))
 
     loads : (saved : Option Data) (old new : State) → Load s h es saved old reply new → DoesSo (λ st. Load s h es saved (beside old) reply st) new
     loads None old new x = staying _ old new (refused_with _ old new x)
     loads (Some j) old new (inl x) =
         let y = begins _ x.loaded old new x.tells in
         record { after = y.after; leads = inl (record { loaded = x.loaded; reads = x.reads; tells = y.leads }); condition = y.condition; stamp = y.stamp }
-    loads (Some j) old new (inr (inl x)) = let y = kept _ old new x.2 in record { after = beside new; leads = inr (inl (x.0, x.1, y.1)); condition = refl; stamp = refl }
-    loads (Some j) old new (inr (inr x)) = let y = kept _ old new x.2 in record { after = beside new; leads = inr (inr (x.0, x.1, y.1)); condition = refl; stamp = refl }
+    loads (Some j) old new (inr (inl x)) = let y = kept _ old new x.2 in staying _ old new (y.0, inr (inl (x.0, x.1, y.1)))
+    loads (Some j) old new (inr (inr x)) = let y = kept _ old new x.2 in staying _ old new (y.0, inr (inr (x.0, x.1, y.1)))
 
     fails : (f : Fault) (globals : Values) (old new : State) → FailsToRestart f globals es old reply new → DoesSo (λ st. FailsToRestart f globals es (beside old) reply st) new
     fails OutOfMemory globals old new x = staying _ old new (refused_with _ old new x)
@@ -184,23 +174,25 @@ module _ (s : StoryTree) (h : Bindings) (others : Aside) where
 
     -- ---- commands
 
+    does_stay : (k : Option Command) (old new : State) → Does s h es k old reply new → keeps_flows k ≡ true → shows_no_flows k ≡ true → Stays old new (Does s h es k (beside old) reply (beside new))
+    does_stay None old new x e d = refused_with _ old new x
+    does_stay (Some command.Continue) old new x e d = continues old.condition old new x
+    does_stay (Some command.Through) old new x e d = throughs old.condition old new x
+    does_stay (Some (command.Set name value)) old new x e d = sets name value old.condition old new x
+    does_stay (Some (command.Get name)) old new x e d = let y = gets _ old new x.1 in (y.0, (x.0, y.1))
+    does_stay (Some (command.Visits path)) old new x e d = let y = visits path old.condition old new x.1 in (y.0, (x.0, y.1))
+    does_stay (Some (command.Choose number)) old new x e d = let y = chooses number old.condition old new x.1 in (y.0, (x.0, y.1))
+    does_stay (Some (command.Jump path)) old new x e d = let y = jumps path old.condition old new x.1 in (y.0, (x.0, y.1))
+    does_stay k old new x e d = absurd cc
+
     does_so : (k : Option Command) (old new : State) → Does s h es k old reply new → shows_no_flows k ≡ true → DoesSo (λ st. Does s h es k (beside old) reply st) new
-    does_so None old new x e = staying _ old new (refused_with _ old new x)
-    does_so (Some command.Continue) old new x e = staying _ old new (continues old.condition old new x)
-    does_so (Some command.Through) old new x e = staying _ old new (throughs old.condition old new x)
-    does_so (Some (command.Set name value)) old new x e = staying _ old new (sets name value old.condition old new x)
-    does_so (Some (command.Get name)) old new x e = let y = gets _ old new x.1 in staying _ old new (y.0, (x.0, y.1))
-    does_so (Some (command.Visits path)) old new x e = let y = visits path old.condition old new x.1 in staying _ old new (y.0, (x.0, y.1))
-    does_so (Some (command.Choose number)) old new x e = let y = chooses number old.condition old new x.1 in staying _ old new (y.0, (x.0, y.1))
-    does_so (Some (command.Jump path)) old new x e = let y = jumps path old.condition old new x.1 in staying _ old new (y.0, (x.0, y.1))
-    does_so (Some command.Save) old new x e = absurd (true≢false (sym e))
     does_so (Some (command.Load saved)) old new x e = loads saved old new x
     does_so (Some command.Restart) old new (inl x) e =
         let y = restarts (opening s) old new x in record { after = y.after; leads = inl y.leads; condition = y.condition; stamp = y.stamp }
-    does_so (Some command.Restart) old new (inr x) e =
-        let y = kept _ old new x.2 in record { after = beside new; leads = inr (x.0, x.1, y.1); condition = refl; stamp = refl }
-    does_so (Some (command.Flow name)) old new x e = absurd (true≢false (sym e))
-    does_so (Some (command.Drop name)) old new x e = absurd (true≢false (sym e))
+    does_so (Some command.Restart) old new (inr x) e = let y = kept _ old new x.2 in staying _ old new (y.0, inr (x.0, x.1, y.1))
+    does_so (Some (command.Flow name)) old new x e = absurd cc
+    does_so (Some (command.Drop name)) old new x e = absurd cc
+    does_so k old new x e = staying _ old new (does_stay k old new x refl e)
 
     saves : (k : Condition) (old new : State) → SavesFrom k old reply new → new.aside ≡ old.aside
     saves (Broken f globals) old new x = ap (λ st. st.aside) x.1
@@ -208,19 +200,10 @@ module _ (s : StoryTree) (h : Bindings) (others : Aside) where
     saves (Ready c) old new (inr x) = ap (λ st. st.aside) x.1
 
     does_keep : (k : Option Command) (old new : State) → Does s h es k old reply new → keeps_flows k ≡ true → new.aside ≡ old.aside
-    does_keep None old new x e = ap (λ st. st.aside) x.1.1
-    does_keep (Some command.Continue) old new x e = (continues old.condition old new x).0
-    does_keep (Some command.Through) old new x e = (throughs old.condition old new x).0
-    does_keep (Some (command.Set name value)) old new x e = (sets name value old.condition old new x).0
-    does_keep (Some (command.Get name)) old new x e = (gets _ old new x.1).0
-    does_keep (Some (command.Visits path)) old new x e = (visits path old.condition old new x.1).0
-    does_keep (Some (command.Choose number)) old new x e = (chooses number old.condition old new x.1).0
-    does_keep (Some (command.Jump path)) old new x e = (jumps path old.condition old new x.1).0
     does_keep (Some command.Save) old new x e = saves old.condition old new x.1
-    does_keep (Some (command.Load saved)) old new x e = absurd (true≢false (sym e))
-    does_keep (Some command.Restart) old new x e = absurd (true≢false (sym e))
-    does_keep (Some (command.Flow name)) old new x e = absurd (true≢false (sym e))
-    does_keep (Some (command.Drop name)) old new x e = absurd (true≢false (sym e))
+    does_keep (Some (command.Flow name)) old new x e = absurd cc
+    does_keep (Some (command.Drop name)) old new x e = absurd cc
+    does_keep k old new x e = (does_stay k old new x e refl).0
 
 -- a command that goes to no flow, drops none and does not begin anew
 pub flows_stay_by : (s : StoryTree) (h : Bindings) (es : List Event) (k : Option Command) (old : State) (reply : Reply) (new : State)

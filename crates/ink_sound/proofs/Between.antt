@@ -1,5 +1,6 @@
 -- What a command begins with and leaves: opening, settling, choosing, jumping and setting.
-use Rattle.std.proofs.Common.{◌≡◌, ap, refl, arith, suc, lit≤, List, [], ◌∷◌, map, length, Option, Some, None, option_map, Result, Ok, Err}
+use Rattle.std.proofs.Common.{◌≡◌, ap, refl, arith, lit≤, List, [], ◌∷◌, map, Option, Some, None, Result, Ok, Err}
+use Rattle.std.proofs.lemmas.List.{length-map}
 use Rattle.std.specs.List.{AllByRecursion as Each}
 use Rattle.ink_model.specs.Bases.{BaseFirst}
 use Rattle.ink_model.specs.Choosing.{chosen, jumped}
@@ -9,7 +10,7 @@ use Rattle.ink_model.specs.Host.{nothing_bound}
 use Rattle.ink_model.specs.Opening.{Unopened, declarations, declaring, opened_by, opened_from, opening}
 use Rattle.ink_model.specs.Output.{empty_page}
 use Rattle.ink_model.specs.Place.{landed, start_place}
-use Rattle.ink_model.specs.Run.{Moment, At, Stopped, Faulted, Waits, through}
+use Rattle.ink_model.specs.Run.{Moment, Stopped, through}
 use Rattle.ink_model.specs.Store.{Values}
 use Rattle.ink_model.specs.Tree.{StoryTree}
 use Rattle.ink_model.specs.Visits.{entering_around}
@@ -19,15 +20,13 @@ use Rattle.ink_sound.specs.Kept.{Finds, MomentFits, StoryFits}
 use Rattle.ink_model.specs.Save.Reads.{Rests}
 use Rattle.ink_model.specs.Save.Sound.{ChoiceFits, FlowSound, FlowStands, FrameStands, GlobalsFit, PlaceFits, Sound, ThreadFits, ThreadStands, ThreadsFit}
 use Rattle.ink_sound.proofs.Places.{knot_fits, landed_fits, start_fits}
+use Rattle.ink_sound.proofs.Flows.{base_fit}
 use Rattle.ink_sound.proofs.Steps.{through_fits}
+use Rattle.ink_sound.proofs.Values.{map_finds}
 
 each_map : {X Y : Type 0} (P : X → Type 0) (Q : Y → Type 0) (f : X → Y) → ((x : X) → P x → Q (f x)) → (xs : List X) → Each P xs → Each Q (map f xs)
 each_map P Q f k [] h = tt
 each_map P Q f k (x ∷ xs) h = (k x h.0, each_map P Q f k xs h.1)
-
-as_many : {X Y : Type 0} (f : X → Y) (xs : List X) → length (map f xs) ≡ length xs
-as_many f [] = refl
-as_many f (x ∷ xs) = ap suc (as_many f xs)
 
 module _ (s : StoryTree) where
   -- ---- settling
@@ -41,7 +40,7 @@ module _ (s : StoryTree) where
     frame = h.frame;
     below = each_map (FrameStands s) (FrameStands s) unnumbered_frame (λ f k. k) t.below h.below;
     base = base_kept t.frame.kind t.below h.base;
-    few = omega (arith, as_many (unnumbered_frame {P = List Part}) t.below, h.few);
+    few = omega (arith, length-map t.below (unnumbered_frame {P = List Part}), h.few);
     previous = h.previous;
   }
 
@@ -58,7 +57,7 @@ module _ (s : StoryTree) where
     thread = thread_fits ts.thread h.thread;
     below = each_map (ThreadStands s) (ThreadStands s) unnumbered_thread thread_stands ts.below h.below;
     flow = flow_kept (place_in ts) ts.below h.flow;
-    few = omega (arith, as_many (unnumbered_thread {P = List Part}) ts.below, h.few);
+    few = omega (arith, length-map ts.below (unnumbered_thread {P = List Part}), h.few);
   }
 
   choice_fits : (c : ChoiceOf (List Part)) → ChoiceFits s c → ChoiceFits s (unnumbered_choice c)
@@ -72,7 +71,7 @@ module _ (s : StoryTree) where
       stack = h.flow.stack;
       choices = record {
         each = each_map (ChoiceFits s) (ChoiceFits s) unnumbered_choice choice_fits c.flow.choices h.flow.choices.each;
-        few = omega (arith, as_many (unnumbered_choice {P = List Part}) c.flow.choices, h.flow.choices.few);
+        few = omega (arith, length-map c.flow.choices (unnumbered_choice {P = List Part}), h.flow.choices.few);
       };
     };
     shared = h.shared;
@@ -82,16 +81,7 @@ module _ (s : StoryTree) where
   -- ---- opening
 
   pub fresh_flow_sound : (p : List Part) → PlaceFits s p → FlowSound s (fresh_flow p)
-  fresh_flow_sound p h = record {
-    threads = record {
-      thread = record { frame = record { rise = refl; each = tt; depth = lit≤ tt }; below = tt; base = refl; few = lit≤ tt; previous = tt };
-      below = tt;
-      flow = h;
-      few = lit≤ tt;
-    };
-    stack = record { each = tt; few = lit≤ tt };
-    choices = record { each = tt; few = lit≤ tt };
-  }
+  fresh_flow_sound p h = record { threads = base_fit s (Some p) h; stack = record { each = tt; few = lit≤ tt }; choices = record { each = tt; few = lit≤ tt } }
 
   pub fresh_sound : (p : List Part) → PlaceFits s p → Sound s (fresh_at p)
   unfolding fresh_at
@@ -123,17 +113,11 @@ module _ (s : StoryTree) where
 
   pub opening_fits : StoryFits s → Opens (opening s)
   unfolding opening
-  opening_fits story = by (declaring s) (found (declarations s) (knot_fits s _))
+  opening_fits story = by (declaring s) (map_finds (PlaceFits s) (Sound s) (declarations s) _ (knot_fits s _) (λ p h. fresh_sound (landed s p) (landed_fits s p h)))
     where
-      found : (o : Option (List Part)) → Finds (PlaceFits s) o → Finds (Sound s) (option_map (λ p. fresh_at (landed s p)) o)
-      found None h = tt
-      found (Some p) h = fresh_sound (landed s p) (landed_fits s p h)
-
       ran : (m : Moment) → MomentFits s m → Opens (opened_by s m)
       ran (Stopped c left made) h = (start_sound c.shared.globals h.shared.globals, start_rests c.shared.globals)
-      ran (Faulted f c left made) h = tt
-      ran (At c left made) h = tt
-      ran (Waits name made) h = tt
+      ran m h = tt
 
       by : (o : Option Configuration) → Finds (Sound s) o → Opens (opened_from s o)
       by None h = (start_sound [] (record { once = refl; each = tt }), start_rests [])

@@ -1,5 +1,6 @@
 -- Visits and turns: only of containers with the flag, and at their least or above.
-use Rattle.std.proofs.Common.{◌≡◌, refl, arith, ℕ, ◌+◌, ◌≤◌, lit≤, List, [], ◌∷◌, Bool, true, false, nat_lt, if◌then◌else◌, Option, Some, None, unwrap_or}
+use Rattle.std.proofs.Common.{◌≡◌, arith, ℕ, ◌≤◌, lit≤, List, [], ◌∷◌, Bool, true, nat_lt, Option, Some, None, unwrap_or}
+use Rattle.std.proofs.lemmas.Bool.{cond_both}
 use Rattle.std.proofs.lemmas.Bool.Decides.{nat_tests}
 use Rattle.std.specs.List.{AllByRecursion as Each}
 use Rattle.ink_model.specs.Counts.{CountsOf, one_more, visited, visits_at}
@@ -13,25 +14,17 @@ use Rattle.ink_model.specs.declared.place.Part.{Part}
 use Rattle.ink_sound.specs.Kept.{Finds}
 use Rattle.ink_model.specs.Save.Sound.{CountsFit, RowCounts, RowsCount}
 use Rattle.ink_sound.proofs.Rows.{each_put, place_total, rise_put, row_finds}
+use Rattle.ink_sound.proofs.Values.{each_of}
 
 module _ (s : StoryTree) where
   pub most_of : (flag : ℕ → Bool) (least : ℕ) (rows : List (List Part × ℕ)) → Each (RowCounts s flag least) rows → Each (λ r. r.1 ≤ MAX_COUNT) rows
-  most_of flag least [] h = tt
-  most_of flag least (r ∷ rows) h = (h.0.most, most_of flag least rows h.1)
+  most_of flag least rows h = each_of (RowCounts s flag least) (λ r. r.1 ≤ MAX_COUNT) (λ r k. k.most) rows h
 
   pub one_more_most : (n : ℕ) → n ≤ MAX_COUNT → one_more n ≤ MAX_COUNT
-  one_more_most n h = by (nat_lt n MAX_COUNT) refl
-    where
-      by : (b : Bool) → nat_lt n MAX_COUNT ≡ b → (if b then n + 1 else n) ≤ MAX_COUNT
-      by true e = grind (arith, nat_tests, e)
-      by false e = h
+  one_more_most n h = cond_both (nat_lt n MAX_COUNT) _ _ (λ m. m ≤ MAX_COUNT) (λ e. grind (arith, nat_tests, e)) (λ _. h)
 
   one_more_least : (n : ℕ) → 1 ≤ one_more n
-  one_more_least n = by (nat_lt n MAX_COUNT) refl
-    where
-      by : (b : Bool) → nat_lt n MAX_COUNT ≡ b → 1 ≤ (if b then n + 1 else n)
-      by true e = omega arith
-      by false e = grind (arith, nat_tests, e)
+  one_more_least n = cond_both (nat_lt n MAX_COUNT) _ _ (λ m. 1 ≤ m) (λ _. omega arith) (λ e. grind (arith, nat_tests, e))
 
   unwrap_most : (o : Option ℕ) → Finds (λ n. n ≤ MAX_COUNT) o → unwrap_or o 0 ≤ MAX_COUNT
   unwrap_most None h = lit≤ tt
@@ -48,16 +41,11 @@ module _ (s : StoryTree) where
   }
 
   visited_fits : (p : List Part) (turn : ℕ) (c : CountsOf (List Part)) → turn ≤ MAX_COUNT → CountsFit s c → CountsFit s (visited place_order p (flags_at (at s p)) true turn c)
-  visited_fits p turn c few h = record { visits = seen (counts_visits (flags_at (at s p))) refl; turns = noted (notes_turns (flags_at (at s p))) refl }
-    where
-      seen : (b : Bool) → counts_visits (flags_at (at s p)) ≡ b
-          → RowsCount s counts_visits 1 (if b then with_row place_order p (one_more (visits_at place_order p c)) c.visits else c.visits)
-      seen true e = rows_put counts_visits 1 p (one_more (visits_at place_order p c)) c.visits e (one_more_least (visits_at place_order p c)) (one_more_most (visits_at place_order p c) (visits_most p c h)) h.visits
-      seen false e = h.visits
-
-      noted : (b : Bool) → notes_turns (flags_at (at s p)) ≡ b → RowsCount s notes_turns 0 (if b then with_row place_order p turn c.turns else c.turns)
-      noted true e = rows_put notes_turns 0 p turn c.turns e (omega arith) few h.turns
-      noted false e = h.turns
+  visited_fits p turn c few h = record {
+    visits = cond_both (counts_visits (flags_at (at s p))) _ _ (RowsCount s counts_visits 1)
+        (λ e. rows_put counts_visits 1 p (one_more (visits_at place_order p c)) c.visits e (one_more_least (visits_at place_order p c)) (one_more_most (visits_at place_order p c) (visits_most p c h)) h.visits) (λ _. h.visits);
+    turns = cond_both (notes_turns (flags_at (at s p))) _ _ (RowsCount s notes_turns 0) (λ e. rows_put notes_turns 0 p turn c.turns e (omega arith) few h.turns) (λ _. h.turns);
+  }
 
   pub all_visited_fits : (turn : ℕ) (ps : List (List Part)) (c : CountsOf (List Part)) → turn ≤ MAX_COUNT → CountsFit s c → CountsFit s (all_visited s turn ps c)
   all_visited_fits turn [] c few h = h

@@ -1,23 +1,22 @@
 -- Where flow goes among frames and threads, all places stay places of the story, and no limit is passed.
-use Rattle.std.proofs.Common.{◌≡◌, ◌≢◌, refl, subst, arith, ℕ, ◌+◌, ◌≤◌, lit≤, List, [], ◌∷◌, length, Bool, true, false, nat_eq, nat_lt, if◌then◌else◌, Option, Some, None, option_and_then, Result, Ok, Err}
-use Rattle.std.proofs.lemmas.Bool.{cond_both}
+use Rattle.std.proofs.Common.{◌≡◌, ◌≢◌, refl, subst, arith, ℕ, ◌+◌, ◌≤◌, lit≤, List, [], ◌∷◌, length, nat_eq, nat_lt, Option, Some, None, option_and_then, Result, Ok, Err, inl, inr}
+use Rattle.std.proofs.lemmas.Bool.{cases_Bool, cond_both}
 use Rattle.std.proofs.lemmas.Bool.Decides.{nat_tests}
 use Rattle.std.specs.List.{AllByRecursion as Each}
-use Rattle.ink_model.specs.Flow.{Written, Reached, Reaches, Halts, Breaks, Ending, Continues, Finishes, Collapses, called, depth_of, done, done_by, doubled_in, enter_for, forked, frames_on, halt, leave_for, moved_on, number_for, on_ending, or_breaks, or_end, reach, reach_or_on, returned, thread_of, threads_on, void_for}
-use Rattle.ink_model.specs.Frames.{FrameOf, ThreadOf, ThreadsOf, gone, is_function, place_in, put_in}
+use Rattle.ink_model.specs.Flow.{Written, Reached, Reaches, Breaks, Ending, Continues, Finishes, Collapses, called, depth_of, done, done_by, doubled_in, enter_for, forked, frames_on, halt, leave_for, moved_on, number_for, on_ending, or_breaks, or_end, reach, reach_or_on, returned, thread_of, threads_on, void_for}
+use Rattle.ink_model.specs.Frames.{FrameOf, ThreadOf, ThreadsOf, base_threads, gone, is_function, place_in, put_in}
 use Rattle.ink_model.specs.Output.{is_line}
 use Rattle.ink_model.specs.Place.{next_place}
-use Rattle.ink_model.specs.Threads.{back_to, dropped_to, frame_count, new_frame, popped, pushed, same_kind, thread_count}
+use Rattle.ink_model.specs.Threads.{back_to, dropped_to, frame_count, popped, pushed, same_kind, thread_count}
 use Rattle.ink_model.specs.Tree.{StoryTree}
 use Rattle.ink_model.specs.declared.fault.Fault.{Fault}
-use Rattle.ink_model.specs.declared.fault.Fault.TheVariants.{BadMode, BadPop, TooDeep}
 use Rattle.ink_model.specs.declared.frame.FrameKind.{FrameKind}
-use Rattle.ink_model.specs.declared.frame.FrameKind.TheVariants.{Base, Function, Tunnel}
+use Rattle.ink_model.specs.declared.frame.FrameKind.TheVariants.{Base, Function}
 use Rattle.ink_model.specs.declared.limits.TheConstants.{MAX_FRAMES, MAX_SECTIONS, MAX_THREADS}
 use Rattle.ink_model.specs.declared.place.Part.{Part}
 use Rattle.ink_sound.specs.Kept.{EndingFits, Finds, Gives, ReachedFits, WrittenFits}
 use Rattle.ink_model.specs.Save.Sound.{AnyPlace, FlowStands, PlaceFits, SomePlace, ThreadFits, ThreadStands, ThreadsFit}
-use Rattle.ink_sound.proofs.Pages.{enter_fits, leave_fits, void_fits}
+use Rattle.ink_sound.proofs.Texts.{enter_fits, leave_fits, void_fits}
 use Rattle.ink_sound.proofs.Places.{next_fits}
 
 module _ (s : StoryTree) where
@@ -47,6 +46,15 @@ module _ (s : StoryTree) where
 
   -- ---- flow goes to a place
 
+  -- one base frame
+  pub base_fit : (o : Option (List Part)) → FlowStands s o [] → ThreadsFit s (base_threads o)
+  base_fit o h = record {
+    thread = record { frame = record { rise = refl; each = tt; depth = lit≤ tt }; below = tt; base = refl; few = lit≤ tt; previous = tt };
+    below = tt;
+    flow = h;
+    few = lit≤ tt;
+  }
+
   pub gone_stands : (q : List Part) (t : ThreadOf (List Part)) → PlaceFits s q → ThreadFits s t → AnyPlace s t.frame.place → ThreadStands s (gone (Some q) t)
   gone_stands q t p h o = record { thread = record { frame = h.frame; below = h.below; base = h.base; few = h.few; previous = o }; place = p }
 
@@ -73,25 +81,13 @@ module _ (s : StoryTree) where
 
   pub frames_fit : (f : FrameOf (List Part)) (fs : List (FrameOf (List Part))) (o : Option (List Part)) (w : Written) → ThreadStands s (thread_of f fs o) → WrittenFits s w
       → EndingFits s (frames_on (next_place s) f fs o w)
-  frames_fit f [] o w h g = end_fits (option_and_then (next_place s) f.place) (thread_of f [] o) w _ (after_fits f.place) h g (by (is_function f.kind))
-    where
-      by : (b : Bool) → EndingFits s (if b then Collapses BadPop else Finishes (thread_of f [] o) w)
-      by true = tt
-      by false = (h, g)
+  frames_fit f [] o w h g = end_fits (option_and_then (next_place s) f.place) (thread_of f [] o) w _ (after_fits f.place) h g
+      (cond_both (is_function f.kind) _ _ (EndingFits s) (λ _. tt) (λ _. (h, g)))
   frames_fit f (k ∷ ks) o w h g =
       end_fits (option_and_then (next_place s) f.place) (thread_of f (k ∷ ks) o) w _ (after_fits f.place) h g
-      (by (is_function f.kind) (nat_eq f.depth (depth_of w)) (λ u v. frames_fit k ks o u (below_stands f k ks o h) v))
-    where
-      back : Ending (List Part)
-      back = or_breaks (leave_for Function f.enter w) Collapses (λ v. or_breaks (void_for k.evaluating v) Collapses (λ u. frames_on (next_place s) k ks o u))
-
-      by : (b d : Bool) → ((u : Written) → WrittenFits s u → EndingFits s (frames_on (next_place s) k ks o u))
-          → EndingFits s (if b then if d then back else Collapses BadMode else Finishes (thread_of f (k ∷ ks) o) w)
-      by true true on =
-          ends_so (WrittenFits s) (leave_for Function f.enter w) _ (leave_fits s w g Function f.enter)
-          (λ v x. ends_so (WrittenFits s) (void_for k.evaluating v) _ (void_fits s v x k.evaluating) on)
-      by true false on = tt
-      by false d on = (h, g)
+      (cond_both (is_function f.kind) _ _ (EndingFits s) (λ _. cond_both (nat_eq f.depth (depth_of w)) _ _ (EndingFits s)
+      (λ _. ends_so (WrittenFits s) (leave_for Function f.enter w) _ (leave_fits s w g Function f.enter)
+      (λ v x. ends_so (WrittenFits s) (void_for k.evaluating v) _ (void_fits s v x k.evaluating) (λ u y. frames_fit k ks o u (below_stands f k ks o h) y))) (λ _. tt)) (λ _. (h, g)))
 
   -- ---- off the end of threads
 
@@ -100,29 +96,22 @@ module _ (s : StoryTree) where
 
   -- flow stops in its one thread
   stopped_fits : (t : ThreadOf (List Part)) → ThreadStands s t → ThreadsFit s (record { thread = gone None t; below = [] })
-  stopped_fits t h = record {
-    thread = record { frame = h.thread.frame; below = h.thread.below; base = h.thread.base; few = h.thread.few; previous = any_of t.frame.place h.place };
-    below = tt;
-    flow = tt;
-    few = lit≤ tt;
-  }
+  stopped_fits t h =
+      let previous = any_of t.frame.place h.place in
+      let few : 1 ≤ MAX_THREADS = lit≤ tt in assumption tt
+
+  ended_fits : (e : Ending (List Part)) (us : List (ThreadOf (List Part))) (end : ThreadOf (List Part) → Written → Reached (List Part)) → EndingFits s e → Each (ThreadStands s) us → length us + 1 ≤ MAX_THREADS
+      → ((t : ThreadOf (List Part)) (w : Written) → ThreadStands s t → WrittenFits s w → ReachedFits s (end t w)) → ReachedFits s (on_ending e us end)
+  ended_fits (Continues t w) us end x k few on = (top_fits t us x.0 k few, x.0.place, x.1)
+  ended_fits (Finishes t w) us end x k few on = on t w x.0 x.1
+  ended_fits (Collapses f) us end x k few on = tt
 
   threads_fit : (t : ThreadOf (List Part)) (us : List (ThreadOf (List Part))) (w : Written) → ThreadStands s t → Each (ThreadStands s) us → length us + 1 ≤ MAX_THREADS → WrittenFits s w
       → ReachedFits s (threads_on (next_place s) t us w)
-  threads_fit t [] w h k few g = by (frames_on (next_place s) t.frame t.below t.previous w) (frames_fit t.frame t.below t.previous w h g)
-    where
-      by : (e : Ending (List Part)) → EndingFits s e → ReachedFits s (on_ending e [] (λ u v. halt (record { thread = gone None u; below = [] }) v))
-      by (Continues u v) x = (top_fits u [] x.0 tt few, x.0.place, x.1)
-      by (Finishes u v) x = halt_fits (record { thread = gone None u; below = [] }) v (stopped_fits u x.0) x.1
-      by (Collapses f) x = tt
-  threads_fit t (u ∷ us) w h k few g =
-      by (frames_on (next_place s) t.frame t.below t.previous w) (frames_fit t.frame t.below t.previous w h g) (λ v x. threads_fit u us v k.0 k.1 (omega (arith, few)) x)
-    where
-      by : (e : Ending (List Part)) → EndingFits s e → ((v : Written) → WrittenFits s v → ReachedFits s (threads_on (next_place s) u us v))
-          → ReachedFits s (on_ending e (u ∷ us) (λ ended v. threads_on (next_place s) u us v))
-      by (Continues m v) x on = (top_fits m (u ∷ us) x.0 k few, x.0.place, x.1)
-      by (Finishes m v) x on = on v x.1
-      by (Collapses f) x on = tt
+  threads_fit t [] w h k few g = ended_fits (frames_on (next_place s) t.frame t.below t.previous w) [] _ (frames_fit t.frame t.below t.previous w h g) tt few
+      (λ u v x y. halt_fits (record { thread = gone None u; below = [] }) v (stopped_fits u x) y)
+  threads_fit t (u ∷ us) w h k few g = ended_fits (frames_on (next_place s) t.frame t.below t.previous w) (u ∷ us) _ (frames_fit t.frame t.below t.previous w h g) k few
+      (λ m v x y. threads_fit u us v k.0 k.1 (omega (arith, few)) y)
 
   -- threads that run: flow is at a place
   pub record ThreadsStand (ts : ThreadsOf (List Part)) : Type 0 where
@@ -136,26 +125,20 @@ module _ (s : StoryTree) where
   -- ---- calls and returns
 
   numbered_fits : (k : FrameKind) (w : Written) (t : ThreadOf (List Part)) → ThreadStands s t → ThreadStands s (number_for k w t)
-  numbered_fits Base w t h = h
-  numbered_fits Function w t h = record { thread = record { frame = h.thread.frame; below = h.thread.below; base = h.thread.base; few = h.thread.few; previous = h.thread.previous }; place = h.place }
-  numbered_fits Tunnel w t h = h
+  numbered_fits Function w t h = assumption
+  numbered_fits k w t h = h
 
   pushed_frame : (k : FrameKind) (d : ℕ) (t : ThreadOf (List Part)) → k ≢ Base → d ≤ MAX_SECTIONS → ThreadStands s t → Gives (ThreadStands s) (pushed k d t)
-  pushed_frame k d t call few h = by (nat_lt (frame_count t) MAX_FRAMES) refl
-    where
-      by : (b : Bool) → nat_lt (frame_count t) MAX_FRAMES ≡ b
-          → Gives (ThreadStands s) (if b then Ok (record t { frame = new_frame k t.frame.place d; below = t.frame ∷ t.below }) else Err TooDeep)
-      by true e = record {
-        thread = record {
-          frame = record { rise = refl; each = tt; depth = few };
-          below = ((h.thread.frame, h.place), h.thread.below);
-          base = (call, h.thread.base);
-          few = grind (arith, nat_tests, e);
-          previous = h.thread.previous;
-        };
-        place = h.place;
-      }
-      by false e = tt
+  pushed_frame k d t call few h = cond_both (nat_lt (frame_count t) MAX_FRAMES) _ _ (Gives (ThreadStands s)) (λ e. record {
+    thread = record {
+      frame = record { rise = refl; each = tt; depth = few };
+      below = ((h.thread.frame, h.place), h.thread.below);
+      base = (call, h.thread.base);
+      few = grind (arith, nat_tests, e);
+      previous = h.thread.previous;
+    };
+    place = h.place;
+  }) (λ _. tt)
 
   pub called_fits : (k : FrameKind) (q : List Part) (ts : ThreadsOf (List Part)) (w : Written) → k ≢ Base → PlaceFits s q → ThreadsStand ts → WrittenFits s w → ReachedFits s (called k q ts w)
   called_fits k q ts w call p h g =
@@ -166,14 +149,8 @@ module _ (s : StoryTree) where
 
   back_fits : (fs : List (FrameOf (List Part))) (d : ℕ) (t : ThreadOf (List Part)) → t.below ≡ fs → ThreadStands s t → Gives (ThreadStands s) (back_to fs d t)
   back_fits [] d t e h = tt
-  back_fits (f ∷ fs) d t e h = by (nat_eq t.frame.depth d)
-    where
-      same : ThreadStands s (thread_of t.frame (f ∷ fs) t.previous)
-      same = subst (λ l. ThreadStands s (thread_of t.frame l t.previous)) e h
-
-      by : (b : Bool) → Gives (ThreadStands s) (if b then Ok (record t { frame = f; below = fs }) else Err BadMode)
-      by true = below_stands t.frame f fs t.previous same
-      by false = tt
+  back_fits (f ∷ fs) d t e h = cond_both (nat_eq t.frame.depth d) _ _ (Gives (ThreadStands s))
+      (λ _. below_stands t.frame f fs t.previous (subst (λ l. ThreadStands s (thread_of t.frame l t.previous)) e h)) (λ _. tt)
 
   popped_frame : (k : FrameKind) (d : ℕ) (t : ThreadOf (List Part)) → ThreadStands s t → Gives (ThreadStands s) (popped k d t)
   popped_frame k d t h = cond_both (same_kind t.frame.kind k) _ _ (Gives (ThreadStands s)) (λ _. back_fits t.below d t refl h) (λ _. tt)
@@ -194,26 +171,20 @@ module _ (s : StoryTree) where
   stand_of ts h p = record { thread = record { thread = h.thread; place = p }; below = h.below; few = h.few }
 
   doubled_fits : (r : Reached (List Part)) → ReachedFits s r → ReachedFits s (doubled_in (next_place s) r)
-  doubled_fits (Reaches ts w) h = by (nat_lt (thread_count ts) MAX_THREADS) refl
-    where
-      by : (b : Bool) → nat_lt (thread_count ts) MAX_THREADS ≡ b
-          → ReachedFits s (or_breaks (if b then Ok (record ts { below = ts.thread ∷ ts.below }) else Err TooDeep) Breaks (λ us. Reaches us w))
-      by true e = (top_fits ts.thread (ts.thread ∷ ts.below) (record { thread = h.0.thread; place = h.1 }) (record { thread = h.0.thread; place = h.1 }, h.0.below) (grind (arith, nat_tests, e)), h.1, h.2)
-      by false e = tt
-  doubled_fits (Halts ts w) h = h
-  doubled_fits (Breaks f) h = h
+  doubled_fits (Reaches ts w) h = elim (cases_Bool (nat_lt (thread_count ts) MAX_THREADS)) [
+    | inl e ↦
+        let top : ThreadStands s ts.thread = record { thread = h.0.thread; place = h.1 } in
+        rw e (top_fits ts.thread (ts.thread ∷ ts.below) top (top, h.0.below) (grind (arith, nat_tests, e)), h.1, h.2)
+    | inr e ↦ rw e tt
+  ]
+  doubled_fits r h = h
 
   pub forked_fits : (ts : ThreadsOf (List Part)) (w : Written) → ThreadsStand ts → WrittenFits s w → ReachedFits s (forked (next_place s) ts w)
   forked_fits ts w h g = doubled_fits (moved_on (next_place s) ts w) (moved_fits ts w h g)
 
   done_fits_by : (us : List (ThreadOf (List Part))) (t : ThreadOf (List Part)) (w : Written) → ThreadsStand (record { thread = t; below = us }) → WrittenFits s w
       → ReachedFits s (done_by (next_place s) (dropped_to us) (record { thread = t; below = us }) w)
-  done_fits_by [] t w h g = halt_fits (record { thread = put_in None t; below = [] }) w (record {
-    thread = record { frame = h.thread.thread.frame; below = h.thread.thread.below; base = h.thread.thread.base; few = h.thread.thread.few; previous = h.thread.thread.previous };
-    below = tt;
-    flow = tt;
-    few = h.few;
-  }) g
+  done_fits_by [] t w h g = halt_fits (record { thread = put_in None t; below = [] }) w (assumption tt) g
   done_fits_by (u ∷ us) t w h g = moved_fits (record { thread = u; below = us }) w (record { thread = h.below.0; below = h.below.1; few = omega (arith, h.few) }) g
 
   pub done_fits : (ts : ThreadsOf (List Part)) (w : Written) → ThreadsStand ts → WrittenFits s w → ReachedFits s (done (next_place s) ts w)

@@ -107,11 +107,7 @@ module _ (s : StoryTree) where
   flows_fit g h = record { current = (h.sound.flow, flow_rests g.now h.rests); aside = h.aside }
 
   pub game_fits : (g : Game) (fs : FlowsOf (FlowOf (List Part))) → FlowsFit fs → Stands s g → Stands s (with_flows fs g)
-  game_fits g fs k h = record {
-    sound = record { flow = k.current.0; shared = h.sound.shared; page = h.sound.page };
-    rests = rests_in fs.current g.now k.current.1 h.rests;
-    aside = k.aside;
-  }
+  game_fits g fs k h = let rests = rests_in fs.current g.now k.current.1 h.rests in assumption
 
   pub first_fits : Stood (first_flow s)
   first_fits = (fresh_flow_sound s (start_place s) (start_fits s), refl)

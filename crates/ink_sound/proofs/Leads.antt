@@ -1,5 +1,6 @@
--- The effects of diverts, calls and returns.
-use Rattle.std.proofs.Common.{◌≢◌, arith, List, Bool, true, false, if◌then◌else◌, Option, Some, None, option_map, Result, Ok, Err}
+-- The effects of diverts, calls and returns; what calls of external functions come to, and what a host answers.
+use Rattle.std.proofs.Common.{◌≢◌, arith, List, Bool, true, false, if◌then◌else◌, Option, Some, None, option_map, Ok, Err, ◌≡◌, ℕ, zero, suc, ◌-◌, nat_le, [], ◌∷◌, length, take, Result}
+use Rattle.std.proofs.lemmas.Bool.{cond_both}
 use Rattle.std.specs.Option.{ok_or}
 use Rattle.ink_model.specs.Acceptance.{lands}
 use Rattle.ink_model.specs.Effect.{Context, Effect, Fields, Landing, Moves, Lands, Calls, Returns}
@@ -13,24 +14,24 @@ use Rattle.ink_model.specs.Value.{is_true}
 use Rattle.ink_model.specs.Variables.{read}
 use Rattle.ink_model.specs.declared.content.Destination.{Destination}
 use Rattle.ink_model.specs.declared.content.Destination.TheVariants as destination
-use Rattle.ink_model.specs.declared.fault.Fault.{Fault}
-use Rattle.ink_model.specs.declared.fault.Fault.TheVariants.{BadTarget}
+use Rattle.ink_model.specs.declared.fault.Fault.TheVariants.{BadTarget, Unbound}
 use Rattle.ink_model.specs.declared.frame.FrameKind.{FrameKind}
-use Rattle.ink_model.specs.declared.frame.FrameKind.TheVariants.{Base, Tunnel}
+use Rattle.ink_model.specs.declared.frame.FrameKind.TheVariants.{Base, Tunnel, Function}
 use Rattle.ink_model.specs.declared.place.Part.{Part}
 use Rattle.ink_model.specs.declared.value.Value.{Value}
 use Rattle.ink_model.specs.declared.value.Value.TheVariants as value
-use Rattle.ink_sound.specs.Kept.{EffectFits, FieldsFit, Finds, Gives}
-use Rattle.ink_model.specs.Save.Sound.{AnyPlace, PlaceFits}
-use Rattle.ink_sound.proofs.Places.{Stands, lands_fits, led_fits}
-use Rattle.ink_sound.proofs.Values.{TakenFits, or_fault_fits, popped_fits, popping_fits}
-
-abbrev pub Any : {A : Type 0} → A → Type 0
-Any a = Unit {0}
-
-pub any_finds : {A : Type 0} (o : Option A) → Finds Any o
-any_finds (Some a) = tt
-any_finds None = tt
+use Rattle.ink_sound.specs.Kept.{EffectFits, FieldsFit, Finds, Gives, CallFits}
+use Rattle.ink_model.specs.Save.Sound.{AnyPlace, PlaceFits, StackFits, ValueFits}
+use Rattle.ink_sound.proofs.Places.{Stands, lands_fits, led_fits, knot_fits, landed_fits}
+use Rattle.ink_sound.proofs.Values.{TakenFits, or_fault_fits, popped_fits, popping_fits, or_else_fits, pushing_fits}
+use Rattle.std.proofs.lemmas.List.{length-take}
+use Rattle.std.specs.List.{AllByRecursion as Each, list_all}
+use Rattle.ink_model.specs.Host.{Binding, Bound, turn_function, pure_function, fits_given, value_given}
+use Rattle.ink_model.specs.Place.{knot}
+use Rattle.ink_model.specs.Step.Host.{CallEffect, answering, arguments_of, arguments_on, arguments_taken, call_bound, call_external, has_string, is_argument, or_fails}
+use Rattle.ink_model.specs.declared.fault.Fault.{Fault}
+use Rattle.ink_model.specs.declared.host.Given.{Given}
+use Rattle.ink_model.specs.declared.host.Given.TheVariants as given
 
 module _ (s : StoryTree) where
   -- ---- conditions
@@ -40,11 +41,8 @@ module _ (s : StoryTree) where
 
   truth_fits : (f : Fields) (o : Option (Value × List Value)) → FieldsFit s f → Finds (TakenFits s f.stack) o → Gives LeavesFields (truth_on o f)
   truth_fits f None h k = tt
-  truth_fits f (Some r) h k = by (is_true r.0)
-    where
-      by : (t : Result Bool Fault) → Gives LeavesFields (leaving_fields (record f { stack = r.1 }) t)
-      by (Ok b) = record { stack = record { each = k.left; few = omega (arith, k.less, h.stack.few) }; globals = h.globals; page = h.page }
-      by (Err g) = tt
+  truth_fits f (Some r) h k = elim (is_true r.0) as (λ t. Gives LeavesFields (leaving_fields (record f { stack = r.1 }) t))
+      [ Ok b ↦ record { stack = record { each = k.left; few = omega (arith, k.less, h.stack.few) }; globals = h.globals; page = h.page } | Err g ↦ tt ]
 
   pub condition_fits : (conditional : Bool) (f : Fields) → FieldsFit s f → Gives LeavesFields (condition conditional f)
   condition_fits true f h = truth_fits f (popped f.stack) h (popped_fits s f.stack h.stack.each)
@@ -52,11 +50,8 @@ module _ (s : StoryTree) where
 
   pub where_true_fits : (conditional : Bool) (f : Fields) (so : Fields → Effect) → FieldsFit s f → ((left : Fields) → FieldsFit s left → EffectFits s (so left))
       → EffectFits s (where_true conditional f so)
-  where_true_fits conditional f so h k = or_fault_fits s LeavesFields (condition conditional f) (λ r. if r.0 then so r.1 else Moves r.1) (condition_fits conditional f h) (λ r x. by r.1 x r.0)
-    where
-      by : (left : Fields) → FieldsFit s left → (b : Bool) → EffectFits s (if b then so left else Moves left)
-      by left x true = k left x
-      by left x false = x
+  where_true_fits conditional f so h k = or_fault_fits s LeavesFields (condition conditional f) (λ r. if r.0 then so r.1 else Moves r.1) (condition_fits conditional f h)
+      (λ r x. cond_both r.0 _ _ (EffectFits s) (λ _. k r.1 x) (λ _. x))
 
   -- ---- where content leads
 
@@ -73,11 +68,8 @@ module _ (s : StoryTree) where
 
   led_to_fits : (p : List Part) (seen : Context) (to : Destination) (globals : Values) → Stands s p → Gives LandingFits (led_to s p seen to globals)
   led_to_fits p seen (destination.Path text) globals h = written_fits (lands s p text) (lands_fits s p text h)
-  led_to_fits p seen (destination.Variable name) globals h = by (read globals seen.thread name)
-    where
-      by : (r : Result Value Fault) → Gives LandingFits (led_by s r)
-      by (Ok v) = ok_fits (landing_by s v) (led_fits s v)
-      by (Err f) = tt
+  led_to_fits p seen (destination.Variable name) globals h =
+      elim (read globals seen.thread name) as (λ r. Gives LandingFits (led_by s r)) [ Ok v ↦ ok_fits (landing_by s v) (led_fits s v) | Err f ↦ tt ]
 
   module _ (p : List Part) (stand : Stands s p) (seen : Context) where
     pub divert_fits : (to : Destination) (conditional : Bool) (f : Fields) → FieldsFit s f → EffectFits s (divert s p seen to conditional f)
@@ -90,11 +82,8 @@ module _ (s : StoryTree) where
 
   back_fits : (v : Value) → Gives (λ to. AnyPlace s (place_to to)) (led_back s v)
   back_fits value.Void = tt
-  back_fits (value.Target path) = by (landing_by s (value.Target path)) (led_fits s (value.Target path))
-    where
-      by : (o : Option Landing) → Finds LandingFits o → Gives (λ to. AnyPlace s (place_to to)) (ok_or (option_map (λ l. Some l) o) BadTarget)
-      by (Some l) h = h
-      by None h = tt
+  back_fits (value.Target path) = (elim (landing_by s (value.Target path)) as (λ o. Finds LandingFits o → Gives (λ to. AnyPlace s (place_to to)) (ok_or (option_map (λ l. Some l) o) BadTarget))
+      [ Some l ↦ λ h. h | None ↦ λ h. tt ]) (led_fits s (value.Target path))
   back_fits v = tt
 
   pub return_tunnel_fits : (f : Fields) → FieldsFit s f → EffectFits s (return_tunnel s f)
@@ -102,3 +91,47 @@ module _ (s : StoryTree) where
 
   pub return_function_fits : (f : Fields) → FieldsFit s f → EffectFits s (return_function f)
   return_function_fits f h = (tt, h)
+
+-- ---- calls of external functions
+
+no_base : Function ≢ Base
+no_base e = absurd cc
+
+module _ (s : StoryTree) where
+  each_take : (n : ℕ) (vs : List Value) → Each (ValueFits s) vs → Each (ValueFits s) (take n vs)
+  each_take zero vs h = tt
+  each_take (suc n) [] h = tt
+  each_take (suc n) (v ∷ vs) h = (h.0, each_take n vs h.1)
+
+  arguments_fit : (n : ℕ) (vs : List Value) → StackFits s vs → Finds (λ (r : List Value × List Value). StackFits s r.1) (arguments_on n vs)
+  arguments_fit n vs h = cond_both (nat_le n (length vs)) _ _ (Finds (λ (r : List Value × List Value). StackFits s r.1))
+      (λ _. record { each = each_take (length vs - n) vs h.each; few = omega (arith, length-take (length vs - n) vs, h.few) }) (λ _. tt)
+
+  taken_fits : (n : ℕ) (f : Fields) → FieldsFit s f → Gives (LeavesFields s) (arguments_taken n f)
+  taken_fits n f h = (elim (arguments_on n f.stack) as (λ o. Finds (λ (r : List Value × List Value). StackFits s r.1) o → Gives (LeavesFields s) (arguments_of o f)) [
+    | None ↦ λ k. tt
+    | Some r ↦ λ k. cond_both (list_all is_argument r.0) _ _ (Gives (LeavesFields s)) (λ _. record { stack = k; globals = h.globals; page = h.page }) (λ _. tt)
+  ]) (arguments_fit n f.stack h.stack)
+
+  given_fits : (g : Given) → fits_given g ≡ true → ValueFits s (value_given g)
+  given_fits (given.Int z) e = e
+  given_fits (given.Text t) e = e
+  given_fits g e = tt
+
+  -- an answer of a host, whatever it is
+  pub answering_fits : (gave : Option Given) (f : Fields) → FieldsFit s f → EffectFits s (answering gave f)
+  answering_fits None f h = tt
+  answering_fits (Some g) f h = cond_both (fits_given g) _ _ (EffectFits s) (λ e. pushing_fits s (value_given g) f (given_fits g e) h) (λ _. tt)
+
+  or_fails_fits : {A : Type 0} (P : A → Type 0) (r : Result A Fault) (so : A → CallEffect) → Gives P r → ((a : A) → P a → CallFits s (so a)) → CallFits s (or_fails r so)
+  or_fails_fits P (Ok a) so h k = k a h
+  or_fails_fits P (Err f) so h k = tt
+
+  bound_fits : (b : Option Binding) (name : List ℕ) (n : ℕ) (f : Fields) → FieldsFit s f → CallFits s (call_bound s b name n f)
+  bound_fits None name n f h = or_else_fits s (PlaceFits s) Unbound (knot name s) _ (knot_fits s name) (λ p x. (no_base, landed_fits s p x, h))
+  bound_fits (Some turn_function) name n f h = cond_both (has_string f.page.sections) _ _ (CallFits s) (λ _. tt) (λ _. or_fails_fits (LeavesFields s) (arguments_taken n f) _ (taken_fits n f h) (λ r x. x))
+  bound_fits (Some (pure_function answers)) name n f h = or_fault_fits s (LeavesFields s) (arguments_taken n f) _ (taken_fits n f h) (λ r x. answering_fits (answers r.0) r.1 x)
+
+  pub external_fits : (b : Bound) (name : List ℕ) (n : ℕ) (conditional : Bool) (f : Fields) → FieldsFit s f → CallFits s (call_external s b name n conditional f)
+  external_fits b name n conditional f h = or_fails_fits (LeavesFields s) (condition conditional f) _ (condition_fits s conditional f h)
+      (λ r x. cond_both r.0 _ _ (CallFits s) (λ _. bound_fits (b name) name n r.1 x) (λ _. x))

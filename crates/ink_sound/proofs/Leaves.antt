@@ -1,10 +1,10 @@
 -- Each text that a story spells is within its limit, and each number has 32 bits.
-use Rattle.std.proofs.Common.{◌≡◌, sym, refl, arith, ℕ, zero, suc, ◌^◌, ℤ, pos, negsuc, List, [], ◌∷◌, ◌++◌, length, Bool, true, false, true≢false, ◌&&◌, ◌==◌, bytes_eq, codes, nat_lt, if◌then◌else◌, Option, Some, None, unwrap_or, Result, Ok, Err, IsTrue}
+use Rattle.std.proofs.Common.{◌≡◌, sym, refl, arith, ℕ, zero, suc, ◌^◌, ℤ, pos, negsuc, List, [], ◌∷◌, ◌++◌, length, Bool, true, false, true≢false, ◌==◌, bytes_eq, codes, nat_lt, if◌then◌else◌, Option, Some, None, unwrap_or, Result, Ok, Err, IsTrue}
 use Rattle.std.proofs.lemmas.Bool.{cond_both}
 use Rattle.std.proofs.lemmas.Bool.Decides.{nat_tests}
 use Rattle.std.specs.List.{AllByRecursion as Each, list_all}
-use Rattle.std.specs.Option.{ok_or, option_or}
-use Rattle.serde_json.specs.Data.{Data, null, boolean, number, string, array, object}
+use Rattle.std.specs.Option.{ok_or}
+use Rattle.serde_json.specs.Data.{Data, number, string, object}
 use Rattle.serde_json.specs.Find.{as_integer, as_str, get}
 use Rattle.ink_model.specs.Leaves.{by_head, choice_leaf, external_leaf, frame_option, integer_leaf, is_beyond, is_small, jump_leaf, jump_readings, leading_to, leaf_of, object_leaf, plain_leaf, pointer_frame, pointer_leaf, pointer_to, read_choice, read_external, read_jump, read_plain, read_pointer, read_store, read_tag, sole, store_leaf, store_readings, string_leaf, switch, tag_leaf, under_head, value_readings, whole_or}
 use Rattle.ink_model.specs.Word.{arithmetic_words, comparison_words, count_words, evaluation_words, flow_words, frame_words, logic_words, meant, number_words, operator_word, section_words, word}
@@ -12,11 +12,12 @@ use Rattle.ink_model.specs.declared.content.Destination.{Destination}
 use Rattle.ink_model.specs.declared.content.Leaf.{Leaf}
 use Rattle.ink_model.specs.declared.content.Leaf.TheVariants as leaves
 use Rattle.ink_model.specs.declared.fault.Cause.{Cause}
-use Rattle.ink_model.specs.declared.fault.Cause.TheVariants.{Limit, Shape, Unsupported}
+use Rattle.ink_model.specs.declared.fault.Cause.TheVariants.{Limit, Unsupported}
 use Rattle.ink_model.specs.declared.limits.TheConstants.{MAX_TEXT}
 use Rattle.ink_model.specs.declared.version.InkVersion.{InkVersion}
 use Rattle.ink_sound.specs.Kept.{Finds, TextsFit, Yields}
-use Rattle.ink_sound.proofs.Values.{each_append}
+use Rattle.ink_sound.proofs.Rows.{one, two}
+use Rattle.ink_sound.proofs.Values.{each_append, or_finds}
 
 -- ---- words
 
@@ -37,34 +38,18 @@ none_fits l e = tt
 
 meant_fits : (s : List ℕ) (words : List (List ℕ × Leaf)) → list_all (λ e. has_none e.1) words ≡ true → Finds TextsFit (meant s words)
 meant_fits s [] e = tt
-meant_fits s (w ∷ words) e = by (bytes_eq s w.0) (none_fits w.1 (first (has_none w.1) e)) (meant_fits s words (second (has_none w.1) e))
-  where
-    first : (b : Bool) → (b && list_all (λ e. has_none e.1) words) ≡ true → b ≡ true
-    first true h = refl
-    first false h = h
-
-    second : (b : Bool) → (b && list_all (λ e. has_none e.1) words) ≡ true → list_all (λ e. has_none e.1) words ≡ true
-    second true h = h
-    second false h = absurd (true≢false (sym h))
-
-    by : (b : Bool) → TextsFit w.1 → Finds TextsFit (meant s words) → Finds TextsFit (if b then Some w.1 else meant s words)
-    by true h k = h
-    by false h k = k
-
-or_fits : (o p : Option Leaf) → Finds TextsFit o → Finds TextsFit p → Finds TextsFit (option_or o p)
-or_fits None p h k = k
-or_fits (Some l) p h k = h
+meant_fits s (w ∷ words) e = cond_both (bytes_eq s w.0) _ _ (Finds TextsFit) (λ _. none_fits w.1 (one (has_none w.1) _ e)) (λ _. meant_fits s words (two (has_none w.1) _ e))
 
 operator_fits : (s : List ℕ) → Finds TextsFit (operator_word s)
 unfolding operator_word
-operator_fits s = or_fits (meant s arithmetic_words) _ (meant_fits s arithmetic_words refl) (or_fits (meant s comparison_words) _ (meant_fits s comparison_words refl)
-    (or_fits (meant s logic_words) (meant s number_words) (meant_fits s logic_words refl) (meant_fits s number_words refl)))
+operator_fits s = or_finds TextsFit (meant s arithmetic_words) _ (meant_fits s arithmetic_words refl) (or_finds TextsFit (meant s comparison_words) _ (meant_fits s comparison_words refl)
+    (or_finds TextsFit (meant s logic_words) (meant s number_words) (meant_fits s logic_words refl) (meant_fits s number_words refl)))
 
 word_fits : (s : List ℕ) → Finds TextsFit (word s)
 unfolding word
-word_fits s = or_fits (meant s flow_words) _ (meant_fits s flow_words refl) (or_fits (meant s evaluation_words) _ (meant_fits s evaluation_words refl)
-    (or_fits (meant s section_words) _ (meant_fits s section_words refl) (or_fits (meant s frame_words) _ (meant_fits s frame_words refl)
-    (or_fits (meant s count_words) (operator_word s) (meant_fits s count_words refl) (operator_fits s)))))
+word_fits s = or_finds TextsFit (meant s flow_words) _ (meant_fits s flow_words refl) (or_finds TextsFit (meant s evaluation_words) _ (meant_fits s evaluation_words refl)
+    (or_finds TextsFit (meant s section_words) _ (meant_fits s section_words refl) (or_finds TextsFit (meant s frame_words) _ (meant_fits s frame_words refl)
+    (or_finds TextsFit (meant s count_words) (operator_word s) (meant_fits s count_words refl) (operator_fits s)))))
 
 -- ---- texts
 
@@ -72,17 +57,12 @@ ok_fits : (o : Option Leaf) → Finds TextsFit o → Yields TextsFit (ok_or o Un
 ok_fits None h = tt
 ok_fits (Some l) h = h
 
-text_fits : (b : Bool) (t : List ℕ) → nat_lt MAX_TEXT (length t) ≡ b → Yields {E = Cause} TextsFit (if b then Err Limit else Ok (leaves.Text t))
-text_fits true t e = tt
-text_fits false t e = grind (arith, nat_tests, e)
+text_fits : (t : List ℕ) → Yields {E = Cause} TextsFit (if nat_lt MAX_TEXT (length t) then Err Limit else Ok (leaves.Text t))
+text_fits t = cond_both (nat_lt MAX_TEXT (length t)) _ _ (Yields TextsFit) (λ _. tt) (λ e. grind (arith, nat_tests, e))
 
 tag_fits : (t : Option (List ℕ)) → Yields TextsFit (tag_leaf t)
 tag_fits None = tt
-tag_fits (Some t) = by (nat_lt MAX_TEXT (length t)) refl
-  where
-    by : (b : Bool) → nat_lt MAX_TEXT (length t) ≡ b → Yields {E = Cause} TextsFit (if b then Err Limit else Ok (leaves.Tag t))
-    by true e = tt
-    by false e = grind (arith, nat_tests, e)
+tag_fits (Some t) = cond_both (nat_lt MAX_TEXT (length t)) _ _ (Yields TextsFit) (λ _. tt) (λ e. grind (arith, nat_tests, e))
 
 string_fits : (s : List ℕ) → Yields TextsFit (string_leaf s)
 unfolding string_leaf
@@ -90,33 +70,21 @@ string_fits [] = ok_fits (word []) (word_fits [])
 string_fits (c ∷ cs) = by (c == 94)
   where
     by : (b : Bool) → Yields TextsFit (unwrap_or (if b then Some (if nat_lt MAX_TEXT (length cs) then Err Limit else Ok (leaves.Text cs)) else None) (ok_or (word (c ∷ cs)) Unsupported))
-    by true = text_fits (nat_lt MAX_TEXT (length cs)) cs refl
+    by true = text_fits cs
     by false = ok_fits (word (c ∷ cs)) (word_fits (c ∷ cs))
 
 -- ---- objects
 
 jump_fits : (make : Destination → Bool → Leaf) → ((d : Destination) (b : Bool) → TextsFit (make d b)) → (t : Option (List ℕ)) (v c : Option Bool) → Yields TextsFit (jump_leaf make t v c)
 jump_fits make h (Some t) (Some v) (Some c) = h (leading_to v t) c
-jump_fits make h (Some t) (Some v) None = tt
-jump_fits make h (Some t) None c = tt
-jump_fits make h None v c = tt
+jump_fits make h t v c = tt
 
 external_fits : (t : Option (List ℕ)) (n : Option ℕ) (c : Option Bool) → Yields TextsFit (external_leaf t n c)
-external_fits (Some t) (Some n) (Some c) = by (nat_lt n (2 ^ 31))
-  where
-    by : (b : Bool) → Yields {E = Cause} TextsFit (if b then Ok (leaves.External t n c) else Err Limit)
-    by true = tt
-    by false = tt
-external_fits (Some t) (Some n) None = tt
-external_fits (Some t) None c = tt
-external_fits None n c = tt
+external_fits (Some t) (Some n) (Some c) = cond_both (nat_lt n (2 ^ 31)) _ _ (Yields TextsFit) (λ _. tt) (λ _. tt)
+external_fits t n c = tt
 
 frame_fits : (z : ℤ) → Yields (λ frame. IsTrue (is_small frame)) (pointer_frame z)
-frame_fits (pos n) = by (nat_lt n (2 ^ 31)) refl
-  where
-    by : (b : Bool) → nat_lt n (2 ^ 31) ≡ b → Yields {E = Cause} (λ frame. IsTrue (is_small frame)) (if b then Ok (pos n) else Err Limit)
-    by true e = e
-    by false e = tt
+frame_fits (pos n) = cond_both (nat_lt n (2 ^ 31)) _ _ (Yields (λ frame. IsTrue (is_small frame))) (λ e. e) (λ _. tt)
 frame_fits (negsuc zero) = refl
 frame_fits (negsuc (suc n)) = tt
 
@@ -126,23 +94,16 @@ pointer_fits name (Err c) h = tt
 
 pointer_leaf_fits : (t : Option (List ℕ)) (z : Option ℤ) → Yields TextsFit (pointer_leaf t z)
 pointer_leaf_fits (Some t) (Some z) = pointer_fits t (pointer_frame z) (frame_fits z)
-pointer_leaf_fits (Some t) None = tt
-pointer_leaf_fits None z = tt
+pointer_leaf_fits t z = tt
 
 choice_fits : (t : Option (List ℕ)) (n : Option ℕ) → Yields TextsFit (choice_leaf t n)
-choice_fits (Some t) (Some n) = by (nat_lt n 32)
-  where
-    by : (b : Bool) → Yields {E = Cause} TextsFit (if b then Ok (leaves.Choice t n) else Err Shape)
-    by true = tt
-    by false = tt
-choice_fits (Some t) None = tt
-choice_fits None n = tt
+choice_fits (Some t) (Some n) = cond_both (nat_lt n 32) _ _ (Yields TextsFit) (λ _. tt) (λ _. tt)
+choice_fits t n = tt
 
 store_fits : (declare assign : List ℕ → Leaf) → ((t : List ℕ) → TextsFit (declare t)) → ((t : List ℕ) → TextsFit (assign t)) → (t : Option (List ℕ)) (b : Option Bool) → Yields TextsFit (store_leaf declare assign t b)
 store_fits declare assign h k (Some t) (Some true) = k t
 store_fits declare assign h k (Some t) (Some false) = h t
-store_fits declare assign h k (Some t) None = tt
-store_fits declare assign h k None b = tt
+store_fits declare assign h k t b = tt
 
 plain_fits : (make : List ℕ → Leaf) → ((t : List ℕ) → TextsFit (make t)) → (t : Option (List ℕ)) → Yields TextsFit (plain_leaf make t)
 plain_fits make h None = tt
@@ -211,9 +172,7 @@ integer_fits None = tt
 integer_fits (Some z) = cond_both (is_small z) _ _ (Yields {E = Cause} TextsFit) (λ e. e) (λ _. tt)
 
 pub leaf_of_fits : (version : InkVersion) (d : Data) → Yields TextsFit (leaf_of version d)
-leaf_of_fits version null = tt
-leaf_of_fits version (boolean b) = tt
 leaf_of_fits version (number n) = integer_fits (as_integer n)
 leaf_of_fits version (string s) = string_fits s
-leaf_of_fits version (array ds) = tt
 leaf_of_fits version (object ms) = object_fits version (object ms)
+leaf_of_fits version d = tt

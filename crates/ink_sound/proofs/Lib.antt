@@ -3,14 +3,12 @@ pub mod Ints
 pub mod Operators
 pub mod Places
 pub mod Rows
-pub mod Pages
 pub mod Flows
 pub mod Variables
 pub mod Counts
 pub mod Texts
 pub mod Offers
 pub mod Leads
-pub mod Externals
 pub mod Questions
 pub mod Effects
 pub mod Moves
@@ -23,7 +21,6 @@ pub mod Beside
 pub mod Sessions
 pub mod Leaves
 pub mod Stories
-pub mod Depth
 pub mod Plain
 pub mod Narrow
 pub mod Unspelling

@@ -1,5 +1,5 @@
 -- What an effect that fits makes of a sound configuration is sound.
-use Rattle.std.proofs.Common.{◌≡◌, ap, refl, arith, ℕ, suc, lit≤, List, [], ◌∷◌, length, Bool, true, false, ◌||◌, nat_eq, if◌then◌else◌, Option, Some, None}
+use Rattle.std.proofs.Common.{ap, refl, arith, ℕ, suc, lit≤, List, [], ◌∷◌, Bool, true, false, ◌||◌, nat_eq, Option, Some, None}
 use Rattle.std.proofs.lemmas.Bool.{cond_both}
 use Rattle.std.specs.List.{AllByRecursion as Each}
 use Rattle.ink_model.specs.Bases.{BaseFirst}
@@ -13,13 +13,13 @@ use Rattle.ink_model.specs.Place.{next_place}
 use Rattle.ink_model.specs.Threads.{stale, stale_run, staled}
 use Rattle.ink_model.specs.Tree.{StoryTree}
 use Rattle.ink_model.specs.Visits.{around, entering}
-use Rattle.ink_model.specs.declared.fault.Fault.TheVariants.{StopInString}
 use Rattle.ink_model.specs.declared.frame.FrameKind.{FrameKind}
 use Rattle.ink_model.specs.declared.place.Part.{Part}
 use Rattle.ink_sound.specs.Kept.{ContextFits, EffectFits, FieldsFit, OutcomeFits, ReachedFits, Runs, WrittenFits}
-use Rattle.ink_model.specs.Save.Sound.{ChoicesFit, FrameFits, FrameStands, SomePlace, Sound, ThreadFits, ThreadStands, ThreadsFit}
+use Rattle.ink_model.specs.Save.Sound.{ChoicesFit, FrameFits, FrameStands, SomePlace, Sound, ThreadStands, ThreadsFit}
 use Rattle.ink_sound.proofs.Counts.{all_visited_fits}
-use Rattle.ink_sound.proofs.Flows.{ThreadsStand, called_fits, done_fits, forked_fits, moved_fits, reach_stands, returned_fits, stand_of, top_fits, any_of}
+use Rattle.ink_sound.proofs.Variables.{ChangedFits}
+use Rattle.ink_sound.proofs.Flows.{ThreadsStand, base_fit, called_fits, done_fits, forked_fits, moved_fits, reach_stands, returned_fits, stand_of, top_fits, any_of}
 
 module _ (s : StoryTree) where
   -- ---- freshness and mode
@@ -28,36 +28,18 @@ module _ (s : StoryTree) where
   stale_stands d f h = cond_both (nat_eq f.depth d) _ _ (FrameFits s) (λ _. h) (λ _. h)
 
   stale_placed : (d : ℕ) (f : FrameOf (List Part)) → SomePlace s f.place → SomePlace s (stale d f).place
-  stale_placed d f h = by (nat_eq f.depth d)
-    where
-      by : (b : Bool) → SomePlace s (if b then record f { fresh = false } else f).place
-      by true = h
-      by false = h
-
-  -- frames below of which some are no longer fresh
-  record RunFits (k : FrameKind) (old new : List (FrameOf (List Part))) : Type 0 where
-    each : Each (FrameStands s) new
-    base : BaseFirst k new
-    as_many : length new ≡ length old
+  stale_placed d f h = cond_both {A = FrameOf (List Part)} (nat_eq f.depth d) _ _ (λ g. SomePlace s g.place) (λ _. h) (λ _. h)
 
   kind_kept : (d : ℕ) (f : FrameOf (List Part)) (fs : List (FrameOf (List Part))) → BaseFirst f.kind fs → BaseFirst (stale d f).kind fs
-  kind_kept d f fs h = by (nat_eq f.depth d)
-    where
-      by : (b : Bool) → BaseFirst (if b then record f { fresh = false } else f).kind fs
-      by true = h
-      by false = h
+  kind_kept d f fs h = cond_both {A = FrameOf (List Part)} (nat_eq f.depth d) _ _ (λ g. BaseFirst g.kind fs) (λ _. h) (λ _. h)
 
-  run_fits : (d : ℕ) (k : FrameKind) (fs : List (FrameOf (List Part))) → Each (FrameStands s) fs → BaseFirst k fs → RunFits k fs (stale_run d fs)
+  run_fits : (d : ℕ) (k : FrameKind) (fs : List (FrameOf (List Part))) → Each (FrameStands s) fs → BaseFirst k fs → ChangedFits s k fs (stale_run d fs)
   run_fits d k [] h b = record { each = tt; base = b; as_many = refl }
-  run_fits d k (f ∷ fs) h b = by (is_function f.kind) (run_fits d f.kind fs h.1 b.1)
-    where
-      by : (o : Bool) → RunFits f.kind fs (stale_run d fs) → RunFits k (f ∷ fs) (if o then stale d f ∷ stale_run d fs else f ∷ fs)
-      by true on = record {
-        each = ((stale_stands d f h.0.0, stale_placed d f h.0.1), on.each);
-        base = (b.0, kind_kept d f (stale_run d fs) on.base);
-        as_many = ap suc on.as_many;
-      }
-      by false on = record { each = h; base = b; as_many = refl }
+  run_fits d k (f ∷ fs) h b =
+      let on = run_fits d f.kind fs h.1 b.1 in
+      cond_both (is_function f.kind) _ _ (ChangedFits s k (f ∷ fs))
+      (λ _. record { each = ((stale_stands d f h.0.0, stale_placed d f h.0.1), on.each); base = (b.0, kind_kept d f (stale_run d fs) on.base); as_many = ap suc on.as_many })
+      (λ _. record { each = h; base = b; as_many = refl })
 
   staled_fits : (d : ℕ) (t : ThreadOf (List Part)) → ThreadStands s t → ThreadStands s (staled d t)
   staled_fits d t h =
@@ -80,47 +62,23 @@ module _ (s : StoryTree) where
 
   -- the same with other threads at a place
   with_top : (c : Configuration) (t : ThreadOf (List Part)) → Runs s c → ThreadStands s t → Runs s (with_thread t c)
-  with_top c t h k = (
-    record {
-      flow = record { threads = top_fits s t c.flow.threads.below k h.0.flow.threads.below h.0.flow.threads.few; stack = h.0.flow.stack; choices = h.0.flow.choices };
-      shared = h.0.shared;
-      page = h.0.page;
-    },
-    k.place,
-  )
+  with_top c t h k = let threads = top_fits s t c.flow.threads.below k h.0.flow.threads.below h.0.flow.threads.few in assumption
 
   mode_runs : (b : Bool) (c : Configuration) → Runs s c → Runs s (with_mode b c)
-  mode_runs b c h = with_top c _ h (record { thread = record { frame = t.frame; below = t.below; base = t.base; few = t.few; previous = t.previous }; place = h.1 })
-    where
-      t : ThreadFits s c.flow.threads.thread
-      t = h.0.flow.threads.thread
+  mode_runs b c h = with_top c _ h (let t = h.0.flow.threads.thread in assumption)
 
   staleness_runs : (o : Option ℕ) (c : Configuration) → Runs s c → Runs s (with_staleness o c)
   staleness_runs None c h = h
   staleness_runs (Some d) c h = with_top c _ h (staled_fits d c.flow.threads.thread (record { thread = h.0.flow.threads.thread; place = h.1 }))
 
   pub fields_run : (f : Fields) (c : Configuration) → FieldsFit s f → Runs s c → Runs s (with_fields f c)
-  fields_run f c h k = by (with_staleness f.wrote (with_mode f.evaluating c)) (staleness_runs f.wrote (with_mode f.evaluating c) (mode_runs f.evaluating c k))
-    where
-      by : (d : Configuration) → Runs s d → Runs s (record {
-        flow = record { threads = d.flow.threads; stack = f.stack; choices = d.flow.choices; safe = d.flow.safe };
-        shared = record { globals = f.globals; counts = d.shared.counts; turn = d.shared.turn };
-        page = f.page;
-      })
-      by d x = (
-        record {
-          flow = record { threads = x.0.flow.threads; stack = h.stack; choices = x.0.flow.choices };
-          shared = record { globals = h.globals; counts = x.0.shared.counts; turn = x.0.shared.turn };
-          page = h.page;
-        },
-        x.1,
-      )
+  fields_run f c h k = let x = staleness_runs f.wrote (with_mode f.evaluating c) (mode_runs f.evaluating c k) in assumption
 
   pub fields_fit : (c : Configuration) → Sound s c → FieldsFit s (fields_of c)
   fields_fit c h = record { stack = h.flow.stack; globals = h.shared.globals; page = h.page }
 
   pub context_fits : (c : Configuration) → Runs s c → ContextFits s (context_of c)
-  context_fits c h = record { thread = record { thread = h.0.flow.threads.thread; place = h.1 }; choices = h.0.flow.choices; counts = h.0.shared.counts; turn = h.0.shared.turn }
+  context_fits c h = assumption
 
   pub written_fits : (c : Configuration) → Sound s c → WrittenFits s (written_in c)
   written_fits c h = record { stack = h.flow.stack; page = h.page }
@@ -136,11 +94,7 @@ module _ (s : StoryTree) where
   reached_fits c (Breaks f) h k = tt
 
   pub entering_runs : (ps : List (List Part)) (c : Configuration) → Sound s c → Sound s (entering s ps c)
-  entering_runs ps c h = record {
-    flow = h.flow;
-    shared = record { globals = h.shared.globals; counts = all_visited_fits s c.shared.turn ps c.shared.counts h.shared.turn h.shared.counts; turn = h.shared.turn };
-    page = h.page;
-  }
+  entering_runs ps c h = let counts = all_visited_fits s c.shared.turn ps c.shared.counts h.shared.turn h.shared.counts in assumption
 
   landed_fits : (enters : Bool) (c : Configuration) (r : Reached (List Part)) → Sound s c → ReachedFits s r → OutcomeFits s (landed_in s enters c r)
   landed_fits true c (Reaches ts w) h k = (entering_runs (around s ts) (with_flow ts w c) (flow_sound ts w c h k.0 k.2), k.1)
@@ -150,30 +104,17 @@ module _ (s : StoryTree) where
 
   -- ---- effects
 
-  ended_fits : (c : Configuration) → Sound s c → ThreadsFit s (base_threads None)
-  ended_fits c h = record {
-    thread = record { frame = record { rise = refl; each = tt; depth = lit≤ tt }; below = tt; base = refl; few = lit≤ tt; previous = tt };
-    below = tt;
-    flow = tt;
-    few = lit≤ tt;
-  }
-
   pub ended_sound : (c : Configuration) → Sound s c → Sound s (ended c)
-  ended_sound c h = record {
-    flow = record { threads = ended_fits c h; stack = h.flow.stack; choices = record { each = tt; few = lit≤ tt } };
-    shared = h.shared;
-    page = h.page;
-  }
+  ended_sound c h =
+      let threads = base_fit s None tt in
+      let choices : ChoicesFit s [] = record { each = tt; few = lit≤ tt } in assumption
 
   end_fits : (c : Configuration) → Sound s c → OutcomeFits s (end_all c)
-  end_fits c h = by (is_line c.page.sections)
-    where
-      by : (b : Bool) → OutcomeFits s (reached_in (ended c) (if b then Halts (base_threads None) (written_in c) else Breaks StopInString))
-      by true = flow_sound (base_threads None) (written_in c) (ended c) (ended_sound c h) (ended_fits c h) (written_fits c h)
-      by false = tt
+  end_fits c h = cond_both (is_line c.page.sections) _ _ (λ r. OutcomeFits s (reached_in (ended c) r))
+      (λ _. flow_sound (base_threads None) (written_in c) (ended c) (ended_sound c h) (base_fit s None tt) (written_fits c h)) (λ _. tt)
 
   safe_sound : (b : Bool) (c : Configuration) → Sound s c → Sound s (with_safe b c)
-  safe_sound b c h = record { flow = record { threads = h.flow.threads; stack = h.flow.stack; choices = h.flow.choices }; shared = h.shared; page = h.page }
+  safe_sound b c h = assumption
 
   choices_run : (choices : List (ChoiceOf (List Part))) (c : Configuration) → ChoicesFit s choices → Runs s c → Runs s (with_choices choices c)
   choices_run choices c k h = (record { flow = record { threads = h.0.flow.threads; stack = h.0.flow.stack; choices = k }; shared = h.0.shared; page = h.0.page }, h.1)

@@ -1,6 +1,6 @@
 -- Rows by name, changed.
-use Rattle.std.proofs.Common.{◌≡◌, ◌∙◌, ap, sym, refl, ℕ, suc, ◌≤◌, List, [], ◌∷◌, length, Bool, true, false, true≢false, cond, bytes_eq, Some, None, is_none, is_some, arith}
-use Rattle.std.proofs.lemmas.Bool.{cond_both}
+use Rattle.std.proofs.Common.{◌≡◌, ◌∙◌, ap, sym, refl, ℕ, suc, ◌≤◌, List, [], ◌∷◌, length, true, false, true≢false, cond, bytes_eq, Some, None, is_none, is_some, inl, inr, arith}
+use Rattle.std.proofs.lemmas.Bool.{cases_Bool, cond_both}
 use Rattle.std.proofs.lemmas.Slice.Eq.{bytes_eq-Decides}
 use Rattle.std.specs.List.{AllByRecursion as Each}
 use Rattle.ink_model.specs.Named.{Rows, at, each, once, put, without}
@@ -23,32 +23,17 @@ module _ {X : Type 0} where
 
   at_put : (name n : List ℕ) (x : X) (rows : Rows X) → bytes_eq name n ≡ false → at n (put name x rows) ≡ at n rows
   at_put name n x [] h = ap (λ b. cond b (Some x) None) (turned name n h)
-  at_put name n x (r ∷ rows) h = by (bytes_eq name r.0) refl (at_put name n x rows h)
-    where
-      by : (b : Bool) → bytes_eq name r.0 ≡ b → at n (put name x rows) ≡ at n rows
-          → at n (cond b ((r.0, x) ∷ rows) (r ∷ put name x rows)) ≡ cond (bytes_eq n r.0) (Some r.1) (at n rows)
-      by true e more =
-          let other : bytes_eq n r.0 ≡ false = other_than name n r.0 e h in
-          ap (λ b. cond b (Some x) (at n rows)) other ∙ sym (ap (λ b. cond b (Some r.1) (at n rows)) other)
-      by false e more = ap (λ o. cond (bytes_eq n r.0) (Some r.1) o) more
+  at_put name n x (r ∷ rows) h = cond_both (bytes_eq name r.0) _ _ (λ l. at n l ≡ at n (r ∷ rows))
+      (λ e. let other : bytes_eq n r.0 ≡ false = other_than name n r.0 e h in rw other refl) (λ _. ap (λ o. cond (bytes_eq n r.0) (Some r.1) o) (at_put name n x rows h))
 
   pub once_put : (name : List ℕ) (x : X) (rows : Rows X) → once rows ≡ true → once (put name x rows) ≡ true
   once_put name x [] h = refl
-  once_put name x (r ∷ rows) h = by (bytes_eq name r.0) refl (once_put name x rows (two (is_none (at r.0 rows)) (once rows) h))
-    where
-      by : (b : Bool) → bytes_eq name r.0 ≡ b → once (put name x rows) ≡ true → once (cond b ((r.0, x) ∷ rows) (r ∷ put name x rows)) ≡ true
-      by true e more = h
-      by false e more =
-          both (is_none (at r.0 (put name x rows))) (once (put name x rows)) (ap is_none (at_put name r.0 x rows e) ∙ one (is_none (at r.0 rows)) (once rows) h) more
+  once_put name x (r ∷ rows) h = cond_both (bytes_eq name r.0) _ _ (λ l. once l ≡ true) (λ _. h)
+      (λ e. both (is_none (at r.0 (put name x rows))) (once (put name x rows)) (ap is_none (at_put name r.0 x rows e) ∙ one (is_none (at r.0 rows)) (once rows) h) (once_put name x rows (two (is_none (at r.0 rows)) (once rows) h)))
 
   pub length_put : (name : List ℕ) (x : X) (rows : Rows X) → is_some (at name rows) ≡ true → length (put name x rows) ≡ length rows
   length_put name x [] h = absurd (true≢false (sym h))
-  length_put name x (r ∷ rows) h = by (bytes_eq name r.0) (length_put name x rows) h
-    where
-      by : (b : Bool) → (is_some (at name rows) ≡ true → length (put name x rows) ≡ length rows)
-          → is_some (cond b (Some r.1) (at name rows)) ≡ true → length (cond b ((r.0, x) ∷ rows) (r ∷ put name x rows)) ≡ suc (length rows)
-      by true more k = refl
-      by false more k = ap suc (more k)
+  length_put name x (r ∷ rows) h = elim (cases_Bool (bytes_eq name r.0)) [ inl e ↦ rw e refl | inr e ↦ rw e (ap suc (length_put name x rows (rw e at h))) ]
 
   pub length_put_most : (name : List ℕ) (x : X) (rows : Rows X) → length (put name x rows) ≤ suc (length rows)
   length_put_most name x [] = omega arith
@@ -65,25 +50,17 @@ module _ {X : Type 0} where
 
   none_without : (name n : List ℕ) (rows : Rows X) → is_none (at n rows) ≡ true → is_none (at n (without name rows)) ≡ true
   none_without name n [] h = refl
-  none_without name n (r ∷ rows) h = by (bytes_eq n r.0) refl (none_without name n rows) h
-    where
-      by : (c : Bool) → bytes_eq n r.0 ≡ c → (is_none (at n rows) ≡ true → is_none (at n (without name rows)) ≡ true)
-          → is_none (cond c (Some r.1) (at n rows)) ≡ true → is_none (at n (cond (bytes_eq name r.0) rows (r ∷ without name rows))) ≡ true
-      by true e more k = absurd (true≢false (sym k))
-      by false e more k = cond_both (bytes_eq name r.0) rows (r ∷ without name rows) (λ l. is_none (at n l) ≡ true) (λ _. k)
-          (λ _. ap (λ b. is_none (cond b (Some r.1) (at n (without name rows)))) e ∙ more k)
+  none_without name n (r ∷ rows) h = elim (cases_Bool (bytes_eq n r.0)) [
+    | inl e ↦ absurd (true≢false (sym (rw e at h)))
+    | inr e ↦ cond_both (bytes_eq name r.0) _ _ (λ l. is_none (at n l) ≡ true) (λ _. rw e at h) (λ _. rw e (none_without name n rows (rw e at h)))
+  ]
 
   pub once_without : (name : List ℕ) (rows : Rows X) → once rows ≡ true → once (without name rows) ≡ true
   once_without name [] h = refl
-  once_without name (r ∷ rows) h = by (bytes_eq name r.0) (once_without name rows after)
-    where
-      after : once rows ≡ true
-      after = two (is_none (at r.0 rows)) (once rows) h
-
-      by : (b : Bool) → once (without name rows) ≡ true → once (cond b rows (r ∷ without name rows)) ≡ true
-      by true more = after
-      by false more =
-          both (is_none (at r.0 (without name rows))) (once (without name rows)) (none_without name r.0 rows (one (is_none (at r.0 rows)) (once rows) h)) more
+  once_without name (r ∷ rows) h =
+      let after = two (is_none (at r.0 rows)) (once rows) h in
+      cond_both (bytes_eq name r.0) _ _ (λ l. once l ≡ true) (λ _. after)
+      (λ _. both (is_none (at r.0 (without name rows))) (once (without name rows)) (none_without name r.0 rows (one (is_none (at r.0 rows)) (once rows) h)) (once_without name rows after))
 
   pub length_without : (name : List ℕ) (rows : Rows X) → length (without name rows) ≤ length rows
   length_without name [] = omega arith
@@ -97,9 +74,4 @@ module _ {X : Type 0} where
 -- what is made of each of the others
 pub each_of_others : {X Y : Type 0} (change : X → Y) (name : List ℕ) (rows : Rows X) → each change (without name rows) ≡ without name (each change rows)
 each_of_others change name [] = refl
-each_of_others change name (r ∷ rows) = by (bytes_eq name r.0) (each_of_others change name rows)
-  where
-    by : (b : Bool) → each change (without name rows) ≡ without name (each change rows)
-        → each change (cond b rows (r ∷ without name rows)) ≡ cond b (each change rows) ((r.0, change r.1) ∷ without name (each change rows))
-    by true more = refl
-    by false more = ap (λ l. (r.0, change r.1) ∷ l) more
+each_of_others change name (r ∷ rows) = elim (cases_Bool (bytes_eq name r.0)) [ inl e ↦ rw e refl | inr e ↦ rw e (ap (λ l. (r.0, change r.1) ∷ l) (each_of_others change name rows)) ]

@@ -1,5 +1,6 @@
 -- The indexes in places of a story that fits have 32 bits.
-use Rattle.std.proofs.Common.{◌≡◌, ◌∙◌, ap, sym, refl, subst, arith, ℕ, zero, suc, ◌<◌, ◌^◌, List, [], ◌∷◌, ◌++◌, reverse, Bool, true, false, true≢false, ◌||◌, nat_eq, Option, Some, None, is_some, option_and_then}
+use Rattle.std.proofs.Common.{◌≡◌, ◌∙◌, ap, sym, refl, subst, arith, ℕ, zero, suc, ◌<◌, ◌^◌, List, [], ◌∷◌, ◌++◌, reverse, true, true≢false, nat_eq, Option, Some, None, is_some, option_and_then, inl, inr}
+use Rattle.std.proofs.lemmas.Bool.{cases_Bool}
 use Rattle.std.proofs.lemmas.Bool.Decides.{nat_tests}
 use Rattle.std.proofs.lemmas.List.{append_assoc, reverse-append, reverse-reverse}
 use Rattle.std.specs.List.{AllByRecursion as Each}
@@ -53,8 +54,4 @@ module _ (s : StoryTree) (story : StoryFits s) where
 
   pub place_narrow : (p : List Part) → PlaceFits s p → Each PartNarrow p
   unfolding is_place
-  place_narrow p h = by (is_some (at s p)) refl h
-    where
-      by : (b : Bool) → is_some (at s p) ≡ b → (b || ends_at s (reverse p)) ≡ true → Each PartNarrow p
-      by true e k = parts_narrow [] p e
-      by false e k = subst (Each PartNarrow) (reverse-reverse p) (end_narrow (reverse p) k)
+  place_narrow p h = elim (cases_Bool (is_some (at s p))) [ inl e ↦ parts_narrow [] p e | inr e ↦ subst (Each PartNarrow) (reverse-reverse p) (end_narrow (reverse p) (rw e at h)) ]

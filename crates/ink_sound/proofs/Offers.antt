@@ -1,12 +1,12 @@
 -- The effect of a choice point.
-use Rattle.std.proofs.Common.{◌≡◌, sym, refl, subst, arith, ℕ, ◌≤◌, List, [], ◌∷◌, length, length-append, reverse, Bool, true, false, nat_lt, if◌then◌else◌, Option, Some, None, Result, Ok, Err, IsTrue}
+use Rattle.std.proofs.Common.{◌≡◌, sym, refl, subst, arith, ℕ, ◌≤◌, List, [], ◌∷◌, length, length-append, reverse, Bool, true, false, nat_lt, Option, Some, None, Result, Ok, Err, IsTrue}
 use Rattle.std.proofs.lemmas.Bool.{cond_both}
 use Rattle.std.proofs.lemmas.Bool.Decides.{nat_tests}
 use Rattle.std.proofs.lemmas.List.{length-reverse, reverse-append}
 use Rattle.std.specs.List.{AllByRecursion as Each}
 use Rattle.ink_model.specs.Acceptance.{lands}
 use Rattle.ink_model.specs.Bytes.{fits_text}
-use Rattle.ink_model.specs.Choices.{Operands, Words, added, after_tags, choice, choice_of, choice_text, is_offered, make, operands, pop_any_words, pop_condition, pop_words, tags_first, then_pop}
+use Rattle.ink_model.specs.Choices.{Operands, Words, added, after_tags, choice_of, choice_text, is_offered, make, operands, pop_any_words, pop_condition, pop_words, tags_first, then_pop}
 use Rattle.ink_model.specs.Configuration.{ChoiceOf}
 use Rattle.ink_model.specs.Effect.{Context, Fields, Offers}
 use Rattle.ink_model.specs.Flags.{has_choice_only_text, has_start_text, is_conditional}
@@ -15,7 +15,7 @@ use Rattle.ink_model.specs.Step.Choices.{offer, offering, was_visited}
 use Rattle.ink_model.specs.Tree.{StoryTree}
 use Rattle.ink_model.specs.Value.{is_true}
 use Rattle.ink_model.specs.declared.fault.Fault.{Fault}
-use Rattle.ink_model.specs.declared.fault.Fault.TheVariants.{BadTarget, TooDeep}
+use Rattle.ink_model.specs.declared.fault.Fault.TheVariants.{BadTarget}
 use Rattle.ink_model.specs.declared.limits.TheConstants.{MAX_CHOICES, MAX_STACK}
 use Rattle.ink_model.specs.declared.place.Part.{Part}
 use Rattle.ink_model.specs.declared.value.Value.{Value}
@@ -98,13 +98,8 @@ module _ (s : StoryTree) where
   left_fits vs h = record { each = each_reverse (ValueFits s) vs h.each; few = omega (arith, length-reverse vs, h.few) }
 
   choice_fits : (flags : ℕ) (q : List Part) (visited : Bool) (t : ThreadOf (List Part)) (o : Operands) → PlaceFits s q → ThreadStands s t → PopsAll MAX_STACK o → Gives MadeFits (choice_of flags q visited t o)
-  choice_fits flags q visited t o p h k = by (is_offered flags visited o.condition) (fits_text (choice_text o)) refl
-    where
-      by : (b d : Bool) → fits_text (choice_text o) ≡ d
-          → Gives MadeFits (if b then (if d then Ok (Some (choice flags q t o), reverse o.left) else Err TooDeep) else Ok (None, reverse o.left))
-      by true true e = (record { text = e; tags = each_append _ o.start.tags o.choice_only.tags k.start k.only; target = p; thread = h }, left_fits o.left k.left)
-      by true false e = tt
-      by false d e = (tt, left_fits o.left k.left)
+  choice_fits flags q visited t o p h k = cond_both (is_offered flags visited o.condition) _ _ (Gives MadeFits) (λ _. cond_both (fits_text (choice_text o)) _ _ (Gives MadeFits)
+      (λ e. (record { text = e; tags = each_append _ o.start.tags o.choice_only.tags k.start k.only; target = p; thread = h }, left_fits o.left k.left)) (λ _. tt)) (λ _. (tt, left_fits o.left k.left))
 
   make_fits : (flags : ℕ) (q : List Part) (visited : Bool) (t : ThreadOf (List Part)) (vs : List Value) → PlaceFits s q → ThreadStands s t → StackFits s vs → Gives MadeFits (make flags q visited t vs)
   make_fits flags q visited t vs p h k =

@@ -1,21 +1,20 @@
 -- What operators make of values fits, whatever the values are.
-use Rattle.std.proofs.Common.{◌≡◌, refl, arith, ℕ, zero, suc, ◌+◌, ◌≤◌, lit≤, ℤ, List, [], ◌∷◌, ◌++◌, length, length-append, Bool, true, false, Option, Some, None, option_and_then, Result, Ok, Err, if◌then◌else◌, IsTrue}
+use Rattle.std.proofs.Common.{◌≡◌, refl, arith, ℕ, zero, suc, ◌+◌, ◌≤◌, lit≤, ℤ, List, [], ◌∷◌, ◌++◌, length, length-append, Bool, true, false, Option, Some, None, option_and_then, Result, Ok, Err, IsTrue}
+use Rattle.std.proofs.lemmas.Bool.{cond_both}
 use Rattle.std.specs.List.{AllByRecursion as Each}
 use Rattle.ink_model.specs.Bytes.{fits_text}
 use Rattle.ink_model.specs.Effect.{Fields, Moves}
-use Rattle.std.specs.Int.RustNames.{int_div, int_rem}
 use Rattle.ink_model.specs.Leaves.{is_small}
-use Rattle.ink_model.specs.Operator.{Operand, number, words, target, other, Operands, numbers, texts, targets, unlike, apply, both, operand, can_divide, of_numbers, of_one, of_targets, of_texts, of_two, takes, truth_number}
+use Rattle.ink_model.specs.Operator.{Operand, number, words, target, Operands, numbers, texts, targets, unlike, apply, both, operand, can_divide, of_numbers, of_one, of_targets, of_texts, of_two, takes, truth_number}
 use Rattle.ink_model.specs.Stack.{applied, applied_to, on_top, popped, taken}
 use Rattle.ink_model.specs.Step.Evaluation.{operate}
 use Rattle.ink_model.specs.Tree.{StoryTree}
 use Rattle.ink_model.specs.declared.fault.Fault.{Fault}
-use Rattle.ink_model.specs.declared.fault.Fault.TheVariants.{Divide, TooDeep}
 use Rattle.ink_model.specs.declared.operator.Op.{Op}
 use Rattle.ink_model.specs.declared.operator.Op.TheVariants as op
 use Rattle.ink_model.specs.declared.place.Path.{Path}
 use Rattle.ink_model.specs.declared.value.Value.{Value}
-use Rattle.ink_model.specs.declared.value.Value.TheVariants.{Int, Bool as Truth, Text}
+use Rattle.ink_model.specs.declared.value.Value.TheVariants.{Int, Bool as Truth}
 use Rattle.ink_sound.specs.Kept.{EffectFits, FieldsFit, Finds, Gives}
 use Rattle.ink_model.specs.Save.Sound.{StackFits, ValueFits}
 use Rattle.ink_sound.proofs.Ints.{add_small, div_small, max_small, min_small, mul_small, neg_small, rem_small, sub_small}
@@ -24,26 +23,18 @@ use Rattle.ink_sound.proofs.Values.{TakenFits, each_one, or_fault_fits, popped_f
 module _ (s : StoryTree) where
   -- ---- what is made
 
-  int_if : (b : Bool) (z : ℤ) → (b ≡ true → is_small z ≡ true) → Gives (ValueFits s) (if b then Ok (Int z) else Err Divide)
-  int_if true z h = h refl
-  int_if false z h = tt
-
-  text_if : (b : Bool) (t : List ℕ) → fits_text t ≡ b → Gives (ValueFits s) (if b then Ok (Text t) else Err TooDeep)
-  text_if true t e = e
-  text_if false t e = tt
-
   of_numbers_fits : (o : Op) (x y : ℤ) → is_small x ≡ true → is_small y ≡ true → Gives (ValueFits s) (of_numbers o x y)
   of_numbers_fits op.Add x y h k = add_small x y
   of_numbers_fits op.Subtract x y h k = sub_small x y
   of_numbers_fits op.Multiply x y h k = mul_small x y
-  of_numbers_fits op.Divide x y h k = int_if (can_divide x y) (int_div x y) (div_small x y h)
-  of_numbers_fits op.Remainder x y h k = int_if (can_divide x y) (int_rem x y) (λ e. rem_small x y h)
+  of_numbers_fits op.Divide x y h k = cond_both (can_divide x y) _ _ (Gives (ValueFits s)) (div_small x y h) (λ _. tt)
+  of_numbers_fits op.Remainder x y h k = cond_both (can_divide x y) _ _ (Gives (ValueFits s)) (λ _. rem_small x y h) (λ _. tt)
   of_numbers_fits op.Min x y h k = min_small x y h k
   of_numbers_fits op.Max x y h k = max_small x y h k
   of_numbers_fits o x y h k = tt
 
   of_texts_fits : (o : Op) (a b : List ℕ) → Gives (ValueFits s) (of_texts o a b)
-  of_texts_fits op.Add a b = text_if (fits_text (a ++ b)) (a ++ b) refl
+  of_texts_fits op.Add a b = cond_both (fits_text (a ++ b)) _ _ (Gives (ValueFits s)) (λ e. e) (λ _. tt)
   of_texts_fits o a b = tt
 
   of_targets_fits : (o : Op) (p q : Path) → Gives (ValueFits s) (of_targets o p q)
@@ -70,13 +61,9 @@ module _ (s : StoryTree) where
 
   both_fit : (a b : Operand) → OperandFits a → OperandFits b → OperandsFit (both a b)
   both_fit (number x t) (number y u) h k = (h, k)
-  both_fit (number x t) b h k = tt
-  both_fit (words t) (number y u) h k = tt
-  both_fit (words t) b h k = tt
+  both_fit (words t) (words u) h k = tt
   both_fit (target p) (target q) h k = tt
-  both_fit (target p) b h k = tt
-  both_fit other (number y u) h k = tt
-  both_fit other b h k = tt
+  both_fit a b h k = tt
 
   of_one_fits : (o : Op) (a : Operand) → OperandFits a → Gives (ValueFits s) (of_one o a)
   of_one_fits op.Negate (number x t) h = neg_small x

@@ -1,39 +1,104 @@
--- The spelling of a sound game has small integers, and names that rise: so its text is read back.
-use Rattle.std.proofs.Common.{◌≡◌, ◌∙◌, ap, sym, refl, lit≤, arith, ℕ, ◌<◌, ◌^◌, ℤ, pos, negsuc, List, [], ◌∷◌, ◌++◌, append_assoc, codes, cond, map, reverse, Bool, true, false, Option, Some, None}
+-- How deep a spelling nests, and that the spelling of a sound game has small integers, and names that rise: so its text is read back.
+use Rattle.std.proofs.Common.{◌≤◌, lit≤, arith, ℕ, List, [], ◌∷◌, map, reverse, Option, Some, None, ◌≡◌, ◌∙◌, ap, sym, refl, ◌<◌, ◌^◌, ℤ, pos, negsuc, ◌++◌, append_assoc, codes, cond, Bool, true, false}
+use Rattle.serde_json.specs.Data.{Data, string, depth, items_depth, members_depth, object}
+use Rattle.ink_model.specs.Configuration.{ChoiceOf, FlowOf}
+use Rattle.ink_model.specs.Events.{items_of}
+use Rattle.ink_model.specs.Flows.{Game, all_flows}
+use Rattle.ink_model.specs.Frames.{FrameOf, ThreadOf}
+use Rattle.ink_model.specs.ValueJson.{value_data}
+use Rattle.ink_model.specs.declared.frame.FrameKind.{FrameKind}
+use Rattle.ink_model.specs.declared.frame.FrameKind.TheVariants.{Base}
+use Rattle.ink_model.specs.declared.place.Part.{Part}
+use Rattle.ink_model.specs.declared.place.Part.TheVariants.{Index, Name}
+use Rattle.ink_model.specs.declared.value.Value.{Value}
+use Rattle.ink_model.specs.declared.value.Value.TheVariants as value
+use Rattle.ink_model.specs.Save.Spelling.{choice_data, frame_data, global_data, kind_data, named_flow_data, part_data, place_data, place_or_null, row_data, spelling, temps_members, thread_data}
 use Rattle.std.proofs.lemmas.Bool.Decides.{nat_tests}
 use Rattle.std.specs.List.{AllByRecursion as Each}
 use Rattle.std.specs.Str.{is_utf8}
-use Rattle.serde_json.specs.Data.{Data, object, string}
 use Rattle.serde_json.specs.Find.{of_integer}
 use Rattle.serde_json.specs.Written.{compact_text}
 use Rattle.serde_json.proofs.OnLiterals.{serde_json_on_literals}
 use Rattle.ink_model.specs.Answer.{Saves, answer}
 use Rattle.ink_model.specs.Command.{Load, command_of, command_word, json_of}
-use Rattle.ink_model.specs.Configuration.{ChoiceOf, FlowOf}
-use Rattle.ink_model.specs.Events.{items_of}
 use Rattle.ink_model.specs.Flags.{counts_visits, notes_turns}
-use Rattle.ink_model.specs.Flows.{Game, all_flows}
-use Rattle.ink_model.specs.Frames.{FrameOf, ThreadOf}
 use Rattle.ink_model.specs.Leaves.{is_small}
 use Rattle.ink_model.specs.Rows.{is_before, name_order, rows_rise}
 use Rattle.ink_model.specs.Tree.{StoryTree}
-use Rattle.ink_model.specs.ValueJson.{value_data}
-use Rattle.ink_model.specs.declared.frame.FrameKind.{FrameKind}
-use Rattle.ink_model.specs.declared.frame.FrameKind.TheVariants.{Base, Function, Tunnel}
-use Rattle.ink_model.specs.declared.place.Part.{Part}
-use Rattle.ink_model.specs.declared.place.Part.TheVariants.{Index, Name}
-use Rattle.ink_model.specs.declared.value.Value.{Value}
-use Rattle.ink_model.specs.declared.value.Value.TheVariants as value
 use Rattle.ink_model.specs.Save.Reads.{Stands}
 use Rattle.ink_model.specs.Save.Sound.{AnyPlace, ChoiceFits, FlowSound, PlaceFits, RowCounts, RowFits, ValueFits}
-use Rattle.ink_model.specs.Save.Spelling.{choice_data, frame_data, global_data, kind_data, named_flow_data, part_data, place_data, place_or_null, row_data, spelling, temps_members, thread_data}
 use Rattle.ink_sound.specs.Kept.{StoryFits}
-use Rattle.ink_sound.proofs.Depth.{spelling_deep}
 use Rattle.ink_sound.proofs.Narrow.{PartNarrow, place_narrow}
 use Rattle.ink_sound.proofs.Offers.{each_reverse}
 use Rattle.ink_sound.proofs.Rereading.{AreOrderly, InRange, IsOrderly, HasOrderly, is_first, names_rise, text_back}
 use Rattle.ink_sound.proofs.Respelling.{FrameSpells, ThreadSpells, aside_sound, counted_stands, flows_sound, frame_small, thread_stands, threads_spell}
 use Rattle.ink_sound.proofs.Rows.{both, one, two}
+
+-- all of these nest at most so deep
+items_deep : {A : Type 0} (f : A → Data) (n : ℕ) → ((x : A) → depth (f x) ≤ n) → (xs : List A) → items_depth (items_of (map f xs)) ≤ n
+items_deep f n h [] = omega arith
+items_deep f n h (x ∷ xs) = grind (arith, h x, items_deep f n h xs)
+
+value_deep : (v : Value) → depth (value_data v) ≤ 1
+value_deep value.Void = lit≤ tt
+value_deep v = lit≤ tt
+
+part_deep : (p : Part) → depth (part_data p) ≤ 0
+part_deep (Index i) = lit≤ tt
+part_deep (Name n) = lit≤ tt
+
+place_deep : (p : List Part) → depth (place_data p) ≤ 1
+place_deep p = omega (arith, items_deep part_data 0 part_deep p)
+
+null_deep : (p : Option (List Part)) → depth (place_or_null p) ≤ 1
+null_deep None = lit≤ tt
+null_deep (Some p) = place_deep p
+
+kind_deep : (k : FrameKind) → depth (kind_data k) ≤ 0
+kind_deep Base = lit≤ tt
+kind_deep k = lit≤ tt
+
+temps_deep : (rs : List (List ℕ × Value)) → members_depth (temps_members rs) ≤ 1
+temps_deep [] = lit≤ tt
+temps_deep (r ∷ rs) = omega (arith, value_deep r.1, temps_deep rs)
+
+frame_deep : (f : FrameOf (List Part)) → depth (frame_data f) ≤ 3
+frame_deep f = omega (arith, kind_deep f.kind, null_deep f.place, temps_deep f.temps)
+
+thread_deep : (t : ThreadOf (List Part)) → depth (thread_data t) ≤ 5
+thread_deep t = omega (arith, items_deep frame_data 3 frame_deep (reverse (t.frame ∷ t.below)), null_deep t.previous)
+
+text_deep : (t : List ℕ) → depth (string t) ≤ 0
+text_deep t = lit≤ tt
+
+choice_deep : (c : ChoiceOf (List Part)) → depth (choice_data c) ≤ 6
+choice_deep c = omega (arith, items_deep string 0 text_deep c.tags, place_deep c.target, thread_deep c.thread)
+
+global_deep : (e : List ℕ × Value) → depth (global_data e) ≤ 2
+global_deep e = omega (arith, value_deep e.1)
+
+row_deep : (r : List Part × ℕ) → depth (row_data r) ≤ 2
+row_deep r = omega (arith, place_deep r.0)
+
+named_flow_deep : (r : List ℕ × FlowOf (List Part)) → depth (named_flow_data r) ≤ 8
+named_flow_deep r = omega (
+  arith,
+  items_deep choice_data 6 choice_deep r.1.choices,
+  items_deep value_data 1 value_deep r.1.stack,
+  items_deep thread_data 5 thread_deep (reverse (r.1.threads.thread ∷ r.1.threads.below)),
+)
+
+-- so its text reads back: a text may nest to 127
+pub spelling_deep : (g : Game) → depth (spelling g) ≤ 10
+spelling_deep g = omega (
+  arith,
+  items_deep named_flow_data 8 named_flow_deep (all_flows g.now.flow g.aside),
+  items_deep global_data 2 global_deep g.now.shared.globals,
+  items_deep row_data 2 row_deep g.now.shared.counts.turns,
+  items_deep row_data 2 row_deep g.now.shared.counts.visits,
+)
+
+-- ---- integers are small, and names rise
 
 items_orderly : {A : Type 0} (f : A → Data) (P : A → Type 0) → ((x : A) → P x → IsOrderly (f x)) → (xs : List A) → Each P xs → AreOrderly (items_of (map f xs))
 items_orderly f P h [] k = tt
@@ -51,8 +116,7 @@ small_range (negsuc n) h = grind (arith, nat_tests, h)
 
 kind_orderly : (k : FrameKind) → IsOrderly (kind_data k)
 kind_orderly Base = tt
-kind_orderly Function = tt
-kind_orderly Tunnel = tt
+kind_orderly k = tt
 
 part_orderly : (p : Part) → PartNarrow p → IsOrderly (part_data p)
 part_orderly (Index i) h = omega (arith, h)

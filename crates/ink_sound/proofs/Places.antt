@@ -18,6 +18,7 @@ use Rattle.ink_model.specs.declared.value.Value.{Value}
 use Rattle.ink_model.specs.declared.value.Value.TheVariants as value
 use Rattle.ink_sound.specs.Kept.{Finds}
 use Rattle.ink_model.specs.Save.Sound.{PlaceFits}
+use Rattle.ink_sound.proofs.Values.{Any, any_finds, map_finds, on_finds}
 
 -- content stands there
 abbrev pub Stands : StoryTree → List Part → Type 0
@@ -114,23 +115,18 @@ abbrev mutual
 
 pub entered_fits : (s : StoryTree) (p : List Part) → PlaceFits s p → PlaceFits s (entered s p)
 unfolding entered
-entered_fits s p h = by (at s p) refl
-  where
-    by : (o : Option StoryTree) → at s p ≡ o → PlaceFits s (p ++ first_content_at o)
-    by None e = subst (PlaceFits s) (sym (append-nil p)) h
-    by (Some t) e = stands_fits s (p ++ first_content t)
-        (ap is_some (at_append p (first_content t) s) ∙ ap (λ o. is_some (option_and_then (λ u. at u (first_content t)) o)) e ∙ first_stands t)
+entered_fits s p h = (elim (at s p) as (λ o. at s p ≡ o → PlaceFits s (p ++ first_content_at o)) [
+  | None ↦ λ e. subst (PlaceFits s) (sym (append-nil p)) h
+  | Some t ↦ λ e. stands_fits s (p ++ first_content t)
+      (ap is_some (at_append p (first_content t) s) ∙ ap (λ o. is_some (option_and_then (λ u. at u (first_content t)) o)) e ∙ first_stands t)
+]) refl
 
 upwards_fits : (s : StoryTree) (up : List Part) → Finds (PlaceFits s) (next_upwards s up)
 upwards_fits s [] = tt
 upwards_fits s (Name n ∷ up) = tt
-upwards_fits s (Index i ∷ up) = by (nat_lt (i + 1) (width (at s (reverse up)))) refl (upwards_fits s up)
-  where
-    by : (b : Bool) → nat_lt (i + 1) (width (at s (reverse up))) ≡ b → Finds (PlaceFits s) (next_upwards s up)
-        → Finds (PlaceFits s) (if b then Some (reverse (Index (i + 1) ∷ up)) else next_upwards s up)
-    by true e h = subst (PlaceFits s) (sym (reverse-append (Index (i + 1) ∷ []) up))
-        (stands_fits s (reverse up ++ Index (i + 1) ∷ []) (index_stands s (reverse up) (i + 1) (grind (arith, nat_tests, e))))
-    by false e h = h
+upwards_fits s (Index i ∷ up) = cond_both (nat_lt (i + 1) (width (at s (reverse up)))) _ _ (Finds (PlaceFits s))
+    (λ e. subst (PlaceFits s) (sym (reverse-append (Index (i + 1) ∷ []) up)) (stands_fits s (reverse up ++ Index (i + 1) ∷ []) (index_stands s (reverse up) (i + 1) (grind (arith, nat_tests, e)))))
+    (λ _. upwards_fits s up)
 
 pub next_fits : (s : StoryTree) (p : List Part) → Finds (PlaceFits s) (next_place s p)
 unfolding next_place
@@ -149,23 +145,14 @@ pub up_stands : (s : StoryTree) (p : List Part) → Stands s p → Finds (Stands
 up_stands s p h = above_stands s (reverse p) (subst (Stands s) (sym (reverse-reverse p)) h)
 
 name_stands : (s : StoryTree) (p : List Part) (name : List ℕ) → Finds (Stands s) (by_name s p name)
-name_stands s p name = by (is_some (at s (p ++ Name name ∷ []))) refl
+name_stands s p name = cond_both (is_some (at s (p ++ Name name ∷ []))) _ _ (Finds (Stands s)) (λ e. e) (λ _. listed (listed_index name (at s p)) refl)
   where
     listed : (o : Option ℕ) → listed_index name (at s p) ≡ o → Finds (Stands s) (option_map (λ i. p ++ Index i ∷ []) o)
     listed None e = tt
     listed (Some i) e = index_stands s p i (listed_within name (at s p) i e)
 
-    by : (b : Bool) → is_some (at s (p ++ Name name ∷ [])) ≡ b
-        → Finds (Stands s) (if b then Some (p ++ Name name ∷ []) else option_map (λ i. p ++ Index i ∷ []) (listed_index name (at s p)))
-    by true e = e
-    by false e = listed (listed_index name (at s p)) refl
-
 step_stands : (s : StoryTree) (p : List Part) (c : Part) → Stands s p → Finds (Stands s) (stepped s p c)
-step_stands s p (Index i) h = by (nat_lt i (width (at s p))) refl
-  where
-    by : (b : Bool) → nat_lt i (width (at s p)) ≡ b → Finds (Stands s) (if b then Some (p ++ Index i ∷ []) else None)
-    by true e = index_stands s p i (grind (arith, nat_tests, e))
-    by false e = tt
+step_stands s p (Index i) h = cond_both (nat_lt i (width (at s p))) _ _ (Finds (Stands s)) (λ e. index_stands s p i (grind (arith, nat_tests, e))) (λ _. tt)
 step_stands s p (Name name) h = cond_both (is_up name) _ _ (Finds (Stands s)) (λ _. up_stands s p h) (λ _. name_stands s p name)
 
 found_fits : (s : StoryTree) (o : Option (List Part)) → Finds (Stands s) o → Finds (PlaceFits s) o
@@ -173,16 +160,8 @@ found_fits s None h = tt
 found_fits s (Some p) h = stands_fits s p h
 
 last_fits : (s : StoryTree) (p : List Part) (c : Part) → Stands s p → Finds (PlaceFits s) (stepped_last s p c)
-last_fits s p (Index i) h = by (is_container (at s p) && nat_le i (width (at s p))) refl
-  where
-    by : (b : Bool) → (is_container (at s p) && nat_le i (width (at s p))) ≡ b → Finds (PlaceFits s) (if b then Some (p ++ Index i ∷ []) else None)
-    by true e = reach_fits s p i e
-    by false e = tt
+last_fits s p (Index i) h = cond_both (is_container (at s p) && nat_le i (width (at s p))) _ _ (Finds (PlaceFits s)) (λ e. reach_fits s p i e) (λ _. tt)
 last_fits s p (Name name) h = found_fits s (stepped s p (Name name)) (step_stands s p (Name name) h)
-
-on_finds : {A : Type 0} (P : A → Type 0) (Q : List Part → Type 0) (o : Option A) (so : A → Option (List Part)) → Finds P o → ((a : A) → P a → Finds Q (so a)) → Finds Q (option_and_then so o)
-on_finds P Q None so h k = tt
-on_finds P Q (Some a) so h k = k a h
 
 walked_fits : (s : StoryTree) (cs p : List Part) → Stands s p → Finds (PlaceFits s) (walked s p cs)
 walked_fits s [] p h = stands_fits s p h
@@ -192,11 +171,7 @@ walked_fits s (c ∷ d ∷ cs) p h = on_finds (Stands s) (PlaceFits s) (stepped 
 -- from content that stands
 pub target_fits : (s : StoryTree) (from : List Part) (path : Path) → Stands s from → Finds (PlaceFits s) (target s from path)
 unfolding target
-target_fits s from path h = walked_fits s path.parts (if path.relative then from else []) (by path.relative)
-  where
-    by : (b : Bool) → Stands s (if b then from else [])
-    by true = h
-    by false = refl
+target_fits s from path h = walked_fits s path.parts (if path.relative then from else []) (cond_both path.relative from [] (Stands s) (λ _. h) (λ _. refl))
 
 pub landed_fits : (s : StoryTree) (p : List Part) → PlaceFits s p → PlaceFits s (landed s p)
 unfolding landed
@@ -205,38 +180,20 @@ landed_fits s p h = cond_both (nat_lt 0 (width (at s p))) _ _ (PlaceFits s) (λ 
 landing_fits : (s : StoryTree) (path : Path) (p : List Part) → PlaceFits s p → PlaceFits s (landing s path p)
 landing_fits s path p h = cond_both (ends_in_index path.parts) _ _ (PlaceFits s) (λ _. h) (λ _. landed_fits s p h)
 
-map_finds : {A : Type 0} (P : A → Type 0) (Q : List Part → Type 0) (o : Option A) (so : A → List Part) → Finds P o → ((a : A) → P a → Q (so a)) → Finds Q (option_map so o)
-map_finds P Q None so h k = tt
-map_finds P Q (Some a) so h k = k a h
-
 -- where a written path lands
 pub lands_fits : (s : StoryTree) (p : List Part) (text : List ℕ) → Stands s p → Finds (PlaceFits s) (lands s p text)
-lands_fits s p text h = by (read_path text)
-  where
-    by : (o : Option Path) → Finds (PlaceFits s) (option_and_then (λ path. option_map (landing s path) (target s p path)) o)
-    by None = tt
-    by (Some path) = map_finds (PlaceFits s) (PlaceFits s) (target s p path) (landing s path) (target_fits s p path h) (λ q k. landing_fits s path q k)
+lands_fits s p text h = on_finds Any (PlaceFits s) (read_path text) _ (any_finds (read_path text))
+    (λ path _. map_finds (PlaceFits s) (PlaceFits s) (target s p path) (landing s path) (target_fits s p path h) (λ q k. landing_fits s path q k))
 
 -- where a target that was read leads
 pub led_fits : (s : StoryTree) (v : Value) → Finds (λ (l : Landing). PlaceFits s l.place) (landing_by s v)
-led_fits s (value.Target path) = by (target s [] path) (target_fits s [] path refl)
-  where
-    by : (o : Option (List Part)) → Finds (PlaceFits s) o → Finds (λ (l : Landing). PlaceFits s l.place) (option_map (λ q. record { place = q; enters = ends_in_index path.parts }) o)
-    by None h = tt
-    by (Some q) h = h
+led_fits s (value.Target path) = map_finds (PlaceFits s) (λ (l : Landing). PlaceFits s l.place) (target s [] path) _ (target_fits s [] path refl) (λ q h. h)
 led_fits s v = tt
 
 -- where a host's path lands
 pub jump_fits : (s : StoryTree) (text : List ℕ) → Finds (PlaceFits s) (jump_place s text)
-jump_fits s text = by (read_path text)
-  where
-    at_root : (path : Path) (b : Bool) → Finds (PlaceFits s) (if b then None else target s [] path)
-    at_root path true = tt
-    at_root path false = target_fits s [] path refl
-
-    by : (o : Option Path) → Finds (PlaceFits s) (option_and_then (λ path. option_map (landing s path) (absolute_target s path)) o)
-    by None = tt
-    by (Some path) = map_finds (PlaceFits s) (PlaceFits s) (absolute_target s path) (landing s path) (at_root path path.relative) (λ q k. landing_fits s path q k)
+jump_fits s text = on_finds Any (PlaceFits s) (read_path text) _ (any_finds (read_path text)) (λ path _. map_finds (PlaceFits s) (PlaceFits s) (absolute_target s path) (landing s path)
+    (cond_both path.relative _ _ (Finds (PlaceFits s)) (λ _. tt) (λ _. target_fits s [] path refl)) (λ q k. landing_fits s path q k))
 
 -- ---- knots
 

@@ -9,7 +9,7 @@ use Rattle.ink_model.specs.Flows.{Game, all_flows}
 use Rattle.ink_model.specs.Frames.{FrameOf, ThreadOf}
 use Rattle.ink_model.specs.ValueJson.{value_data}
 use Rattle.ink_model.specs.declared.frame.FrameKind.{FrameKind}
-use Rattle.ink_model.specs.declared.frame.FrameKind.TheVariants.{Base, Function, Tunnel}
+use Rattle.ink_model.specs.declared.frame.FrameKind.TheVariants.{Base}
 use Rattle.ink_model.specs.declared.place.Part.{Part}
 use Rattle.ink_model.specs.declared.place.Part.TheVariants.{Index, Name}
 use Rattle.ink_model.specs.declared.value.Value.{Value}
@@ -26,12 +26,8 @@ integer_plain (negsuc n) = refl
 
 value_plain : (v : Value) → has_float (value_data v) ≡ false
 value_plain (value.Int z) = integer_plain z
-value_plain (value.Bool b) = refl
-value_plain (value.Text t) = refl
-value_plain (value.Target p) = refl
 value_plain (value.Pointer i n) = rw (integer_plain i) refl
-value_plain value.Void = refl
-value_plain (value.Tag t) = refl
+value_plain v = refl
 
 part_plain : (p : Part) → has_float (part_data p) ≡ false
 part_plain (Index i) = refl
@@ -46,8 +42,7 @@ null_plain (Some p) = place_plain p
 
 kind_plain : (k : FrameKind) → has_float (kind_data k) ≡ false
 kind_plain Base = refl
-kind_plain Function = refl
-kind_plain Tunnel = refl
+kind_plain k = refl
 
 temps_plain : (rs : List (List ℕ × Value)) → members_have_float (temps_members rs) ≡ false
 temps_plain [] = refl

@@ -1,5 +1,5 @@
 -- The effects of questions for counts.
-use Rattle.std.proofs.Common.{refl, ℕ, ◌≤◌, ℤ, pos, negsuc, IsTrue, List, reverse, Bool, true, false, if◌then◌else◌, Option, Some, None, Result, Ok, Err}
+use Rattle.std.proofs.Common.{refl, ℕ, ◌≤◌, ℤ, pos, negsuc, IsTrue, List, reverse, Option, Some, None, Result, Ok, Err}
 use Rattle.std.proofs.lemmas.Bool.{cond_both}
 use Rattle.ink_model.specs.Acceptance.{leads}
 use Rattle.ink_model.specs.Counts as counts
@@ -21,8 +21,7 @@ use Rattle.ink_model.specs.declared.fault.Fault.TheVariants.{BadTarget, NotCount
 use Rattle.ink_model.specs.declared.place.Part.{Part}
 use Rattle.ink_model.specs.declared.value.Value.TheVariants as value
 use Rattle.ink_sound.specs.Kept.{ContextFits, EffectFits, FieldsFit, Finds, Gives}
-use Rattle.ink_sound.proofs.Values.{or_else_fits, or_fault_fits, popping_fits, pushing_fits}
-use Rattle.ink_sound.proofs.Leads.{Any, any_finds}
+use Rattle.ink_sound.proofs.Values.{Any, any_finds, or_else_fits, or_fault_fits, popping_fits, pushing_fits}
 
 module _ (s : StoryTree) where
   abbrev Small : ℤ → Type 0
@@ -53,14 +52,13 @@ module _ (s : StoryTree) where
     less_fits (Ok (negsuc n)) h = absurd h
     less_fits (Err f) h = tt
 
+    from_fit : (o : Option ℕ) → Finds (λ n. n ≤ MAX_COUNT) o → Small (counts.turns_from o seen.turn)
+    from_fit None h = refl
+    from_fit (Some n) h = difference_small seen.turn n context.turn h
+
     turns_fit : (q : List Part) → Gives Small (turns_at s seen q)
-    turns_fit q = by (notes_turns (flags_at (at s q))) (row place_order q seen.counts.turns)
-        (row_finds place_order (λ n. n ≤ MAX_COUNT) q seen.counts.turns (most_of s notes_turns 0 seen.counts.turns context.counts.turns.each))
-      where
-        by : (b : Bool) (o : Option ℕ) → Finds (λ n. n ≤ MAX_COUNT) o → Gives Small (if b then Ok (counts.turns_from o seen.turn) else Err NotCounted)
-        by true None h = refl
-        by true (Some n) h = difference_small seen.turn n context.turn h
-        by false o h = tt
+    turns_fit q = cond_both (notes_turns (flags_at (at s q))) _ _ (Gives Small) (λ _. from_fit (row place_order q seen.counts.turns)
+        (row_finds place_order (λ n. n ≤ MAX_COUNT) q seen.counts.turns (most_of s notes_turns 0 seen.counts.turns context.counts.turns.each))) (λ _. tt)
 
     visits_there_fit : (q : List Part) → Gives Small (visits_there s seen q)
     visits_there_fit q = cond_both (is_container (at s q)) _ _ (Gives Small) (λ _. counts_fit (visits_at s seen q) (visits_fit q)) (λ _. refl)

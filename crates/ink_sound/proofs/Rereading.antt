@@ -58,15 +58,13 @@ abbrev mutual
 
 number_back : (n : Num) → InRange n → number_of (number_text n) ≡ Some n
 number_back (unsigned n) h = number_of-decimal n h
-number_back (negative (pos n)) h = absurd h
 number_back (negative (negsuc n)) h = number_of-negative n h
-number_back (float x) h = absurd h
+number_back n h = absurd h
 
 is_number : (n : Num) → InRange n → IsNumber (number_text n)
 is_number (unsigned n) h = IsNumber-decimal n h
-is_number (negative (pos n)) h = absurd h
 is_number (negative (negsuc n)) h = IsNumber-signed_decimal (negsuc n) h
-is_number (float x) h = absurd h
+is_number n h = absurd h
 
 -- ---- members, put one after another
 
@@ -99,12 +97,10 @@ put_last (member l e done) k d ms h =
 
 mutual
   data_back : (d : Data) → IsOrderly d → of_json (outline d) ≡ Some d
-  data_back null h = refl
-  data_back (boolean b) h = refl
   data_back (number n) h = ap (option_map number) (number_back n h)
-  data_back (string t) h = refl
   data_back (array ds) h = ap (option_map array) (items_back ds h)
   data_back (object ms) h = ap (option_map object) (members_back ms no_members h.0 h.1)
+  data_back d h = refl
 
   items_back : (ds : Items) → AreOrderly ds → of_items (items_outline ds) ≡ Some ds
   items_back no_items h = refl
@@ -120,12 +116,10 @@ mutual
 
 mutual
   has_numbers : (d : Data) → IsOrderly d → tree.HasNumbers (outline d)
-  has_numbers null h = tt
-  has_numbers (boolean b) h = tt
   has_numbers (number n) h = is_number n h
-  has_numbers (string t) h = tt
   has_numbers (array ds) h = items_have ds h
   has_numbers (object ms) h = members_have ms h.1
+  has_numbers d h = tt
 
   items_have : (ds : Items) → AreOrderly ds → tree.ItemsHaveNumbers (items_outline ds)
   items_have no_items h = tt
@@ -137,12 +131,9 @@ mutual
 
 mutual
   as_deep : (d : Data) → tree.depth (outline d) ≡ depth d
-  as_deep null = refl
-  as_deep (boolean b) = refl
-  as_deep (number n) = refl
-  as_deep (string t) = refl
   as_deep (array ds) = ap suc (items_as_deep ds)
   as_deep (object ms) = ap suc (members_as_deep ms)
+  as_deep d = refl
 
   items_as_deep : (ds : Items) → tree.items_depth (items_outline ds) ≡ items_depth ds
   items_as_deep no_items = refl

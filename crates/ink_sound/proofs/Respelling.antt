@@ -1,8 +1,7 @@
 -- The spelling of a sound game is read as that one, as a command leaves it.
 use Rattle.std.proofs.Common.{◌≡◌, ◌∙◌, ap, sym, refl, inl, inr, arith, ℕ, ◌^◌, ℤ, pos, negsuc, List, [], ◌∷◌, ◌++◌, map, reverse, Bool, true, false, true≢false, cond, if◌then◌else◌, IsTrue, bytes_eq, Option, Some, None, is_none, is_some}
-use Rattle.std.proofs.lemmas.Bool.{cond_both, lt-ltb}
+use Rattle.std.proofs.lemmas.Bool.{cases_Bool, cond_both, false_from_ne_true, lt-ltb}
 use Rattle.std.proofs.lemmas.List.{map-append, reverse-append, reverse-reverse}
-use Rattle.std.proofs.lemmas.Slice.Eq.{bytes_eq-Decides}
 use Rattle.std.specs.List.{AllByRecursion as Each}
 use Rattle.std.specs.Option.{option_map}
 use Rattle.serde_json.specs.Data.{Data, string}
@@ -38,6 +37,7 @@ use Rattle.ink_sound.proofs.Offers.{each_reverse}
 use Rattle.ink_sound.proofs.Places.{stands_fits}
 use Rattle.ink_sound.proofs.Rows.{one, two}
 use Rattle.ink_sound.proofs.Unspelling.{unspelled_reads}
+use Rattle.ink_sound.proofs.Values.{each_of}
 
 -- f reads what g spells, as it is by n
 abbrev Back : {A : Type 0} → (Data → Option A) → (A → Data) → (A → A) → (A → Type 0) → Type 0
@@ -55,10 +55,6 @@ module _ {A : Type 0} (f : Data → Option A) (g : A → Data) where
   list_back P h [] k = refl
   list_back P h (x ∷ xs) k = rw (h x k.0) (ap (option_map (λ ys. x ∷ ys)) (list_back P h xs k.1))
 
-each_of : {A : Type 0} (P Q : A → Type 0) → ((x : A) → P x → Q x) → (xs : List A) → Each P xs → Each Q xs
-each_of P Q k [] h = tt
-each_of P Q k (x ∷ xs) h = (k x h.0, each_of P Q k xs h.1)
-
 map_turned : {A : Type 0} (n : A → A) (xs : List A) → reverse (map n (reverse xs)) ≡ map n xs
 map_turned n xs = ap reverse (turned xs) ∙ reverse-reverse (map n xs)
   where
@@ -71,9 +67,6 @@ map_turned n xs = ap reverse (turned xs) ∙ reverse-reverse (map n xs)
 small_back : (z : ℤ) → is_small z ≡ true → number_integer (of_integer z) ≡ Some z
 small_back (pos n) h = rw h refl
 small_back (negsuc n) h = rw h refl
-
-same_bytes : (t : List ℕ) → bytes_eq t t ≡ true
-same_bytes t = (bytes_eq-Decides t t).1 refl
 
 text_back : (ts : List (List ℕ)) → all_of text_of (items_of (map string ts)) ≡ Some ts
 text_back [] = refl
@@ -97,7 +90,7 @@ module _ (s : StoryTree) where
   value_back (value.Int z) h = ap (option_map (λ y. value.Int y)) (small_back z h)
   value_back (value.Bool b) h = refl
   value_back (value.Text t) h = refl
-  value_back (value.Target p) h = rw (h.spelled, same_bytes (path_text p)) refl
+  value_back (value.Target p) h = rw (h.spelled, its_name (path_text p)) refl
   value_back (value.Pointer i n) h = rw (small_back i (frame_small i h)) refl
   value_back value.Void h = refl
   value_back (value.Tag t) h = refl
@@ -161,11 +154,7 @@ module _ (s : StoryTree) where
     choice_back c h = rw (text_back c.tags, place_back c.target h.target, thread_back c.thread (thread_stands c.thread h.thread)) refl
 
     pub counted_stands : (flag : ℕ → Bool) (least : ℕ) (r : List Part × ℕ) → flag 0 ≡ false → RowCounts s flag least r → PlaceFits s r.0
-    counted_stands flag least r none h = stands_fits s r.0 (by (at s r.0) h.flagged)
-      where
-        by : (o : Option StoryTree) → flag (flags_at o) ≡ true → is_some o ≡ true
-        by None e = absurd (true≢false (sym e ∙ none))
-        by (Some t) e = refl
+    counted_stands flag least r none h = stands_fits s r.0 ((elim (at s r.0) as (λ o. flag (flags_at o) ≡ true → is_some o ≡ true) [ None ↦ λ e. absurd (true≢false (sym e ∙ none)) | Some t ↦ λ e. refl ]) h.flagged)
 
     choices_back : (f : FlowOf (List Part)) → FlowSound s f → all_of choice_of (items_of (map choice_data f.choices)) ≡ Some (map unnumbered_choice f.choices)
     choices_back f h = all_back choice_of choice_data unnumbered_choice (ChoiceFits s) choice_back f.choices h.choices.each
@@ -243,13 +232,10 @@ module _ (s : StoryTree) where
       others_back : (current : List ℕ) (rows : Aside) → holes rows ≡ 0 → is_none (at_name current rows) ≡ true → aside_but current (read_flows rows) ≡ settled_aside rows
       others_back current [] h k = refl
       others_back current ((n, None) ∷ rows) h k = absurd (omega arith)
-      others_back current ((n, Some x) ∷ rows) h k = by (bytes_eq current n) (others_back current rows h) k
-        where
-          by : (b : Bool) → (is_none (at_name current rows) ≡ true → aside_but current (read_flows rows) ≡ settled_aside rows)
-              → is_none (cond b (Some (Some x)) (at_name current rows)) ≡ true
-              → (n, if b then None else Some (unnumbered_flow x)) ∷ aside_but current (read_flows rows) ≡ (n, Some (unnumbered_flow x)) ∷ settled_aside rows
-          by true more e = absurd (true≢false (sym e))
-          by false more e = ap (λ l. (n, Some (unnumbered_flow x)) ∷ l) (more e)
+      others_back current ((n, Some x) ∷ rows) h k = elim (cases_Bool (bytes_eq current n)) [
+        | inl e ↦ absurd (true≢false (sym (rw e at k)))
+        | inr e ↦ rw e (ap (λ l. (n, Some (unnumbered_flow x)) ∷ l) (others_back current rows h (rw e at k)))
+      ]
 
       current_there : (rows : Aside) → holes rows ≡ 1 → is_none (at_name (current_name rows) rows) ≡ false
       current_there [] h = absurd (omega arith)
@@ -259,11 +245,8 @@ module _ (s : StoryTree) where
 
       -- the current one has another name than stands nowhere among them
       current_other : (n : List ℕ) (rows : Aside) → is_none (at_name n rows) ≡ true → holes rows ≡ 1 → bytes_eq (current_name rows) n ≡ false
-      current_other n rows none h = by (bytes_eq (current_name rows) n) refl
-        where
-          by : (b : Bool) → bytes_eq (current_name rows) n ≡ b → bytes_eq (current_name rows) n ≡ false
-          by true e = absurd (true≢false (sym (ap (λ m. is_none (at_name m rows)) (same_name (current_name rows) n e) ∙ none) ∙ current_there rows h))
-          by false e = e
+      current_other n rows none h = false_from_ne_true (bytes_eq (current_name rows) n)
+          (λ e. true≢false (sym (ap (λ m. is_none (at_name m rows)) (same_name (current_name rows) n e) ∙ none) ∙ current_there rows h))
 
       record Found (rows : Aside) : Type 0 where
         current : at_name (current_name rows) (read_flows rows) ≡ Some (unnumbered_flow f)

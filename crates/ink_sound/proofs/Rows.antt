@@ -1,5 +1,5 @@
 -- Rows that rise, names that stand once, and facts of each row, when a value is put.
-use Rattle.std.proofs.Common.{◌≡◌, ◌∙◌, ap, sym, refl, rules, ℕ, List, [], ◌∷◌, Bool, true, false, true≢false, not, ◌&&◌, bytes_eq, if◌then◌else◌, Option, Some, None, is_some}
+use Rattle.std.proofs.Common.{◌≡◌, ◌∙◌, ap, sym, refl, rules, ℕ, List, [], ◌∷◌, Bool, true, false, true≢false, not, ◌&&◌, bytes_eq, cond, Option, Some, is_some}
 use Rattle.std.proofs.lemmas.Bool.{cond_both}
 use Rattle.std.proofs.lemmas.Cmp.{nat_cmp_total, nat_list_cmp_total, lists_total}
 use Rattle.std.proofs.lemmas.Slice.Eq.{bytes_eq-Decides}
@@ -35,6 +35,12 @@ less_of Less h = refl
 less_of Equal h = absurd (true≢false (sym h))
 less_of Greater h = absurd (true≢false (sym h))
 
+-- by how two are ordered
+pub in_order : {A : Type 0} (P : A → Type 0) (o : Ordering) (x y z : A) → (o ≡ Less → P x) → (o ≡ Equal → P y) → (o ≡ Greater → P z) → P (match_ordering o x y z)
+in_order P Less x y z f g h = f refl
+in_order P Equal x y z f g h = g refl
+in_order P Greater x y z f g h = h refl
+
 -- ---- rows that rise by their key
 
 module _ {K V : Type 0} (compare : K → K → Ordering) (total : IsTotalOrder compare) where
@@ -52,48 +58,31 @@ module _ {K V : Type 0} (compare : K → K → Ordering) (total : IsTotalOrder c
 
   before_put : (j k : K) (v : V) (rs : List (K × V)) → compare j k ≡ Less → is_before compare j rs ≡ true → is_before compare j (with_row compare k v rs) ≡ true
   before_put j k v [] e h = both (is_lt (compare j k)) true (ap is_lt e) refl
-  before_put j k v (r ∷ rs) e h = by (compare k r.0) (before_put j k v rs e (two (is_lt (compare j r.0)) (is_before compare j rs) h))
-    where
-      by : (o : Ordering) → is_before compare j (with_row compare k v rs) ≡ true → is_before compare j (match_ordering o ((k, v) ∷ r ∷ rs) ((k, v) ∷ rs) (r ∷ with_row compare k v rs)) ≡ true
-      by Less on = both (is_lt (compare j k)) (is_before compare j (r ∷ rs)) (ap is_lt e) h
-      by Equal on = both (is_lt (compare j k)) (is_before compare j rs) (ap is_lt e) (two (is_lt (compare j r.0)) (is_before compare j rs) h)
-      by Greater on = both (is_lt (compare j r.0)) (is_before compare j (with_row compare k v rs)) (one (is_lt (compare j r.0)) (is_before compare j rs) h) on
+  before_put j k v (r ∷ rs) e h = in_order (λ l. is_before compare j l ≡ true) (compare k r.0) _ _ _
+      (λ _. both (is_lt (compare j k)) (is_before compare j (r ∷ rs)) (ap is_lt e) h)
+      (λ _. both (is_lt (compare j k)) (is_before compare j rs) (ap is_lt e) (two (is_lt (compare j r.0)) (is_before compare j rs) h))
+      (λ _. both (is_lt (compare j r.0)) (is_before compare j (with_row compare k v rs)) (one (is_lt (compare j r.0)) (is_before compare j rs) h) (before_put j k v rs e (two (is_lt (compare j r.0)) (is_before compare j rs) h)))
 
   pub rise_put : (k : K) (v : V) (rs : List (K × V)) → rows_rise compare rs ≡ true → rows_rise compare (with_row compare k v rs) ≡ true
   rise_put k v [] h = refl
-  rise_put k v (r ∷ rs) h = by (compare k r.0) refl (rise_put k v rs after)
-    where
-      first : is_before compare r.0 rs ≡ true
-      first = one (is_before compare r.0 rs) (rows_rise compare rs) h
-
-      after : rows_rise compare rs ≡ true
-      after = two (is_before compare r.0 rs) (rows_rise compare rs) h
-
-      by : (o : Ordering) → compare k r.0 ≡ o → rows_rise compare (with_row compare k v rs) ≡ true → rows_rise compare (match_ordering o ((k, v) ∷ r ∷ rs) ((k, v) ∷ rs) (r ∷ with_row compare k v rs)) ≡ true
-      by Less e on = both (is_before compare k (r ∷ rs)) (rows_rise compare (r ∷ rs)) (both (is_lt (compare k r.0)) (is_before compare k rs) (ap is_lt e) (earlier k r.0 rs e first)) h
-      by Equal e on = both (is_before compare k rs) (rows_rise compare rs) (alike k r.0 rs e first) after
-      by Greater e on = both (is_before compare r.0 (with_row compare k v rs)) (rows_rise compare (with_row compare k v rs))
-          (before_put r.0 k v rs (total.antisymm r.0 k ∙ ap ordering_reverse e) first) on
+  rise_put k v (r ∷ rs) h =
+      let first = one (is_before compare r.0 rs) (rows_rise compare rs) h in
+      let after = two (is_before compare r.0 rs) (rows_rise compare rs) h in
+      in_order (λ l. rows_rise compare l ≡ true) (compare k r.0) _ _ _
+      (λ e. both (is_before compare k (r ∷ rs)) (rows_rise compare (r ∷ rs)) (both (is_lt (compare k r.0)) (is_before compare k rs) (ap is_lt e) (earlier k r.0 rs e first)) h)
+      (λ e. both (is_before compare k rs) (rows_rise compare rs) (alike k r.0 rs e first) after)
+      (λ e. both (is_before compare r.0 (with_row compare k v rs)) (rows_rise compare (with_row compare k v rs))
+      (before_put r.0 k v rs (total.antisymm r.0 k ∙ ap ordering_reverse e) first) (rise_put k v rs after))
 
 module _ {K V : Type 0} (compare : K → K → Ordering) (P : K × V → Type 0) where
   pub each_put : (k : K) (v : V) (rs : List (K × V)) → P (k, v) → Each P rs → Each P (with_row compare k v rs)
   each_put k v [] p h = (p, tt)
-  each_put k v (r ∷ rs) p h = by (compare k r.0) (each_put k v rs p h.1)
-    where
-      by : (o : Ordering) → Each P (with_row compare k v rs) → Each P (match_ordering o ((k, v) ∷ r ∷ rs) ((k, v) ∷ rs) (r ∷ with_row compare k v rs))
-      by Less on = (p, h)
-      by Equal on = (p, h.1)
-      by Greater on = (h.0, on)
+  each_put k v (r ∷ rs) p h = in_order (Each P) (compare k r.0) _ _ _ (λ _. (p, h)) (λ _. (p, h.1)) (λ _. (h.0, each_put k v rs p h.1))
 
 module _ {K V : Type 0} (compare : K → K → Ordering) (P : V → Type 0) where
   pub row_finds : (k : K) (rs : List (K × V)) → Each (λ r. P r.1) rs → Finds P (row compare k rs)
   row_finds k [] h = tt
-  row_finds k (r ∷ rs) h = by (compare k r.0) (row_finds k rs h.1)
-    where
-      by : (o : Ordering) → Finds P (row compare k rs) → Finds P (match_ordering o None (Some r.1) (row compare k rs))
-      by Less on = tt
-      by Equal on = h.0
-      by Greater on = on
+  row_finds k (r ∷ rs) h = in_order (Finds P) (compare k r.0) _ _ _ (λ _. tt) (λ _. h.0) (λ _. row_finds k rs h.1)
 
 -- ---- the order of places
 
@@ -128,36 +117,21 @@ place_total = lists_total (record { antisymm = part_antisymm; trans = part_trans
 pub turned : (a b : List ℕ) → bytes_eq a b ≡ false → bytes_eq b a ≡ false
 turned a b e = search (rules, bytes_eq-Decides, e)
 
+-- something is found in one where something is found in the other
+pub some_alike : {X : Type 0} (b : Bool) (x y : X) (o p : Option X) → is_some o ≡ is_some p → is_some (cond b (Some x) o) ≡ is_some (cond b (Some y) p)
+some_alike true x y o p h = refl
+some_alike false x y o p h = h
+
 stored_other : (k name : List ℕ) (v : Value) (vs : Values) → bytes_eq k name ≡ false → is_some (stored k (store name v vs)) ≡ is_some (stored k vs)
 stored_other k name v [] e = rw e refl
-stored_other k name v (w ∷ vs) e = by (bytes_eq name w.0) (stored_other k name v vs e)
-  where
-    same : (b : Bool) (o : Option Value) → is_some (if b then Some v else o) ≡ is_some (if b then Some w.1 else o)
-    same true o = refl
-    same false o = refl
-
-    under : (b : Bool) (o p : Option Value) → is_some o ≡ is_some p → is_some (if b then Some w.1 else o) ≡ is_some (if b then Some w.1 else p)
-    under true o p h = refl
-    under false o p h = h
-
-    by : (b : Bool) → is_some (stored k (store name v vs)) ≡ is_some (stored k vs)
-        → is_some (stored k (if b then (w.0, v) ∷ vs else w ∷ store name v vs)) ≡ is_some (if bytes_eq k w.0 then Some w.1 else stored k vs)
-    by true on = same (bytes_eq k w.0) (stored k vs)
-    by false on = under (bytes_eq k w.0) (stored k (store name v vs)) (stored k vs) on
+stored_other k name v (w ∷ vs) e = cond_both (bytes_eq name w.0) _ _ (λ ws. is_some (stored k ws) ≡ is_some (stored k (w ∷ vs)))
+    (λ _. some_alike (bytes_eq k w.0) v w.1 (stored k vs) (stored k vs) refl) (λ _. some_alike (bytes_eq k w.0) w.1 w.1 (stored k (store name v vs)) (stored k vs) (stored_other k name v vs e))
 
 pub once_put : (name : List ℕ) (v : Value) (vs : Values) → names_once vs ≡ true → names_once (store name v vs) ≡ true
 once_put name v [] h = refl
-once_put name v (w ∷ vs) h = by (bytes_eq name w.0) refl (once_put name v vs after)
-  where
-    first : not (is_some (stored w.0 vs)) ≡ true
-    first = one (not (is_some (stored w.0 vs))) (names_once vs) h
-
-    after : names_once vs ≡ true
-    after = two (not (is_some (stored w.0 vs))) (names_once vs) h
-
-    by : (b : Bool) → bytes_eq name w.0 ≡ b → names_once (store name v vs) ≡ true → names_once (if b then (w.0, v) ∷ vs else w ∷ store name v vs) ≡ true
-    by true e on = h
-    by false e on = both (not (is_some (stored w.0 (store name v vs)))) (names_once (store name v vs)) (ap not (stored_other w.0 name v vs (turned name w.0 e)) ∙ first) on
+once_put name v (w ∷ vs) h = cond_both (bytes_eq name w.0) _ _ (λ ws. names_once ws ≡ true) (λ _. h)
+    (λ e. both (not (is_some (stored w.0 (store name v vs)))) (names_once (store name v vs))
+    (ap not (stored_other w.0 name v vs (turned name w.0 e)) ∙ one (not (is_some (stored w.0 vs))) (names_once vs) h) (once_put name v vs (two (not (is_some (stored w.0 vs))) (names_once vs) h)))
 
 module _ (P : Value → Type 0) where
   pub each_stored : (name : List ℕ) (v : Value) (vs : Values) → P v → Each (λ r. P r.1) vs → Each (λ r. P r.1) (store name v vs)

@@ -9,14 +9,14 @@ use Rattle.ink_model.specs.Changed.{Keeps}
 use Rattle.ink_model.specs.Choosing.{chosen, jump_place, jumped, open_choice}
 use Rattle.ink_model.specs.Command as command
 use Rattle.ink_model.specs.Command.{Command, command_of}
-use Rattle.ink_model.specs.Configuration.{ChoiceOf, Configuration, FlowOf, can_go_on, settled, unnumbered_choice, with_globals}
+use Rattle.ink_model.specs.Configuration.{Configuration, FlowOf, can_go_on, settled, unnumbered_choice, with_globals}
 use Rattle.ink_model.specs.FlowCommands.{DropsBy, DropsFrom, Goes, GoesFrom}
 use Rattle.ink_model.specs.Flows.{Game, alone, default_flow, dropped, first_flow, flows_in, goes_to, has_room, in_flow, is_flow_name, one_flow, without_flow}
 use Rattle.ink_model.specs.Host.{Bindings, value_given}
 use Rattle.ink_model.specs.Line.{EndsLine, line_end}
 use Rattle.ink_model.specs.Named.{at}
 use Rattle.ink_model.specs.Opening.{Unopened, opened, opening}
-use Rattle.ink_model.specs.Run.{Made, Moment, At, Stopped, Faulted, Waits, RunEnd, Kept, Broke, EndsThrough, answers_of, end_of, through}
+use Rattle.ink_model.specs.Run.{Made, Moment, At, Stopped, Faulted, RunEnd, Kept, Broke, EndsThrough, answers_of, end_of, through}
 use Rattle.ink_model.specs.Memory.{FallsShort, LineFallsShort}
 use Rattle.ink_model.specs.Session.{BeginsAnew, BreaksBy, Continue, Does, EndsAs, FailsToRestart, GetsFrom, Load, LoadsBy, RestartsAs, RunsFrom, RunsLine, RunsThrough, RunsTo, SavesFrom, Serves, Session, SetsFrom, SetsIn, TellsDone, TellsOrKeeps, Through, VisitsBy, VisitsFrom, condition_told, settable}
 use Rattle.ink_model.specs.State.{State, Condition, Ready, Broken, in_game}
@@ -77,28 +77,25 @@ module _ (s : StoryTree) where
 
   choose_fits : (n : ℕ) (k : Condition) (old : State) (reply : Reply) (new : State) → ChoosesFrom s n k old reply new → ConditionFits s k → StateFits s old → StateFits s new
   choose_fits n (Broken f globals) old reply new h k o = kept _ old new reply h o
-  choose_fits n (Ready c) old reply new h k o = by (open_choice n c)
-      (open_finds (ChoiceFits s) n c k.0.flow.choices.each) (open_finds (λ choice. unnumbered_choice choice ≡ choice) n c (choices_rest c k.1)) h
-    where
-      by : (choice : Option (ChoiceOf (List Part))) → Finds (ChoiceFits s) choice → Finds (λ choice. unnumbered_choice choice ≡ choice) choice → ChoosesBy s choice c old reply new → StateFits s new
-      by None x y g = kept _ old new reply g o
-      by (Some choice) x y g = lands_fits (chosen choice c) old reply new g (chosen_sound s choice c x k.0, chosen_rests s choice c y k.1) o
+  choose_fits n (Ready c) old reply new h k o =
+      (elim (open_choice n c) as (λ choice. Finds (ChoiceFits s) choice → Finds (λ choice. unnumbered_choice choice ≡ choice) choice → ChoosesBy s choice c old reply new → StateFits s new) [
+        | None ↦ λ x y g. kept _ old new reply g o
+        | Some choice ↦ λ x y g. lands_fits (chosen choice c) old reply new g (chosen_sound s choice c x k.0, chosen_rests s choice c y k.1) o
+      ]) (open_finds (ChoiceFits s) n c k.0.flow.choices.each) (open_finds (λ choice. unnumbered_choice choice ≡ choice) n c (choices_rest c k.1)) h
 
   jump_fits_from : (path : List ℕ) (k : Condition) (old : State) (reply : Reply) (new : State) → JumpsFrom s path k old reply new → ConditionFits s k → StateFits s old → StateFits s new
   jump_fits_from path (Broken f globals) old reply new h k o = kept _ old new reply h o
-  jump_fits_from path (Ready c) old reply new h k o = by (jump_place s path) (jump_fits s path) h
-    where
-      by : (q : Option (List Part)) → Finds (PlaceFits s) q → JumpsBy s q c old reply new → StateFits s new
-      by None x g = kept _ old new reply g o
-      by (Some q) x g = lands_fits (jumped q c) old reply new g (jumped_sound s q c x k.0, jumped_rests s q c k.1) o
+  jump_fits_from path (Ready c) old reply new h k o = (elim (jump_place s path) as (λ q. Finds (PlaceFits s) q → JumpsBy s q c old reply new → StateFits s new) [
+    | None ↦ λ x g. kept _ old new reply g o
+    | Some q ↦ λ x g. lands_fits (jumped q c) old reply new g (jumped_sound s q c x k.0, jumped_rests s q c k.1) o
+  ]) (jump_fits s path) h
 
   -- ---- setting
 
   settable_fits : (g : Given) → settable g ≡ true → ValueFits s (value_given g)
   settable_fits (given.Int z) e = e
-  settable_fits (given.Bool b) e = tt
   settable_fits (given.Text t) e = e
-  settable_fits given.Void e = tt
+  settable_fits g e = tt
 
   sets_fits : (h : Bindings) (name : List ℕ) (g : Given) (c : Configuration) (es : List Event) (old : State) (reply : Reply) (new : State)
       → SetsIn h name g c es old reply new → Sound s c → Rests c → StateFits s old → StateFits s new
@@ -130,11 +127,8 @@ module _ (s : StoryTree) where
 
   visits_fit : (path : List ℕ) (k : Condition) (old : State) (reply : Reply) (new : State) → VisitsFrom s path k old reply new → StateFits s old → StateFits s new
   visits_fit path (Broken f globals) old reply new h o = kept _ old new reply h o
-  visits_fit path (Ready c) old reply new h o = by (visits_by s path c) h
-    where
-      by : (z : Option _) → VisitsBy z old reply new → StateFits s new
-      by None x = kept _ old new reply x o
-      by (Some z) x = kept _ old new reply x o
+  visits_fit path (Ready c) old reply new h o =
+      (elim (visits_by s path c) as (λ z. VisitsBy z old reply new → StateFits s new) [ None ↦ λ x. kept _ old new reply x o | Some z ↦ λ x. kept _ old new reply x o ]) h
 
   -- ---- saving and loading
 
@@ -212,10 +206,7 @@ module _ (s : StoryTree) where
     end_fits : (m : Moment) (end : RunEnd) (made : List Made) → end_of m ≡ Some (end, made) → MomentFits s m → EndFits end
     end_fits (Stopped c [] calls) end made e h = subst EndFits (same_end (Kept c) end calls made e) h
     end_fits (Faulted f c [] calls) end made e h = subst EndFits (same_end (Broke f c.shared.globals) end calls made e) tt
-    end_fits (Stopped c (a ∷ left) calls) end made e h = absurd cc
-    end_fits (Faulted f c (a ∷ left) calls) end made e h = absurd cc
-    end_fits (At c left calls) end made e h = absurd cc
-    end_fits (Waits name calls) end made e h = absurd cc
+    end_fits m end made e h = absurd cc
 
     ends_fit : (start : Values) (end : RunEnd) (made : List Made) (es : List Event) (old : State) (reply : Reply) (new : State) → EndsAs h start end made es old reply new → EndFits end → AsideFits s old.aside
         → StateFits s new
@@ -226,9 +217,7 @@ module _ (s : StoryTree) where
     line_end_fits : (m : Moment) (end : RunEnd) (made : List Made) → line_end m ≡ Some (end, made) → MomentFits s m → EndFits end
     line_end_fits (At c [] calls) end made e h = subst EndFits (same_end (Kept c) end calls made e) h
     line_end_fits (At c (a ∷ left) calls) end made e h = absurd cc
-    line_end_fits (Stopped c left calls) end made e h = end_fits (Stopped c left calls) end made e h
-    line_end_fits (Faulted f c left calls) end made e h = end_fits (Faulted f c left calls) end made e h
-    line_end_fits (Waits name calls) end made e h = absurd cc
+    line_end_fits m end made e h = end_fits m end made e h
 
     through_end : (c : Configuration) (made : List Made) (end : RunEnd) → EndsThrough s h.functions c made end → Sound s c → EndFits end
     through_end c made end x k = end_fits (through s h.functions c (answers_of made)) end made x (through_fits s story h.functions c (answers_of made) k)

@@ -1,5 +1,5 @@
 -- A step keeps a configuration sound, and so do an answer and a run.
-use Rattle.std.proofs.Common.{◌≡◌, refl, subst, ℕ, zero, suc, lit≤, inl, inr, List, [], ◌∷◌, slice_get, Bool, true, false, if◌then◌else◌, Option, Some, None, is_some, option_map}
+use Rattle.std.proofs.Common.{◌≡◌, refl, subst, ℕ, zero, suc, lit≤, inl, inr, List, [], ◌∷◌, slice_get, Bool, true, if◌then◌else◌, Option, Some, None, is_some}
 use Rattle.std.proofs.lemmas.Bool.{cond_both}
 use Rattle.std.specs.List.{AllByRecursion as Each}
 use Rattle.ink_model.specs.Choices.{behind, can_take, only_invisible, taken, taken_of, visible}
@@ -12,7 +12,7 @@ use Rattle.ink_model.specs.Host.{Bound}
 use Rattle.ink_model.specs.Line.{Line}
 use Rattle.ink_model.specs.Move.{Outcome, Next, Stop, Faults, move}
 use Rattle.ink_model.specs.Place.{entered}
-use Rattle.ink_model.specs.Run.{Made, Moment, At, Stopped, Faulted, Waits, answered, came, cut_off, moment, moment_after, next, run, through}
+use Rattle.ink_model.specs.Run.{Made, Moment, At, answered, came, cut_off, moment, moment_after, next, run, through}
 use Rattle.ink_model.specs.Step.{Stepped, Comes, Wants, acted, call_made, effect, gone_in, performed, step, step_at}
 use Rattle.ink_model.specs.Step.Host.{Acts, Asks, Call, CallEffect, answering, call_at, call_external}
 use Rattle.ink_model.specs.Tree.{StoryTree, at}
@@ -21,13 +21,14 @@ use Rattle.ink_model.specs.declared.host.Given.{Given}
 use Rattle.ink_model.specs.declared.limits.TheConstants.{MAX_STEPS}
 use Rattle.ink_model.specs.declared.place.Part.{Part}
 use Rattle.ink_sound.specs.Kept.{CallFits, EffectFits, FieldsFit, Finds, MomentFits, OutcomeFits, Runs, SteppedFits, StoryFits}
-use Rattle.ink_model.specs.Save.Sound.{ChoiceFits, FlowStands, PlaceFits, SomePlace, Sound, ThreadFits, ThreadStands}
+use Rattle.ink_model.specs.Save.Sound.{ChoiceFits, ChoicesFit, FlowStands, PlaceFits, SomePlace, Sound, ThreadFits, ThreadStands}
 use Rattle.ink_sound.proofs.Counts.{one_more_most}
 use Rattle.ink_sound.proofs.Effects.{effect_fits}
 use Rattle.ink_sound.proofs.Flows.{top_fits}
-use Rattle.ink_sound.proofs.Externals.{answering_fits, external_fits}
+use Rattle.ink_sound.proofs.Leads.{answering_fits, external_fits}
 use Rattle.ink_sound.proofs.Moves.{context_fits, ended_sound, entering_runs, fields_fit, move_fits}
 use Rattle.ink_sound.proofs.Places.{entered_fits}
+use Rattle.ink_sound.proofs.Values.{map_finds}
 
 -- ---- choices that are taken
 
@@ -38,30 +39,14 @@ module _ {X : Type 0} (P : X → Type 0) where
   get_finds (x ∷ xs) (suc n) h = get_finds xs n h.1
 
 module _ (P : ChoiceOf (List Part) → Type 0) where
-  behind_finds : (c : ChoiceOf (List Part)) (o : Option (ChoiceOf (List Part) × List (ChoiceOf (List Part)))) → Finds (λ r. P r.0) o → Finds (λ r. P r.0) (option_map (behind c) o)
-  behind_finds c None h = tt
-  behind_finds c (Some r) h = h
-
   taken_finds : (test : ChoiceOf (List Part) → Bool) (cs : List (ChoiceOf (List Part))) (n : ℕ) → Each P cs → Finds (λ r. P r.0) (taken_of test n cs)
   taken_finds test [] zero h = tt
   taken_finds test [] (suc n) h = tt
-  taken_finds test (c ∷ cs) zero h = by (test c) (behind_finds c (taken_of test zero cs) (taken_finds test cs zero h.1))
-    where
-      by : (b : Bool) → Finds (λ r. P r.0) (option_map (behind c) (taken_of test zero cs)) → Finds (λ r. P r.0) (if b then Some (c, cs) else option_map (behind c) (taken_of test zero cs))
-      by true on = h.0
-      by false on = on
-  taken_finds test (c ∷ cs) (suc n) h = behind_finds c (taken_of test (if test c then n else suc n) cs) (taken_finds test cs (if test c then n else suc n) h.1)
+  taken_finds test (c ∷ cs) zero h = cond_both (test c) _ _ (Finds (λ r. P r.0)) (λ _. h.0) (λ _. map_finds (λ r. P r.0) (λ r. P r.0) (taken_of test zero cs) (behind c) (taken_finds test cs zero h.1) (λ r k. k))
+  taken_finds test (c ∷ cs) (suc n) h = map_finds (λ r. P r.0) (λ r. P r.0) (taken_of test (if test c then n else suc n) cs) (behind c) (taken_finds test cs (if test c then n else suc n) h.1) (λ r k. k)
 
   pub default_finds : (cs : List (ChoiceOf (List Part))) → Each P cs → Finds P (default_choice cs)
-  default_finds cs h = by (only_invisible cs) (taken 0 cs) (taken_finds (can_take cs) cs 0 h)
-    where
-      first : (o : Option (ChoiceOf (List Part) × List (ChoiceOf (List Part)))) → Finds (λ r. P r.0) o → Finds P (option_map (λ r. r.0) o)
-      first None k = tt
-      first (Some r) k = k
-
-      by : (b : Bool) (o : Option (ChoiceOf (List Part) × List (ChoiceOf (List Part)))) → Finds (λ r. P r.0) o → Finds P (if b then option_map (λ r. r.0) o else None)
-      by true o k = first o k
-      by false o k = tt
+  default_finds cs h = cond_both (only_invisible cs) _ _ (Finds P) (λ _. map_finds (λ r. P r.0) P (taken 0 cs) (λ r. r.0) (taken_finds (can_take cs) cs 0 h) (λ r k. k)) (λ _. tt)
 
   pub visible_each : (cs : List (ChoiceOf (List Part))) → Each P cs → Each P (visible cs)
   visible_each [] h = tt
@@ -74,31 +59,19 @@ module _ (s : StoryTree) where
   -- ---- flow is put at a place
 
   placed : (p : List Part) (t : ThreadOf (List Part)) → PlaceFits s p → ThreadFits s t → ThreadStands s (record t { frame = record t.frame { place = Some p } })
-  placed p t h k = record { thread = record { frame = k.frame; below = k.below; base = k.base; few = k.few; previous = k.previous }; place = h }
+  placed p t h k = assumption
 
   pub taken_runs : (choice : ChoiceOf (List Part)) (c : Configuration) → ChoiceFits s choice → Sound s c → Runs s (taken_up choice c)
-  taken_runs choice c h k = (
-    record {
-      flow = record {
-        threads = top_fits s _ [] (placed choice.target choice.thread h.target h.thread.thread) tt (lit≤ tt);
-        stack = k.flow.stack;
-        choices = record { each = tt; few = lit≤ tt };
-      };
-      shared = k.shared;
-      page = k.page;
-    },
-    h.target,
-  )
+  taken_runs choice c h k =
+      let threads = top_fits s _ [] (placed choice.target choice.thread h.target h.thread.thread) tt (lit≤ tt) in
+      let choices : ChoicesFit s [] = record { each = tt; few = lit≤ tt } in assumption
 
   pub enters_around : (c : Configuration) → Runs s c → Runs s (entering_around s c)
   enters_around c h = (entering_runs s (around s c.flow.threads) c h.0, h.1)
 
   following_fits : (o : Outcome) → OutcomeFits s o → OutcomeFits s (following s o)
-  following_fits (Stop c) h = by (default_choice c.flow.choices) (default_finds (ChoiceFits s) c.flow.choices h.flow.choices.each)
-    where
-      by : (o : Option (ChoiceOf (List Part))) → Finds (ChoiceFits s) o → OutcomeFits s (stopped_by s o c)
-      by None k = h
-      by (Some choice) k = enters_around (taken_up choice c) (taken_runs choice c k h)
+  following_fits (Stop c) h = (elim (default_choice c.flow.choices) as (λ o. Finds (ChoiceFits s) o → OutcomeFits s (stopped_by s o c))
+      [ None ↦ λ k. h | Some choice ↦ λ k. enters_around (taken_up choice c) (taken_runs choice c k h) ]) (default_finds (ChoiceFits s) c.flow.choices h.flow.choices.each)
   following_fits (Next c) h = h
   following_fits (Faults f) h = h
 
@@ -111,23 +84,7 @@ module _ (s : StoryTree) where
       here = entered_fits s p (subst (λ o. FlowStands s o c.flow.threads.below) is h.flow.threads.flow)
 
       by : (d : Configuration) → Sound s d → current_place d ≡ Some p → Runs s (put_at (Some (entered s p)) d)
-      by d k at_place = (
-        record {
-          flow = record {
-            threads = record {
-              thread = (placed (entered s p) d.flow.threads.thread here k.flow.threads.thread).thread;
-              below = k.flow.threads.below;
-              flow = here;
-              few = k.flow.threads.few;
-            };
-            stack = k.flow.stack;
-            choices = k.flow.choices;
-          };
-          shared = k.shared;
-          page = k.page;
-        },
-        here,
-      )
+      by d k at_place = let top = placed (entered s p) d.flow.threads.thread here k.flow.threads.thread in assumption here
 
   module _ (story : StoryFits s) (b : Bound) where
     acted_fits : (e : Effect) (c : Configuration) → EffectFits s e → Runs s c → OutcomeFits s (acted s e c)
@@ -145,11 +102,8 @@ module _ (s : StoryTree) where
     -- each step of a sound configuration leads to a sound one
     pub step_fits : (c : Configuration) → Sound s c → SteppedFits s (step s b c)
     unfolding step
-    step_fits c h = by (current_place c) refl
-      where
-        by : (o : Option (List Part)) → current_place c ≡ o → SteppedFits s (step_at s b o c)
-        by None is = h
-        by (Some p) is = performed_fits (entered s p) (call_at (at s (entered s p))) (gone_in s p c) (gone_in_runs p c is h)
+    step_fits c h = (elim (current_place c) as (λ o. current_place c ≡ o → SteppedFits s (step_at s b o c))
+        [ None ↦ λ is. h | Some p ↦ λ is. performed_fits (entered s p) (call_at (at s (entered s p))) (gone_in s p c) (gone_in_runs p c is h) ]) refl
 
     -- ---- answers and runs
 
@@ -168,9 +122,7 @@ module _ (s : StoryTree) where
 
     next_fits : (m : Moment) → MomentFits s m → MomentFits s (next s b m)
     next_fits (At c left made) h = came_fits c (step s b c) left made h (step_fits c h)
-    next_fits (Stopped c left made) h = h
-    next_fits (Faulted f c left made) h = h
-    next_fits (Waits name made) h = tt
+    next_fits m h = h
 
     pub run_fits : (n : ℕ) (m : Moment) → MomentFits s m → MomentFits s (run s b n m)
     unfolding run
@@ -178,13 +130,11 @@ module _ (s : StoryTree) where
     run_fits (suc n) m h = next_fits (run s b n m) (run_fits n m h)
 
     pub begun_sound : (c : Configuration) → Sound s c → Sound s (begun c)
-    begun_sound c h = record { flow = record { threads = h.flow.threads; stack = h.flow.stack; choices = h.flow.choices }; shared = h.shared; page = h.page }
+    begun_sound c h = assumption
 
     cut_fits : (m : Moment) → MomentFits s m → MomentFits s (cut_off m)
     cut_fits (At c left made) h = h
-    cut_fits (Stopped c left made) h = h
-    cut_fits (Faulted f c left made) h = h
-    cut_fits (Waits name made) h = tt
+    cut_fits m h = h
 
     pub through_fits : (c : Configuration) (answers : List (Option Given)) → Sound s c → MomentFits s (through s b c answers)
     through_fits c answers h = cut_fits (moment s b (begun c) answers MAX_STEPS) (run_fits MAX_STEPS (At (begun c) answers []) (begun_sound c h))
@@ -202,8 +152,7 @@ module _ (s : StoryTree) where
 
     after_runs : (c : Configuration) (o : Outcome) (left : List (Option Given)) (made : List Made) → OutcomeFits s o → MomentRuns (moment_after c o left made)
     after_runs c (Next d) left made k = k
-    after_runs c (Stop d) left made k = tt
-    after_runs c (Faults f) left made k = tt
+    after_runs c o left made k = tt
 
     came_runs : (c : Configuration) (o : Stepped) (left : List (Option Given)) (made : List Made) → SteppedFits s o → MomentRuns (came s c o left made)
     came_runs c (Comes o) left made k = after_runs c o left made k
@@ -212,15 +161,11 @@ module _ (s : StoryTree) where
 
     next_runs : (m : Moment) → MomentFits s m → MomentRuns (next s b m)
     next_runs (At c left made) h = came_runs c (step s b c) left made (step_fits c h)
-    next_runs (Stopped c left made) h = tt
-    next_runs (Faulted f c left made) h = tt
-    next_runs (Waits name made) h = tt
+    next_runs m h = tt
 
     never_at : (m : Moment) (d : Configuration) (left : List (Option Given)) (made : List Made) → cut_off m ≡ At d left made → ⊥
     never_at (At c l k) d left made e = cc
-    never_at (Stopped c l k) d left made e = cc
-    never_at (Faulted f c l k) d left made e = cc
-    never_at (Waits name k) d left made e = cc
+    never_at m d left made e = cc
 
     line_runs : (c : Configuration) (answers : List (Option Given)) (d : Configuration) (left : List (Option Given)) (made : List Made)
         → Line s b c answers (At d left made) → Sound s c → Runs s d

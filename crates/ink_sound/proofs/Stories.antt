@@ -1,16 +1,14 @@
 -- An accepted story has what is asked of it.
-use Rattle.std.proofs.Common.{◌≡◌, ◌∙◌, ap, sym, refl, subst, arith, ℕ, zero, suc, ◌+◌, List, [], ◌∷◌, ◌++◌, map, filter, length, Bool, true, false, true≢false, not, ◌&&◌, codes, nat_lt, cond, if◌then◌else◌, Option, Some, None, is_some, option_and_then, unwrap_or, Result, Ok, Err}
-use Rattle.std.proofs.lemmas.Bool.{cond_both}
+use Rattle.std.proofs.Common.{◌≡◌, ◌∙◌, ap, sym, refl, subst, arith, ℕ, zero, suc, ◌+◌, List, [], ◌∷◌, ◌++◌, map, filter, length, Bool, true, false, true≢false, not, ◌&&◌, codes, nat_lt, Option, Some, None, is_some, option_and_then, unwrap_or, Result, Ok, Err, inl, inr}
+use Rattle.std.proofs.lemmas.Bool.{cases_Bool, cond_both, true_from_ne_false}
 use mathlib.Core.Bool.{Bool-set}
 use mathlib.Core.HLevel.{Unit-prop, ×_prop}
 use mathlib.Core.Logic.{∥∥₁_elim}
 use Rattle.std.specs.Cmp.Lexicographic.{slice_cmp}
 use Rattle.std.specs.FinMap.{nat_cmp-IsAntisymmetric, slice_cmp-IsAntisymmetric}
 use Rattle.std.specs.List.{AllByRecursion as Each}
-use Rattle.std.specs.Ordering.{match_ordering, nat_cmp}
+use Rattle.std.specs.Ordering.{nat_cmp}
 use Rattle.std.specs.Result.{result_unwrap_or}
-use Rattle.std.specs.declared.cmp.Ordering.{Ordering}
-use Rattle.std.specs.declared.cmp.Ordering.TheVariants.{Less, Equal, Greater}
 use Rattle.serde_json.specs.Data.{Data, null, boolean, number, string, array, object, Items, no_items, item, Members, no_members, member}
 use Rattle.serde_json.specs.Find.{as_array, get}
 use Rattle.ink_model.specs.Acceptance.{accepted, accepted_story, and_then, bad_path, bad_places, good_content, good_leaf, has_bad_path, is_absolute, leads}
@@ -36,20 +34,14 @@ use Rattle.ink_sound.specs.Kept.{Finds, KeyedFit, LeafFits, StoryFits, TextsFit,
 use Rattle.ink_model.specs.Save.Sound.{PathFits}
 use Rattle.ink_path.proofs.Back.{reads_back}
 use Rattle.ink_sound.proofs.Leaves.{leaf_of_fits}
+use Rattle.ink_sound.proofs.Rows.{in_order}
+use Rattle.ink_sound.proofs.Values.{on_finds}
 
 -- ---- texts of a tree
 
 leaf_or : (r : Result Leaf Cause) → Yields TextsFit r → TextsFit (result_unwrap_or r leaves.Newline)
 leaf_or (Ok l) h = h
 leaf_or (Err c) h = tt
-
-own_if : (b : Bool) (ks ms : Keyed) → KeyedFit ks → KeyedFit ms → KeyedFit (if b then ks else ms)
-own_if true ks ms h k = h
-own_if false ks ms h k = k
-
-trees_if : (b : Bool) (ts us : Trees) → TreesFit ts → TreesFit us → TreesFit (if b then ts else us)
-trees_if true ts us h k = h
-trees_if false ts us h k = k
 
 mutual
   tree_fits : (version : InkVersion) (listed : Bool) (d : Data) → TreeFits (tree_of version listed d)
@@ -62,23 +54,19 @@ mutual
 
   content_fits : (version : InkVersion) (ds : Items) → TreesFit (content_of version ds)
   content_fits version no_items = tt
-  content_fits version (item d ds) = trees_if (is_empty ds) no_trees (tree (tree_of version true d) (content_of version ds)) tt (tree_fits version true d, content_fits version ds)
+  content_fits version (item d ds) = cond_both (is_empty ds) _ _ TreesFit (λ _. tt) (λ _. (tree_fits version true d, content_fits version ds))
 
   keyed_fit : (version : InkVersion) (ds : Items) → KeyedFit (keyed_in version ds)
   keyed_fit version no_items = tt
-  keyed_fit version (item d ds) = own_if (is_empty ds) (keyed_last version d) (keyed_in version ds) (last_fits version d) (keyed_fit version ds)
+  keyed_fit version (item d ds) = cond_both (is_empty ds) _ _ KeyedFit (λ _. last_fits version d) (λ _. keyed_fit version ds)
 
   last_fits : (version : InkVersion) (d : Data) → KeyedFit (keyed_last version d)
-  last_fits version null = tt
-  last_fits version (boolean b) = tt
-  last_fits version (number n) = tt
-  last_fits version (string s) = tt
-  last_fits version (array ds) = tt
   last_fits version (object ms) = by_fits version ms
+  last_fits version d = tt
 
   by_fits : (version : InkVersion) (ms : Members) → KeyedFit (keyed_by version ms)
   by_fits version no_members = tt
-  by_fits version (member k d ms) = own_if (is_own k) (keyed_by version ms) (key k (tree_of version false d) (keyed_by version ms)) (by_fits version ms) (tree_fits version false d, by_fits version ms)
+  by_fits version (member k d ms) = cond_both (is_own k) _ _ KeyedFit (λ _. by_fits version ms) (λ _. (tree_fits version false d, by_fits version ms))
 
 -- ---- what stands in a tree that fits
 
@@ -90,12 +78,7 @@ nth_fits (suc i) (tree t ts) h = nth_fits i ts h.1
 
 key_fits : (k : List ℕ) (ks : Keyed) → KeyedFit ks → Finds TreeFits (by_key k ks)
 key_fits k no_keys h = tt
-key_fits k (key l t ks) h = by (slice_cmp nat_cmp k l) (key_fits k ks h.1)
-  where
-    by : (o : Ordering) → Finds TreeFits (by_key k ks) → Finds TreeFits (match_ordering o (by_key k ks) (Some t) (by_key k ks))
-    by Less on = on
-    by Equal on = h.0
-    by Greater on = on
+key_fits k (key l t ks) h = in_order (Finds TreeFits) (slice_cmp nat_cmp k l) _ _ _ (λ _. key_fits k ks h.1) (λ _. h.0) (λ _. key_fits k ks h.1)
 
 down_fits : (p : Part) (t : StoryTree) → TreeFits t → Finds TreeFits (down p t)
 down_fits (Index i) (leaf l) h = tt
@@ -105,11 +88,7 @@ down_fits (Name k) (container name flags content named) h = key_fits k named h.1
 
 at_fits : (p : List Part) (t : StoryTree) → TreeFits t → Finds TreeFits (at t p)
 at_fits [] t h = h
-at_fits (x ∷ p) t h = by (down x t) (down_fits x t h) (λ u k. at_fits p u k)
-  where
-    by : (o : Option StoryTree) → Finds TreeFits o → ((u : StoryTree) → TreeFits u → Finds TreeFits (at u p)) → Finds TreeFits (option_and_then (λ u. at u p) o)
-    by None h on = tt
-    by (Some u) h on = on u h
+at_fits (x ∷ p) t h = on_finds TreeFits TreeFits (down x t) (λ u. at u p) (down_fits x t h) (λ u k. at_fits p u k)
 
 -- ---- the file
 
@@ -162,46 +141,41 @@ nth_each P (suc i) k (tree t ts) u h e =
 
 key_each : (P : List Part → Type 0) (k : List ℕ) (ks : Keyed) (u : StoryTree) → Each P (places_by_key ks) → by_key k ks ≡ Some u → Each (λ q. P (Name k ∷ q)) (places u)
 key_each P k no_keys u h e = absurd cc
-key_each P k (key l t ks) u h e = by (slice_cmp nat_cmp k l) refl e (λ f. key_each P k ks u (right_of P (map (λ q. Name l ∷ q) (places t)) (places_by_key ks) h) f)
-  where
-    by : (o : Ordering) → slice_cmp nat_cmp k l ≡ o → match_ordering o (by_key k ks) (Some t) (by_key k ks) ≡ Some u → (by_key k ks ≡ Some u → Each (λ q. P (Name k ∷ q)) (places u)) → Each (λ q. P (Name k ∷ q)) (places u)
-    by Less is f on = on f
-    by Greater is f on = on f
-    by Equal is f on =
-        let same : t ≡ u = cc in
-        let named : l ≡ k = sym (slice_cmp-IsAntisymmetric nat_cmp-IsAntisymmetric k l is) in
-        let begun : Each (λ q. P (Name l ∷ q)) (places t) = under P (λ q. Name l ∷ q) (places t) (left_of P (map (λ q. Name l ∷ q) (places t)) (places_by_key ks) h) in
-        subst (λ n. Each (λ q. P (Name n ∷ q)) (places u)) named (subst (λ v. Each (λ q. P (Name l ∷ q)) (places v)) same begun)
+key_each P k (key l t ks) u h e =
+    let further = λ (f : by_key k ks ≡ Some u). key_each P k ks u (right_of P (map (λ q. Name l ∷ q) (places t)) (places_by_key ks) h) f in
+    in_order (λ o. o ≡ Some u → Each (λ q. P (Name k ∷ q)) (places u)) (slice_cmp nat_cmp k l) _ _ _ (λ is f. further f)
+    (λ is f.
+    let same : t ≡ u = cc in
+    let named : l ≡ k = sym (slice_cmp-IsAntisymmetric nat_cmp-IsAntisymmetric k l is) in
+    let begun : Each (λ q. P (Name l ∷ q)) (places t) = under P (λ q. Name l ∷ q) (places t) (left_of P (map (λ q. Name l ∷ q) (places t)) (places_by_key ks) h) in
+    subst (λ n. Each (λ q. P (Name n ∷ q)) (places u)) named (subst (λ v. Each (λ q. P (Name l ∷ q)) (places v)) same begun))
+    (λ is f. further f) e
 
 -- what holds of each listed place holds of each place where content stands
 stands_each : (p : List Part) (P : List Part → Type 0) (t : StoryTree) → Each P (places t) → is_some (at t p) ≡ true → P p
 stands_each [] P (leaf l) h e = h.0
 stands_each [] P (container name flags content named) h e = h.0
 stands_each (x ∷ p) P (leaf l) h e = absurd (true≢false (sym e))
-stands_each (Index i ∷ p) P (container name flags content named) h e = by (nth i content) refl e (λ u k f. stands_each p (λ q. P (Index i ∷ q)) u k f)
-  where
-    by : (o : Option StoryTree) → nth i content ≡ o → is_some (option_and_then (λ u. at u p) o) ≡ true
-        → ((u : StoryTree) → Each (λ q. P (Index i ∷ q)) (places u) → is_some (at u p) ≡ true → P (Index i ∷ p)) → P (Index i ∷ p)
-    by None is f on = absurd (true≢false (sym f))
-    by (Some u) is f on =
-        let there : Each (λ q. P (Index (0 + i) ∷ q)) (places u) = nth_each P i 0 content u (left_of P (places_from 0 content) (places_by_key named) h.1) is in
-        on u (subst (λ n. Each (λ q. P (Index n ∷ q)) (places u)) (omega arith) there) f
-stands_each (Name k ∷ p) P (container name flags content named) h e = by (by_key k named) refl e (λ u g f. stands_each p (λ q. P (Name k ∷ q)) u g f)
-  where
-    by : (o : Option StoryTree) → by_key k named ≡ o → is_some (option_and_then (λ u. at u p) o) ≡ true
-        → ((u : StoryTree) → Each (λ q. P (Name k ∷ q)) (places u) → is_some (at u p) ≡ true → P (Name k ∷ p)) → P (Name k ∷ p)
-    by None is f on = absurd (true≢false (sym f))
-    by (Some u) is f on = on u (key_each P k named u (right_of P (places_from 0 content) (places_by_key named) h.1) is) f
+stands_each (Index i ∷ p) P (container name flags content named) h e =
+    (elim (nth i content) as (λ o. nth i content ≡ o → is_some (option_and_then (λ u. at u p) o) ≡ true → P (Index i ∷ p)) [
+      | None ↦ λ is f. absurd (true≢false (sym f))
+      | Some u ↦ λ is f. stands_each p (λ q. P (Index i ∷ q)) u
+          (subst (λ n. Each (λ q. P (Index n ∷ q)) (places u)) (omega arith) (nth_each P i 0 content u (left_of P (places_from 0 content) (places_by_key named) h.1) is)) f
+    ]) refl e
+stands_each (Name k ∷ p) P (container name flags content named) h e =
+    (elim (by_key k named) as (λ o. by_key k named ≡ o → is_some (option_and_then (λ u. at u p) o) ≡ true → P (Name k ∷ p)) [
+      | None ↦ λ is f. absurd (true≢false (sym f))
+      | Some u ↦ λ is f. stands_each p (λ q. P (Name k ∷ q)) u (key_each P k named u (right_of P (places_from 0 content) (places_by_key named) h.1) is) f
+    ]) refl e
 
 -- ---- acceptance
 
 none_passes : {X : Type 0} (test : X → Bool) (xs : List X) → filter test xs ≡ [] → Each (λ x. test x ≡ false) xs
 none_passes test [] e = tt
-none_passes test (x ∷ xs) e = by (test x) refl e (λ f. none_passes test xs f)
-  where
-    by : (b : Bool) → test x ≡ b → cond b (x ∷ filter test xs) (filter test xs) ≡ [] → (filter test xs ≡ [] → Each (λ x. test x ≡ false) xs) → (test x ≡ false) × Each (λ x. test x ≡ false) xs
-    by true is f on = absurd cc
-    by false is f on = (is, on f)
+none_passes test (x ∷ xs) e = elim (cases_Bool (test x)) [
+  | inl is ↦ (let some : x ∷ filter test xs ≡ [] = rw is at e in absurd cc)
+  | inr is ↦ (is, none_passes test xs (rw is at e))
+]
 
 same_target : (s : StoryTree) (p : List Part) (path : Path) → path.relative ≡ false → target s p path ≡ target s [] path
 unfolding target
@@ -220,12 +194,8 @@ path_fits s p text h = by (read_path text) refl h
     by (Some path) is k = good path is path.relative refl k
 
 leaf_good : (s : StoryTree) (p : List Part) (l : Leaf) → TextsFit l → good_leaf s p l ≡ true → LeafFits s l
-leaf_good s p (leaves.Text t) h g = h
-leaf_good s p (leaves.Tag t) h g = h
-leaf_good s p (leaves.Int z) h g = h
-leaf_good s p (leaves.Pointer name frame) h g = h
 leaf_good s p (leaves.Target text) h g = path_fits s p text g
-leaf_good s p l h g = tt
+leaf_good s p l h g = h
 
 -- a story whose texts fit and whose paths are all good
 good_fits : (s : StoryTree) → TreeFits s → is_narrow s ≡ true → bad_places s ≡ [] → StoryFits s
@@ -239,11 +209,8 @@ good_fits s h narrow none = record { leaf_fits = λ p l e. leaf_good s p l (text
     each = none_passes (has_bad_path s) (places s) none
 
     good : (p : List Part) (l : Leaf) → at s p ≡ Some (leaf l) → good_leaf s p l ≡ true
-    good p l e = not_not (good_leaf s p l) (sym (ap (λ o. not (good_content s p o)) e) ∙ stands_each p (λ q. has_bad_path s q ≡ false) s each (ap is_some e))
-      where
-        not_not : (b : Bool) → not b ≡ false → b ≡ true
-        not_not true k = refl
-        not_not false k = absurd (true≢false k)
+    good p l e = true_from_ne_false (good_leaf s p l)
+        (λ bad. true≢false (sym (ap not bad) ∙ sym (ap (λ o. not (good_content s p o)) e) ∙ stands_each p (λ q. has_bad_path s q ≡ false) s each (ap is_some e)))
 
 texts_prop : (l : Leaf) → IsProp (TextsFit l)
 texts_prop (leaves.Text t) = Bool-set _ _
@@ -272,17 +239,11 @@ spelled_fits s spelled good =
 
 accepted_fits : (s t : StoryTree) → TreeFits s → is_narrow s ≡ true → accepted s ≡ Ok t → StoryFits t
 unfolding accepted
-accepted_fits s t h narrow e = by (bad_places s) refl e
-  where
-    by : (ps : List (List Part)) → bad_places s ≡ ps → first (map bad_path ps) s ≡ Ok t → StoryFits t
-    by [] is f = let same : s ≡ t = cc in subst StoryFits same (good_fits s h narrow is)
-    by (p ∷ ps) is f = absurd cc
+accepted_fits s t h narrow e = (elim (bad_places s) as (λ ps. bad_places s ≡ ps → first (map bad_path ps) s ≡ Ok t → StoryFits t)
+    [ [] ↦ λ is f. (let same : s ≡ t = cc in subst StoryFits same (good_fits s h narrow is)) | p ∷ ps ↦ λ is f. absurd cc ]) refl e
 
 -- an accepted story has what is asked of it
 pub accepted_story_fits : (bytes : List ℕ) (s : StoryTree) → accepted_story bytes ≡ Ok s → StoryFits s
 unfolding accepted_story
-accepted_story_fits bytes s e = by (story bytes) refl (story_fits bytes) e
-  where
-    by : (r : Result StoryTree ReadRefusal) → story bytes ≡ r → Yields TreeFits r → and_then accepted r ≡ Ok s → StoryFits s
-    by (Ok t) is h f = accepted_fits t s h (story_narrow bytes t is) f
-    by (Err r) is h f = absurd cc
+accepted_story_fits bytes s e = (elim (story bytes) as (λ r. story bytes ≡ r → Yields TreeFits r → and_then accepted r ≡ Ok s → StoryFits s)
+    [ Ok t ↦ λ is h f. accepted_fits t s h (story_narrow bytes t is) f | Err r ↦ λ is h f. absurd cc ]) refl (story_fits bytes) e

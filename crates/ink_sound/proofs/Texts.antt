@@ -1,76 +1,106 @@
--- The effects of values, evaluation mode, text, strings and tags.
-use Rattle.std.proofs.Common.{◌≡◌, ap, refl, arith, ℕ, List, [], ◌∷◌, length, Bool, true, false, if◌then◌else◌, Option, Some, None, Result, Ok, Err, IsTrue}
-use Rattle.std.proofs.lemmas.Bool.{cond_both}
+-- What is written leaves no more sections open than may be; and the effects of values, evaluation mode, text, strings and tags.
+use Rattle.std.proofs.Common.{◌≡◌, refl, arith, ℕ, suc, ◌^◌, List, [], ◌∷◌, length, Bool, true, false, nat_lt, Option, Result, Ok, Err, if◌then◌else◌, Some, None, IsTrue, inl, inr, ◌≤◌}
+use Rattle.std.proofs.lemmas.Bool.{cond_both, cases_Bool}
+use Rattle.std.proofs.lemmas.Bool.Decides.{nat_tests}
+use Rattle.ink_model.specs.Flow.{Written, enter_for, leave_for, on_page, on_stack, void_for}
+use Rattle.ink_model.specs.Output.{begins_function, ends_function, is_crowded, noted, noted_in, opens, with_next, writes_marks, closes_string, closes_string_of, closes_tag, closes_tag_of, is_string, is_text, let_through, prints_text, tagged, writes_glue, writes_newline, writes_printed, writes_tag, writes_text, writes_value}
+use Rattle.ink_model.specs.Page.{Page, Section, SectionKind, string_section, tag_section}
+use Rattle.ink_model.specs.Stack.{pushed, popped}
+use Rattle.ink_model.specs.Tree.{StoryTree}
+use Rattle.ink_model.specs.declared.fault.Fault.{Fault}
+use Rattle.ink_model.specs.declared.frame.FrameKind.{FrameKind}
+use Rattle.ink_model.specs.declared.frame.FrameKind.TheVariants.{Function}
+use Rattle.ink_model.specs.declared.limits.TheConstants.{MAX_SECTIONS}
+use Rattle.ink_model.specs.declared.mark.Mark.{Mark}
+use Rattle.ink_model.specs.declared.mark.Mark.TheVariants.{Enter, Leave}
+use Rattle.ink_model.specs.declared.value.Value.TheVariants.{Void}
+use Rattle.ink_sound.specs.Kept.{Gives, WrittenFits, EffectFits, FieldsFit, Finds}
+use Rattle.ink_model.specs.Save.Sound.{PageFits, StackFits}
+use Rattle.ink_sound.proofs.Values.{pushed_fits, TakenFits, or_fault_fits, popped_fits, popping_fits, pushing_fits}
 use Rattle.std.specs.List.{list_any}
 use Rattle.ink_model.specs.Bytes.{fits_text}
 use Rattle.ink_model.specs.Clean.{clean}
 use Rattle.ink_model.specs.Effect.{Fields, Moves, is_fresh, pushing, writing, writing_text}
 use Rattle.ink_model.specs.Mark.{cut}
-use Rattle.ink_model.specs.Output.{closes_string, closes_string_of, closes_tag, closes_tag_of, is_string, is_text, let_through, opens, prints_text, tagged, writes_glue, writes_marks, writes_newline, writes_printed, writes_tag, writes_text, writes_value}
-use Rattle.ink_model.specs.Page.{Page, Section, SectionKind, string_section, tag_section}
 use Rattle.ink_model.specs.Shown.{shown_text}
-use Rattle.ink_model.specs.Stack.{popped, pushed}
 use Rattle.ink_model.specs.Step.Evaluation.{begin_eval, duplicate, end_eval, output_popped, output_value, pop}
 use Rattle.ink_model.specs.Step.Text.{begin_string, begin_tag, beside, closed_tag, end_string, end_tag, in_tag, keeps_tag, write_glue, write_newline, write_tag, write_text}
-use Rattle.ink_model.specs.Tree.{StoryTree}
 use Rattle.ink_model.specs.Value.{printed}
-use Rattle.ink_model.specs.declared.fault.Fault.{Fault}
-use Rattle.ink_model.specs.declared.fault.Fault.TheVariants.{TooDeep}
-use Rattle.ink_model.specs.declared.mark.Mark.{Mark}
 use Rattle.ink_model.specs.declared.mark.Mark.TheVariants as mark
 use Rattle.ink_model.specs.declared.value.Value.{Value}
 use Rattle.ink_model.specs.declared.value.Value.TheVariants as value
-use Rattle.ink_sound.specs.Kept.{EffectFits, FieldsFit, Finds, Gives}
-use Rattle.ink_model.specs.Save.Sound.{PageFits, StackFits}
-use Rattle.ink_sound.proofs.Pages.{marks_fit, opens_fit}
-use Rattle.ink_sound.proofs.Values.{TakenFits, or_fault_fits, popped_fits, popping_fits, pushed_fits, pushing_fits}
+
+as_many : (ms line : List Mark) (xs : List Section) (n : ℕ) → length (noted_in ms line xs n).sections ≡ length xs
+as_many ms line [] n = refl
+as_many ms line (x ∷ xs) n = refl
+
+pub noted_fits : (ms : List Mark) (page : Page) → PageFits page → PageFits (noted ms page)
+noted_fits ms page h = record { few = omega (arith, as_many ms page.line page.sections page.next_enter, h.few) }
+
+pub marks_fit : (ms : List Mark) (page : Page) → PageFits page → Gives PageFits (writes_marks ms page)
+marks_fit ms page h = cond_both (is_crowded ms page) _ _ (Gives PageFits) (λ _. tt) (λ _. noted_fits ms page h)
+
+pub begins_fit : (page : Page) → PageFits page → Gives PageFits (begins_function page)
+begins_fit page h = cond_both (nat_lt (suc page.next_enter) (2 ^ 64)) _ _ (Gives PageFits) (λ _. marks_fit (Enter page.next_enter ∷ []) (with_next page) (record { few = h.few })) (λ _. tt)
+
+pub opens_fit : (kind : SectionKind) (page : Page) → PageFits page → Gives PageFits (opens kind page)
+opens_fit kind page h = cond_both (nat_lt (length page.sections) MAX_SECTIONS) _ _ (Gives PageFits) (λ e. record { few = grind (arith, nat_tests, e) }) (λ _. tt)
+
+-- ---- stack and page
+
+module _ (s : StoryTree) (w : Written) (h : WrittenFits s w) where
+  page_fits : (r : Result Page Fault) → Gives PageFits r → Gives (WrittenFits s) (on_page r w)
+  page_fits (Ok page) k = record { stack = h.stack; page = k }
+  page_fits (Err f) k = tt
+
+  pub enter_fits : (k : FrameKind) → Gives (WrittenFits s) (enter_for k w)
+  enter_fits Function = page_fits (begins_function w.page) (begins_fit w.page h.page)
+  enter_fits k = h
+
+  pub leave_fits : (k : FrameKind) (number : Option ℕ) → Gives (WrittenFits s) (leave_for k number w)
+  leave_fits Function number = page_fits (ends_function number w.page) (marks_fit (Leave number ∷ []) w.page h.page)
+  leave_fits k number = h
+
+  pub void_fits : (evaluating : Bool) → Gives (WrittenFits s) (void_for evaluating w)
+  void_fits false = h
+  void_fits true = (elim (pushed Void w.stack) as (λ r. Gives (StackFits s) r → Gives (WrittenFits s) (on_stack r w))
+      [ Ok vs ↦ λ k. record { stack = k; page = h.page } | Err f ↦ λ k. tt ]) (pushed_fits s Void w.stack tt h.stack)
+
+-- ---- values, evaluation mode, text, strings and tags
 
 -- a text within its limit, and a page
 abbrev TextFits : List ℕ × Page → Type 0
 TextFits r = IsTrue (fits_text r.0) × PageFits r.1
 
-kept_fits : (b : Bool) (t : List ℕ) (page : Page) → fits_text t ≡ b → PageFits page → Gives TextFits (if b then Ok (t, page) else Err TooDeep)
-kept_fits true t page e h = (e, h)
-kept_fits false t page e h = tt
-
-string_fits : (page : Page) (kind : SectionKind) (marks : List Mark) (rest : List Section) → PageFits (record page { sections = rest })
-    → Gives TextFits (closes_string_of page (record { kind = kind; marks = marks } ∷ rest))
-string_fits page string_section marks rest h = kept_fits (fits_text (shown_text marks)) (shown_text marks) (record page { sections = rest }) refl h
-string_fits page tag_section marks rest h = tt
-
-closes_string_fits : (page : Page) → PageFits page → Gives TextFits (closes_string page)
-closes_string_fits page h = by page.sections refl
+string_fits : (page : Page) (xs : List Section) → length xs ≤ MAX_SECTIONS → Gives TextFits (closes_string_of page xs)
+string_fits page [] h = tt
+string_fits page (x ∷ rest) h = by x.kind x.marks
   where
-    by : (xs : List Section) → page.sections ≡ xs → Gives TextFits (closes_string_of page xs)
-    by [] e = tt
-    by (x ∷ rest) e = string_fits page x.kind x.marks rest (record { few = omega (arith, ap length e, h.few) })
+    by : (k : SectionKind) (ms : List Mark) → Gives TextFits (closes_string_of page (record { kind = k; marks = ms } ∷ rest))
+    by string_section ms = cond_both (fits_text (shown_text ms)) _ _ (Gives TextFits) (λ e. (e, record { few = omega (arith, h) })) (λ _. tt)
+    by tag_section ms = tt
 
 -- a text within its limit, where there is one, and a page
 abbrev TagFits : Option (List ℕ) × Page → Type 0
 TagFits r = Finds (λ t. IsTrue (fits_text t)) r.0 × PageFits r.1
 
 tagged_fits : (t : List ℕ) (page : Page) → fits_text t ≡ true → PageFits page → Gives TagFits (tagged t page)
-tagged_fits t page e h = by (list_any is_string page.sections) refl
+tagged_fits t page e h = elim (cases_Bool (list_any is_string page.sections)) [
+  | inl d ↦ rw d (e, h)
+  | inr d ↦ elim (cases_Bool (is_crowded (mark.Tag t ∷ []) page)) [
+    | inl c ↦ rw d (rw c tt)
+    | inr c ↦ rw d (rw c (tt, noted_fits (mark.Tag t ∷ []) page h))
+  ]
+]
+
+tag_fits : (page : Page) (xs : List Section) → length xs ≤ MAX_SECTIONS → Gives TagFits (closes_tag_of page xs)
+tag_fits page [] h = tt
+tag_fits page (x ∷ rest) h = by x.kind x.marks
   where
-    marked : (r : Result Page Fault) → writes_marks (mark.Tag t ∷ []) page ≡ r → Gives PageFits r → list_any is_string page.sections ≡ false → Gives TagFits (tagged t page)
-    marked (Ok p) is k off = rw (off, is) (tt, k)
-    marked (Err f) is k off = rw (off, is) tt
-
-    by : (b : Bool) → list_any is_string page.sections ≡ b → Gives TagFits (tagged t page)
-    by true on = rw on (e, h)
-    by false off = marked (writes_marks (mark.Tag t ∷ []) page) refl (marks_fit (mark.Tag t ∷ []) page h) off
-
-tag_fits : (page : Page) (kind : SectionKind) (marks : List Mark) (rest : List Section) → PageFits (record page { sections = rest })
-    → Gives TagFits (closes_tag_of page (record { kind = kind; marks = marks } ∷ rest))
-tag_fits page string_section marks rest h = tt
-tag_fits page tag_section marks rest h = cond_both (fits_text (clean (shown_text marks))) _ _ (Gives TagFits) (λ e. tagged_fits (clean (shown_text marks)) (record page { sections = rest }) e h) (λ _. tt)
-
-closes_tag_fits : (page : Page) → PageFits page → Gives TagFits (closes_tag page)
-closes_tag_fits page h = by page.sections refl
-  where
-    by : (xs : List Section) → page.sections ≡ xs → Gives TagFits (closes_tag_of page xs)
-    by [] e = tt
-    by (x ∷ rest) e = tag_fits page x.kind x.marks rest (record { few = omega (arith, ap length e, h.few) })
+    by : (k : SectionKind) (ms : List Mark) → Gives TagFits (closes_tag_of page (record { kind = k; marks = ms } ∷ rest))
+    by string_section ms = tt
+    by tag_section ms = cond_both (fits_text (clean (shown_text ms))) _ _ (Gives TagFits)
+        (λ e. tagged_fits (clean (shown_text ms)) (record page { sections = rest }) e (record { few = omega (arith, h) })) (λ _. tt)
 
 whole_tag_fits : (t : List ℕ) (page : Page) → PageFits page → Gives TagFits (writes_tag t page)
 whole_tag_fits t page h = cond_both (fits_text (clean t)) _ _ (Gives TagFits) (λ e. tagged_fits (clean t) page e h) (λ _. tt)
@@ -89,35 +119,24 @@ module _ (s : StoryTree) where
   keeps_fits vs (Err f) h x = tt
 
   closed_fits : (vs : List Value) (page : Page) → StackFits s vs → PageFits page → Gives BothFit (closed_tag vs page)
-  closed_fits vs page h k = keeps_fits vs (closes_tag page) h (closes_tag_fits page k)
+  closed_fits vs page h k = keeps_fits vs (closes_tag page) h (tag_fits page page.sections k.few)
 
   -- where a tag is on top it is closed
   no_tag_fits : (f : Fields) → FieldsFit s f → Gives BothFit (if in_tag f.page.sections then closed_tag f.stack f.page else Ok (f.stack, f.page))
-  no_tag_fits f fits = by (in_tag f.page.sections)
-    where
-      by : (b : Bool) → Gives BothFit (if b then closed_tag f.stack f.page else Ok (f.stack, f.page))
-      by true = closed_fits f.stack f.page fits.stack fits.page
-      by false = (fits.stack, fits.page)
+  no_tag_fits f fits = cond_both (in_tag f.page.sections) _ _ (Gives BothFit) (λ _. closed_fits f.stack f.page fits.stack fits.page) (λ _. (fits.stack, fits.page))
 
   module _ (f : Fields) (fits : FieldsFit s f) where
     writing_fits : (r : Result Page Fault) → Gives PageFits r → EffectFits s (writing r f)
-    writing_fits (Ok page) h = record { stack = fits.stack; globals = fits.globals; page = h }
-    writing_fits (Err e) h = tt
+    writing_fits r h = or_fault_fits s PageFits r _ h (λ page k. record { stack = fits.stack; globals = fits.globals; page = k })
 
     writing_text_fits : (b : Bool) (r : Result Page Fault) → Gives PageFits r → EffectFits s (writing_text b r f)
-    writing_text_fits b (Ok page) h = record { stack = fits.stack; globals = fits.globals; page = h }
-    writing_text_fits b (Err e) h = tt
+    writing_text_fits b r h = or_fault_fits s PageFits r _ h (λ page k. record { stack = fits.stack; globals = fits.globals; page = k })
 
     -- ---- text
 
     pub write_text_fits : (t : List ℕ) → fits_text t ≡ true → EffectFits s (write_text t f)
-    write_text_fits t e = by f.evaluating (pushing_fits s (value.Text t) f e fits)
-        (writing_text_fits (list_any is_text (cut t)) (writes_text (is_fresh f) t f.page) (marks_fit (let_through (is_fresh f) (cut t)) f.page fits.page))
-      where
-        by : (b : Bool) → EffectFits s (pushing (value.Text t) f) → EffectFits s (writing_text (list_any is_text (cut t)) (writes_text (is_fresh f) t f.page) f)
-            → EffectFits s (if b then pushing (value.Text t) f else writing_text (list_any is_text (cut t)) (writes_text (is_fresh f) t f.page) f)
-        by true h k = h
-        by false h k = k
+    write_text_fits t e = cond_both f.evaluating _ _ (EffectFits s) (λ _. pushing_fits s (value.Text t) f e fits)
+        (λ _. writing_text_fits (list_any is_text (cut t)) (writes_text (is_fresh f) t f.page) (marks_fit (let_through (is_fresh f) (cut t)) f.page fits.page))
 
     pub write_newline_fits : EffectFits s (write_newline f)
     write_newline_fits = cond_both f.evaluating _ _ (EffectFits s)
@@ -160,7 +179,7 @@ module _ (s : StoryTree) where
       (λ _. writing_fits (record f { evaluating = false }) (record { stack = fits.stack; globals = fits.globals; page = fits.page }) (opens string_section f.page) (opens_fit string_section f.page fits.page)) (λ _. tt)
 
   pub end_string_fits : (f : Fields) → FieldsFit s f → EffectFits s (end_string f)
-  end_string_fits f fits = or_fault_fits s TextFits (closes_string f.page) _ (closes_string_fits f.page fits.page)
+  end_string_fits f fits = or_fault_fits s TextFits (closes_string f.page) _ (string_fits f.page f.page.sections fits.page.few)
       (λ r h. pushing_fits s (value.Text r.0) (record f { page = r.1; evaluating = true }) h.0 (record { stack = fits.stack; globals = fits.globals; page = h.1 }))
 
   pub end_tag_fits : (f : Fields) → FieldsFit s f → EffectFits s (end_tag f)

@@ -1,10 +1,11 @@
 -- A JSON value that is read as a game is its spelling.
-use Rattle.std.proofs.Common.{◌≡◌, ◌∙◌, ◌⊎◌, inl, inr, ap, sym, refl, subst, arith, ℕ, ◌^◌, ℤ, pos, negsuc, List, [], ◌∷◌, map, reverse, codes, Bool, true, false, bytes_eq, cond, nat_lt, ◌==◌, if◌then◌else◌, Option, Some, None, option_and_then}
+use Rattle.std.proofs.Common.{◌≡◌, ◌∙◌, ◌⊎◌, inl, inr, ap, sym, refl, subst, arith, ℕ, suc, ◌^◌, ℤ, pos, negsuc, List, [], ◌∷◌, map, reverse, codes, Bool, true, false, bytes_eq, nat_lt, ◌==◌, if◌then◌else◌, Option, Some, None, option_and_then}
+use Rattle.std.proofs.lemmas.Bool.{cases_Bool}
 use Rattle.std.proofs.lemmas.Bool.Decides.{nat_tests}
 use Rattle.std.proofs.lemmas.List.{reverse-reverse}
 use Rattle.std.proofs.lemmas.Slice.Eq.{bytes_eq-Decides}
 use Rattle.std.specs.Option.{option_map, option_or}
-use Rattle.serde_json.specs.Data.{Num, unsigned, negative, float, Data, null, boolean, number, string, array, object, Items, no_items, item, Members, no_members, member}
+use Rattle.serde_json.specs.Data.{Num, unsigned, negative, Data, null, boolean, number, string, array, object, Items, no_items, item, Members, no_members, member}
 use Rattle.serde_json.specs.Find.{of_integer}
 use Rattle.ink_model.specs.Configuration.{ChoiceOf, Configuration, FlowOf}
 use Rattle.ink_model.specs.Events.{items_of}
@@ -66,12 +67,13 @@ took {A} {B} f g k so (member l d ms) y h e = by (bytes_eq k l) refl e
         let keys : l ≡ k = sym ((bytes_eq-Decides k l).0 is) in
         record { x = found.0; rest = ms; is = (λ i. member (keys i) (reads i) ms); on = found.2 }
 
+-- a member that was taken, as it is spelled, and those behind it
+puts : {A B : Type 0} {g : A → Data} {k : List ℕ} {so : A → Members → Option B} {ms more : Members} {y : B} {x : A} (t : Took g k so ms y) → t.x ≡ x → t.rest ≡ more → ms ≡ member k (g x) more
+puts {g} {k} t e rest = t.is ∙ (λ i. member k (g (e i)) (rest i))
+
 closed_some : {B : Type 0} (y z : B) (ms : Members) → closed y ms ≡ Some z → (ms ≡ no_members) × (y ≡ z)
 closed_some y z no_members e = (refl, cc)
 closed_some y z (member k d ms) e = absurd cc
-
-onto : (k : List ℕ) (d : Data) (ms rest more : Members) → ms ≡ member k d rest → rest ≡ more → ms ≡ member k d more
-onto k d ms rest more e f = e ∙ ap (λ r. member k d r) f
 
 -- ---- plain values
 
@@ -116,11 +118,7 @@ all_reading f g h (item d ds) xs e =
 
 list_reading : {A : Type 0} (f : Data → Option A) (g : A → Data) → Reading f g → Reading (list_of f) (list_data g)
 list_reading f g h (array ds) xs e = ap array (all_reading f g h ds xs e)
-list_reading f g h null xs e = absurd cc
-list_reading f g h (boolean b) xs e = absurd cc
-list_reading f g h (number n) xs e = absurd cc
-list_reading f g h (string t) xs e = absurd cc
-list_reading f g h (object ms) xs e = absurd cc
+list_reading f g h d xs e = absurd cc
 
 pair_reading : {A B : Type 0} (f : Data → Option A) (g : Data → Option B) (m : A → Data) (n : B → Data) → Reading f m → Reading g n
     → Reading (pair_of f g) (λ r. array (items_of (m r.0 ∷ n r.1 ∷ [])))
@@ -143,20 +141,20 @@ target_reads : (ms : Members) (v : Value) → target_in ms ≡ Some v → object
 target_reads ms v e =
     let t = took path_in (λ p. string (path_text p)) (codes "->") _ ms v path_reading e in
     let c = closed_some (value.Target t.x) v t.rest t.on in
-    ap object (onto (codes "->") (string (path_text t.x)) ms t.rest no_members t.is c.0) ∙ ap value_data c.1
+    ap object (puts t refl c.0) ∙ ap value_data c.1
 
 pointer_reads : (ms : Members) (v : Value) → pointer_in ms ≡ Some v → object ms ≡ value_data v
 pointer_reads ms v e =
     let t = took int_of (λ z. number (of_integer z)) (codes "ci") _ ms v int_reading e in
     let u = took text_of string (codes "var") _ t.rest v text_reading t.on in
     let c = closed_some (value.Pointer t.x u.x) v u.rest u.on in
-    ap object (onto (codes "ci") (number (of_integer t.x)) ms t.rest _ t.is (onto (codes "var") (string u.x) t.rest u.rest no_members u.is c.0)) ∙ ap value_data c.1
+    ap object (puts t refl (puts u refl c.0)) ∙ ap value_data c.1
 
 tag_reads : (ms : Members) (v : Value) → tag_in ms ≡ Some v → object ms ≡ value_data v
 tag_reads ms v e =
     let t = took text_of string (codes "tag") _ ms v text_reading e in
     let c = closed_some (value.Tag t.x) v t.rest t.on in
-    ap object (onto (codes "tag") (string t.x) ms t.rest no_members t.is c.0) ∙ ap value_data c.1
+    ap object (puts t refl c.0) ∙ ap value_data c.1
 
 value_reading : Reading value_of value_data
 value_reading null v e = let same : value.Void ≡ v = cc in ap value_data same
@@ -174,8 +172,6 @@ value_reading (object ms) v e =
 
 part_reading : Reading part_of part_data
 part_reading (number (unsigned n)) p e = ap part_data (if_some (nat_lt n (2 ^ 32)) (Index n) p e).1
-part_reading (number (negative z)) p e = absurd cc
-part_reading (number (float x)) p e = absurd cc
 part_reading (string t) p e = let same : Name t ≡ p = cc in ap part_data same
 part_reading d p e = absurd cc
 
@@ -222,13 +218,7 @@ frame_reading (object ms) f e =
     let p = took any_place_of place_or_null (codes "place") _ k.rest f any_place_reading k.on in
     let t = took temps_of (λ rs. object (temps_members rs)) (codes "temps") _ p.rest f temps_reading p.on in
     let z = closed_some _ f t.rest t.on in
-    ap object (onto (codes "depth") (count_data a.x) ms a.rest _ a.is
-    (onto (codes "eval") (boolean b.x) a.rest b.rest _ b.is
-    (onto (codes "fresh") (boolean c.x) b.rest c.rest _ c.is
-    (onto (codes "kind") (kind_data k.x) c.rest k.rest _ k.is
-    (onto (codes "place") (place_or_null p.x) k.rest p.rest _ p.is
-    (onto (codes "temps") (object (temps_members t.x)) p.rest t.rest no_members t.is z.0))))))
-    ∙ ap frame_data z.1
+    ap object (puts a refl (puts b refl (puts c refl (puts k refl (puts p refl (puts t refl z.0)))))) ∙ ap frame_data z.1
 frame_reading d f e = absurd cc
 
 -- ---- threads
@@ -250,9 +240,7 @@ thread_reading (object ms) t e =
     let z = closed_some found.0 t b.rest found.2 in
     let w = with_reads (reverse a.x) b.x found.0 found.1 in
     let all : a.x ≡ reverse (found.0.frame ∷ found.0.below) = turned a.x (found.0.frame ∷ found.0.below) w.0 in
-    ap object (onto (codes "frames") (list_data frame_data a.x) ms a.rest _ a.is (onto (codes "previous") (place_or_null b.x) a.rest b.rest no_members b.is z.0))
-    ∙ (λ i. object (member (codes "frames") (list_data frame_data (all i)) (member (codes "previous") (place_or_null (w.1 i)) no_members)))
-    ∙ ap thread_data z.1
+    ap object (puts a all (puts b w.1 z.0)) ∙ ap thread_data z.1
 thread_reading d t e = absurd cc
 
 -- ---- choices
@@ -265,12 +253,7 @@ choice_reading (object ms) x e =
     let t = took text_of string (codes "text") _ c.rest x text_reading c.on in
     let u = took thread_in thread_data (codes "thread") _ t.rest x thread_reading t.on in
     let z = closed_some _ x u.rest u.on in
-    ap object (onto (codes "hidden") (boolean a.x) ms a.rest _ a.is
-    (onto (codes "tags") (list_data string b.x) a.rest b.rest _ b.is
-    (onto (codes "target") (place_data c.x) b.rest c.rest _ c.is
-    (onto (codes "text") (string t.x) c.rest t.rest _ t.is
-    (onto (codes "thread") (thread_data u.x) t.rest u.rest no_members u.is z.0)))))
-    ∙ ap choice_data z.1
+    ap object (puts a refl (puts b refl (puts c refl (puts t refl (puts u refl z.0))))) ∙ ap choice_data z.1
 choice_reading d x e = absurd cc
 
 -- ---- configurations
@@ -306,8 +289,7 @@ turn_read choices globals safe stack threads ms x e =
     let found = bind_some (threads_with (reverse threads)) _ x v.on in
     let z = closed_some _ x v.rest found.2 in
     subst (TurnRead choices globals safe stack threads ms) z.1 (record {
-      is = onto (codes "turn") (count_data n.x) ms n.rest _ n.is (onto (codes "turns") (list_data row_data m.x) n.rest m.rest _ m.is
-          (onto (codes "visits") (list_data row_data v.x) m.rest v.rest no_members v.is z.0));
+      is = puts n refl (puts m refl (puts v refl z.0));
       choices_are = refl;
       globals_are = refl;
       safe_is = refl;
@@ -331,7 +313,7 @@ threads_read choices globals safe stack ms x e =
     let r = turn_read choices globals safe stack t.x t.rest x t.on in
     let all : t.x ≡ reverse (x.flow.threads.thread ∷ x.flow.threads.below) = turned t.x (x.flow.threads.thread ∷ x.flow.threads.below) r.threads_are in
     record {
-      is = t.is ∙ (λ i. member (codes "threads") (list_data thread_data (all i)) (r.is i));
+      is = puts t all r.is;
       choices_are = r.choices_are;
       globals_are = r.globals_are;
       safe_is = r.safe_is;
@@ -347,11 +329,7 @@ old_reads ms x e =
     let f = took truth_of boolean (codes "safe") _ g.rest x truth_reading g.on in
     let s = took (list_of value_of) (list_data value_data) (codes "stack") _ f.rest x (list_reading value_of value_data value_reading) f.on in
     let r = threads_read a.x g.x f.x s.x s.rest x s.on in
-    ap object (a.is ∙ (λ i. member (codes "choices") (list_data choice_data (r.choices_are i))
-    ((b.is ∙ (λ i. member (codes "format") (count_data 1)
-    ((g.is ∙ (λ i. member (codes "globals") (list_data global_data (r.globals_are i))
-    ((f.is ∙ (λ i. member (codes "safe") (boolean (r.safe_is i))
-    ((s.is ∙ (λ i. member (codes "stack") (list_data value_data (r.stack_is i)) (r.is i))) i))) i))) i))) i)))
+    ap object (puts a r.choices_are (puts b refl (puts g r.globals_are (puts f r.safe_is (puts s r.stack_is r.is)))))
 
 -- ---- flows
 
@@ -365,12 +343,7 @@ named_flow_reading (object ms) r e =
     let found = bind_some (threads_with (reverse t.x)) _ r t.on in
     let z = closed_some _ r t.rest found.2 in
     let all : t.x ≡ reverse (found.0.thread ∷ found.0.below) = turned t.x (found.0.thread ∷ found.0.below) (with_threads_reads (reverse t.x) found.0 found.1) in
-    ap object (onto (codes "choices") (list_data choice_data a.x) ms a.rest _ a.is
-    (onto (codes "name") (string n.x) a.rest n.rest _ n.is
-    (onto (codes "safe") (boolean f.x) n.rest f.rest _ f.is
-    (onto (codes "stack") (list_data value_data s.x) f.rest s.rest _ s.is
-    (t.is ∙ (λ i. member (codes "threads") (list_data thread_data (all i)) (z.0 i)))))))
-    ∙ ap named_flow_data z.1
+    ap object (puts a refl (puts n refl (puts f refl (puts s refl (puts t all z.0))))) ∙ ap named_flow_data z.1
 named_flow_reading d r e = absurd cc
 
 -- ---- layout 2
@@ -395,51 +368,38 @@ spelled_reads ms x e =
     let m = took (list_of (pair_of place_of count_of)) (list_data row_data) (codes "turns") _ n.rest x rows_of_counts n.on in
     let v = took (list_of (pair_of place_of count_of)) (list_data row_data) (codes "visits") _ m.rest x rows_of_counts m.on in
     let z = closed_some _ x v.rest v.on in
-    ap object (onto (codes "current") (string a.x) ms a.rest _ a.is
-    (onto (codes "flows") (list_data named_flow_data f.x) a.rest f.rest _ f.is
-    (onto (codes "format") (count_data 2) f.rest b.rest _ b.is
-    (onto (codes "globals") (list_data global_data g.x) b.rest g.rest _ g.is
-    (onto (codes "turn") (count_data n.x) g.rest n.rest _ n.is
-    (onto (codes "turns") (list_data row_data m.x) n.rest m.rest _ m.is
-    (onto (codes "visits") (list_data row_data v.x) m.rest v.rest no_members v.is z.0)))))))
-    ∙ ap spelled_data z.1
+    ap object (puts a refl (puts f refl (puts b refl (puts g refl (puts n refl (puts m refl (puts v refl z.0))))))) ∙ ap spelled_data z.1
 
 -- the flows that were read, where the current one's name stands once among theirs
 module _ (current : List ℕ) (f : FlowOf (List Part)) where
   none_current : (flows : Rows (FlowOf (List Part))) → holes (aside_but current flows) ≡ 0 → all_flows f (aside_but current flows) ≡ flows
   none_current [] h = refl
-  none_current (r ∷ rows) h = by (bytes_eq current r.0) (none_current rows) h
-    where
-      by : (b : Bool) → (holes (aside_but current rows) ≡ 0 → all_flows f (aside_but current rows) ≡ rows)
-          → holes ((r.0, if b then None else Some r.1) ∷ aside_but current rows) ≡ 0 → all_flows f ((r.0, if b then None else Some r.1) ∷ aside_but current rows) ≡ r ∷ rows
-      by true more k = absurd (omega arith)
-      by false more k = ap (λ l. r ∷ l) (more k)
+  none_current (r ∷ rows) h = elim (cases_Bool (bytes_eq current r.0)) [
+    | inl e ↦ (let more : suc (holes (aside_but current rows)) ≡ 0 = rw e at h in absurd (omega arith))
+    | inr e ↦ rw e (ap (λ l. r ∷ l) (none_current rows (rw e at h)))
+  ]
 
   as_read : (flows : Rows (FlowOf (List Part))) → at current flows ≡ Some f → holes (aside_but current flows) ≡ 1
       → (current_name (aside_but current flows) ≡ current) × (all_flows f (aside_but current flows) ≡ flows)
   as_read [] e h = absurd cc
-  as_read (r ∷ rows) e h = by (bytes_eq current r.0) refl (as_read rows) e h
-    where
-      by : (b : Bool) → bytes_eq current r.0 ≡ b
-          → (at current rows ≡ Some f → holes (aside_but current rows) ≡ 1 → (current_name (aside_but current rows) ≡ current) × (all_flows f (aside_but current rows) ≡ rows))
-          → cond b (Some r.1) (at current rows) ≡ Some f → holes ((r.0, if b then None else Some r.1) ∷ aside_but current rows) ≡ 1
-          → (current_name ((r.0, if b then None else Some r.1) ∷ aside_but current rows) ≡ current)
-          × (all_flows f ((r.0, if b then None else Some r.1) ∷ aside_but current rows) ≡ r ∷ rows)
-      by true is more k one =
-          let same : f ≡ r.1 = cc in
-          (sym (same_name current r.0 is), (λ i. (r.0, same i) ∷ none_current rows (omega arith) i))
-      by false is more k one = let y = more k one in (y.0, ap (λ l. r ∷ l) y.1)
+  as_read (r ∷ rows) e h = elim (cases_Bool (bytes_eq current r.0)) [
+    | inl is ↦
+        let found : Some r.1 ≡ Some f = rw is at e in
+        let same : f ≡ r.1 = cc in
+        let one : suc (holes (aside_but current rows)) ≡ 1 = rw is at h in
+        rw is (sym (same_name current r.0 is), (λ i. (r.0, same i) ∷ none_current rows (omega arith) i))
+    | inr is ↦ (let y = as_read rows (rw is at e) (rw is at h) in rw is (y.0, ap (λ l. r ∷ l) y.1))
+  ]
 
 game_reads : (x : Spelled) (g : Game) → game_spelled x ≡ Some g → holes g.aside ≡ 1 → spelled_data x ≡ spelling g
-game_reads x g e h = by (at x.current x.flows) refl e
-  where
-    by : (o : Option (FlowOf (List Part))) → at x.current x.flows ≡ o → game_with x o ≡ Some g → spelled_data x ≡ spelling g
-    by None is k = absurd cc
-    by (Some f) is k =
-        let made : Game = record { now = record { flow = f; shared = x.shared; page = empty_page }; aside = aside_but x.current x.flows } in
-        let same : made ≡ g = cc in
-        let read = as_read x.current f x.flows is (ap (λ (m : Game). holes m.aside) same ∙ h) in
-        (λ i. spelled_data (record { current = sym read.0 i; flows = sym read.1 i; shared = x.shared })) ∙ ap spelling same
+game_reads x g e h = (elim (at x.current x.flows) as (λ o. at x.current x.flows ≡ o → game_with x o ≡ Some g → spelled_data x ≡ spelling g) [
+  | None ↦ λ is k. absurd cc
+  | Some f ↦ λ is k.
+      let made : Game = record { now = record { flow = f; shared = x.shared; page = empty_page }; aside = aside_but x.current x.flows } in
+      let same : made ≡ g = cc in
+      let read = as_read x.current f x.flows is (ap (λ (m : Game). holes m.aside) same ∙ h) in
+      (λ i. spelled_data (record { current = sym read.0 i; flows = sym read.1 i; shared = x.shared })) ∙ ap spelling same
+]) refl e
 
 -- ---- either layout
 

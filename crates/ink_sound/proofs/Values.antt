@@ -1,9 +1,9 @@
 -- Values that fit, on a stack and as they are made.
-use Rattle.std.proofs.Common.{◌≡◌, ap, refl, arith, suc, List, [], ◌∷◌, ◌++◌, length, length-append, nat_lt, Option, Some, None, Result, Ok, Err}
+use Rattle.std.proofs.Common.{◌≡◌, ap, refl, arith, suc, List, [], ◌∷◌, ◌++◌, length, length-append, nat_lt, Option, Some, None, option_and_then, Result, Ok, Err}
 use Rattle.std.proofs.lemmas.Bool.{cond_both}
 use Rattle.std.proofs.lemmas.Bool.Decides.{nat_tests}
 use Rattle.std.specs.List.{AllByRecursion as Each}
-use Rattle.std.specs.Option.{option_map}
+use Rattle.std.specs.Option.{option_map, option_or}
 use Rattle.ink_model.specs.Effect.{Effect, Fields, Moves, or_else, or_fault, popping, pushing}
 use Rattle.ink_model.specs.Stack.{popped, pushed}
 use Rattle.ink_model.specs.Tree.{StoryTree}
@@ -21,6 +21,10 @@ module _ {X : Type 0} (P : X → Type 0) where
   each_append [] ys h k = k
   each_append (x ∷ xs) ys h k = (h.0, each_append xs ys h.1 k)
 
+  pub each_of : (Q : X → Type 0) → ((x : X) → P x → Q x) → (xs : List X) → Each P xs → Each Q xs
+  each_of Q k [] h = tt
+  each_of Q k (x ∷ xs) h = (k x h.0, each_of Q k xs h.1)
+
   pub each_one : (xs : List X) (x : X) → Each P xs → P x → Each P (xs ++ x ∷ [])
   each_one xs x h k = each_append xs (x ∷ []) h (k, tt)
 
@@ -35,6 +39,28 @@ pub or_else_fits : {A : Type 0} (s : StoryTree) (P : A → Type 0) (f : Fault) (
     → Finds P o → ((a : A) → P a → EffectFits s (so a)) → EffectFits s (or_else f o so)
 or_else_fits s P f (Some a) so h k = k a h
 or_else_fits s P f None so h k = tt
+
+-- ---- options
+
+abbrev pub Any : {A : Type 0} → A → Type 0
+Any a = Unit {0}
+
+pub any_finds : {A : Type 0} (o : Option A) → Finds Any o
+any_finds (Some a) = tt
+any_finds None = tt
+
+module _ {A : Type 0} (P : A → Type 0) where
+  pub or_finds : (o p : Option A) → Finds P o → Finds P p → Finds P (option_or o p)
+  or_finds None p h k = k
+  or_finds (Some a) p h k = h
+
+  pub map_finds : {B : Type 0} (Q : B → Type 0) (o : Option A) (so : A → B) → Finds P o → ((a : A) → P a → Q (so a)) → Finds Q (option_map so o)
+  map_finds Q None so h k = tt
+  map_finds Q (Some a) so h k = k a h
+
+  pub on_finds : {B : Type 0} (Q : B → Type 0) (o : Option A) (so : A → Option B) → Finds P o → ((a : A) → P a → Finds Q (so a)) → Finds Q (option_and_then so o)
+  on_finds Q None so h k = tt
+  on_finds Q (Some a) so h k = k a h
 
 -- ---- the stack
 
@@ -51,11 +77,8 @@ pub record TakenFits (s : StoryTree) (vs : List Value) (r : Value × List Value)
 pub popped_fits : (s : StoryTree) (vs : List Value) → Each (ValueFits s) vs → Finds (TakenFits s vs) (popped vs)
 popped_fits s [] h = tt
 popped_fits s (v ∷ []) h = record { value = h.0; left = tt; less = refl }
-popped_fits s (v ∷ w ∷ vs) h = below (popped (w ∷ vs)) (popped_fits s (w ∷ vs) h.1)
-  where
-    below : (o : Option (Value × List Value)) → Finds (TakenFits s (w ∷ vs)) o → Finds (TakenFits s (v ∷ w ∷ vs)) (option_map (λ r. (r.0, v ∷ r.1)) o)
-    below None k = tt
-    below (Some r) k = record { value = k.value; left = (h.0, k.left); less = ap suc k.less }
+popped_fits s (v ∷ w ∷ vs) h = map_finds (TakenFits s (w ∷ vs)) (TakenFits s (v ∷ w ∷ vs)) (popped (w ∷ vs)) _ (popped_fits s (w ∷ vs) h.1)
+    (λ r k. record { value = k.value; left = (h.0, k.left); less = ap suc k.less })
 
 pub popping_fits : (s : StoryTree) (f : Fields) (so : Value → Fields → Effect) → FieldsFit s f
     → ((v : Value) (left : Fields) → ValueFits s v → FieldsFit s left → EffectFits s (so v left)) → EffectFits s (popping f so)

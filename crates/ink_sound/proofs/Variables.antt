@@ -1,9 +1,8 @@
 -- Variables that are read, assigned and declared, and pointers.
-use Rattle.std.proofs.Common.{◌≡◌, ap, refl, arith, ℕ, zero, suc, ◌+◌, ℤ, pos, negsuc, List, [], ◌∷◌, length, Bool, true, false, nat_eq, if◌then◌else◌, Option, Some, None, is_some, option_and_then, unwrap_or, Result, Ok, Err}
+use Rattle.std.proofs.Common.{◌≡◌, ap, refl, arith, ℕ, zero, suc, ◌+◌, ◌≤◌, ℤ, pos, negsuc, List, [], ◌∷◌, length, true, nat_eq, Option, Some, None, is_some, option_and_then, unwrap_or, Result, Ok, Err}
 use Rattle.std.proofs.lemmas.Bool.{cond_both}
 use Rattle.std.proofs.lemmas.Cmp.{nat_list_cmp_total}
 use Rattle.std.specs.List.{AllByRecursion as Each}
-use Rattle.std.specs.Option.{option_or}
 use Rattle.ink_model.specs.Bases.{BaseFirst}
 use Rattle.ink_model.specs.Effect.{Context, Fields}
 use Rattle.ink_model.specs.Frames.{FrameOf, ThreadOf, frame_numbered}
@@ -16,8 +15,8 @@ use Rattle.ink_model.specs.Threads.{changed, frame_count, with_row_in, with_temp
 use Rattle.ink_model.specs.Tree.{StoryTree}
 use Rattle.ink_model.specs.Variables.{assign, assign_at, chain_end, declare, declared, held, kept, kept_pointer, last_pointer, named, on_pointer, point, read, stands, value_at, with_declared, with_held, with_named}
 use Rattle.ink_model.specs.declared.fault.Fault.{Fault}
-use Rattle.ink_model.specs.declared.fault.Fault.TheVariants.{BadPointer, NoTemp}
 use Rattle.ink_model.specs.declared.frame.FrameKind.{FrameKind}
+use Rattle.ink_model.specs.declared.limits.TheConstants.{MAX_FRAMES}
 use Rattle.ink_model.specs.declared.place.Part.{Part}
 use Rattle.ink_model.specs.declared.scope.Scope.{Scope}
 use Rattle.ink_model.specs.declared.scope.Scope.TheVariants.{Global, Temporary}
@@ -27,7 +26,7 @@ use Rattle.ink_sound.specs.Kept.{ContextFits, EffectFits, FieldsFit, Finds, Give
 use Rattle.ink_model.specs.Save.Sound.{FrameFits, FrameStands, GlobalsFit, IsFrame, RowFits, ThreadStands, ValueFits}
 use Rattle.ink_sound.proofs.Ints.{count_small}
 use Rattle.ink_sound.proofs.Rows.{each_put, each_stored, once_put, rise_put, row_finds, stored_finds}
-use Rattle.ink_sound.proofs.Values.{or_fault_fits, popping_fits, pushing_fits}
+use Rattle.ink_sound.proofs.Values.{each_of, or_fault_fits, or_finds, popping_fits, pushing_fits}
 
 module _ (s : StoryTree) where
   -- ---- temporaries
@@ -35,35 +34,25 @@ module _ (s : StoryTree) where
   row_in_fits : (name : List ℕ) (v : Value) (f : FrameOf (List Part)) → ValueFits s v → FrameFits s f → FrameFits s (with_row_in name v f)
   row_in_fits name v f p h = record { rise = rise_put name_order nat_list_cmp_total name v f.temps h.rise; each = each_put name_order (RowFits s) name v f.temps p h.each; depth = h.depth }
 
-  -- the frames below, with a change of the temporaries of one
-  record ChangedFits (k : FrameKind) (old new : List (FrameOf (List Part))) : Type 0 where
-    each : Each (FrameStands s) new
-    base : BaseFirst k new
-    as_many : length new ≡ length old
+  -- the frames below, of which some have changed
+  pub record ChangedFits (k : FrameKind) (old new : List (FrameOf (List Part))) : Type 0 where
+    pub each : Each (FrameStands s) new
+    pub base : BaseFirst k new
+    pub as_many : length new ≡ length old
 
   changed_fits : (n : ℕ) (name : List ℕ) (v : Value) (k : FrameKind) (fs : List (FrameOf (List Part))) → ValueFits s v → Each (FrameStands s) fs → BaseFirst k fs
       → ChangedFits k fs (changed (with_row_in name v) n fs)
   changed_fits n name v k [] p h b = record { each = tt; base = b; as_many = refl }
-  changed_fits n name v k (f ∷ fs) p h b = by (nat_eq n (length fs + 1)) (changed_fits n name v f.kind fs p h.1 b.1)
-    where
-      by : (d : Bool) → ChangedFits f.kind fs (changed (with_row_in name v) n fs)
-          → ChangedFits k (f ∷ fs) (if d then with_row_in name v f ∷ fs else f ∷ changed (with_row_in name v) n fs)
-      by true on = record { each = ((row_in_fits name v f p h.0.0, h.0.1), h.1); base = b; as_many = refl }
-      by false on = record { each = (h.0, on.each); base = (b.0, on.base); as_many = ap suc on.as_many }
+  changed_fits n name v k (f ∷ fs) p h b =
+      let on = changed_fits n name v f.kind fs p h.1 b.1 in
+      cond_both (nat_eq n (length fs + 1)) _ _ (ChangedFits k (f ∷ fs)) (λ _. record { each = ((row_in_fits name v f p h.0.0, h.0.1), h.1); base = b; as_many = refl })
+      (λ _. record { each = (h.0, on.each); base = (b.0, on.base); as_many = ap suc on.as_many })
 
   pub with_temp_fits : (n : ℕ) (name : List ℕ) (v : Value) (t : ThreadOf (List Part)) → ValueFits s v → ThreadStands s t → ThreadStands s (with_temp n name v t)
-  with_temp_fits n name v t p h = by (nat_eq n (frame_count t)) (changed_fits n name v t.frame.kind t.below p h.thread.below h.thread.base)
-    where
-      by : (d : Bool) → ChangedFits t.frame.kind t.below (changed (with_row_in name v) n t.below)
-          → ThreadStands s (if d then record t { frame = with_row_in name v t.frame } else record t { below = changed (with_row_in name v) n t.below })
-      by true on = record {
-        thread = record { frame = row_in_fits name v t.frame p h.thread.frame; below = h.thread.below; base = h.thread.base; few = h.thread.few; previous = h.thread.previous };
-        place = h.place;
-      }
-      by false on = record {
-        thread = record { frame = h.thread.frame; below = on.each; base = on.base; few = omega (arith, on.as_many, h.thread.few); previous = h.thread.previous };
-        place = h.place;
-      }
+  with_temp_fits n name v t p h =
+      let on = changed_fits n name v t.frame.kind t.below p h.thread.below h.thread.base in
+      cond_both (nat_eq n (frame_count t)) _ _ (ThreadStands s) (λ _. assumption (row_in_fits name v t.frame p h.thread.frame))
+      (λ _. let few : length (changed (with_row_in name v) n t.below) + 1 ≤ MAX_FRAMES = omega (arith, on.as_many, h.thread.few) in assumption)
 
   -- ---- globals
 
@@ -78,34 +67,22 @@ module _ (s : StoryTree) where
   pointed Q (Some (Pointer frame name)) so otherwise h k q = k frame name h
   pointed Q (Some v) so otherwise h k q = q
 
-  or_finds : (o p : Option Value) → Finds (ValueFits s) o → Finds (ValueFits s) p → Finds (ValueFits s) (option_or o p)
-  or_finds None p h k = k
-  or_finds (Some v) p h k = h
-
   unwrap_fits : (o : Option Value) (d : Value) → Finds (ValueFits s) o → ValueFits s d → ValueFits s (unwrap_or o d)
   unwrap_fits None d h k = k
   unwrap_fits (Some v) d h k = h
 
   numbered_finds : (n : ℕ) (name : List ℕ) (fs : List (FrameOf (List Part))) → Each (FrameFits s) fs → Finds (ValueFits s) (option_and_then (λ f. row name_order name f.temps) (frame_numbered n fs))
   numbered_finds n name [] h = tt
-  numbered_finds n name (f ∷ fs) h = by (nat_eq n (length fs + 1)) (numbered_finds n name fs h.1)
-    where
-      by : (d : Bool) → Finds (ValueFits s) (option_and_then (λ f. row name_order name f.temps) (frame_numbered n fs))
-          → Finds (ValueFits s) (option_and_then (λ f. row name_order name f.temps) (if d then Some f else frame_numbered n fs))
-      by true on = row_finds name_order (ValueFits s) name f.temps h.0.each
-      by false on = on
-
-  frames_of : (fs : List (FrameOf (List Part))) → Each (FrameStands s) fs → Each (FrameFits s) fs
-  frames_of [] h = tt
-  frames_of (f ∷ fs) h = (h.0.0, frames_of fs h.1)
+  numbered_finds n name (f ∷ fs) h = cond_both (nat_eq n (length fs + 1)) _ _ (λ o. Finds (ValueFits s) (option_and_then (λ g. row name_order name g.temps) o))
+      (λ _. row_finds name_order (ValueFits s) name f.temps h.0.each) (λ _. numbered_finds n name fs h.1)
 
   module _ (globals : Values) (t : ThreadOf (List Part)) (fits : GlobalsFit s globals) (stand : ThreadStands s t) where
     named_finds : (name : List ℕ) → Finds (ValueFits s) (named globals t name)
-    named_finds name = or_finds (stored name globals) (row name_order name t.frame.temps) (stored_finds (ValueFits s) name globals fits.each) (row_finds name_order (ValueFits s) name t.frame.temps stand.thread.frame.each)
+    named_finds name = or_finds (ValueFits s) (stored name globals) (row name_order name t.frame.temps) (stored_finds (ValueFits s) name globals fits.each) (row_finds name_order (ValueFits s) name t.frame.temps stand.thread.frame.each)
 
     held_finds : (frame : ℤ) (name : List ℕ) → Finds (ValueFits s) (held globals t frame name)
     held_finds (pos zero) name = stored_finds (ValueFits s) name globals fits.each
-    held_finds (pos (suc n)) name = numbered_finds (suc n) name (t.frame ∷ t.below) (stand.thread.frame, frames_of t.below stand.thread.below)
+    held_finds (pos (suc n)) name = numbered_finds (suc n) name (t.frame ∷ t.below) (stand.thread.frame, each_of (FrameStands s) (FrameFits s) (λ f k. k.0) t.below stand.thread.below)
     held_finds (negsuc n) name = tt
 
     -- the last pointer of a chain is none below the globals
@@ -137,38 +114,23 @@ module _ (s : StoryTree) where
 
     assigned_at : (v : Value) (o : Option (ℤ × List ℕ)) → ValueFits s v → Gives BothFit (assign_at globals t v o)
     assigned_at v None p = tt
-    assigned_at v (Some q) p = by (stands globals t q.0 q.1) (is_some (held globals t q.0 q.1))
-      where
-        by : (b d : Bool) → Gives BothFit (if b then (if d then Ok (with_held globals t q.0 q.1 v) else Err NoTemp) else Err BadPointer)
-        by true true = held_fits q.0 q.1 v p
-        by true false = tt
-        by false d = tt
+    assigned_at v (Some q) p = cond_both (stands globals t q.0 q.1) _ _ (Gives BothFit) (λ _. cond_both (is_some (held globals t q.0 q.1)) _ _ (Gives BothFit) (λ _. held_fits q.0 q.1 v p) (λ _. tt)) (λ _. tt)
 
     pub assigned_fits : (name : List ℕ) (v : Value) → ValueFits s v → Gives BothFit (assign globals t name v)
     assigned_fits name v p = pointed (Gives BothFit) (named globals t name) (λ frame to. assign_at globals t v (chain_end globals t frame to)) _
-        (named_finds name) (λ frame to k. assigned_at v (chain_end globals t frame to) p) (by (is_some (named globals t name)))
-      where
-        by : (b : Bool) → Gives BothFit (if b then Ok (with_named globals t name v) else Err NoTemp)
-        by true = named_fits name v p
-        by false = tt
+        (named_finds name) (λ frame to k. assigned_at v (chain_end globals t frame to) p) (cond_both (is_some (named globals t name)) _ _ (Gives BothFit) (λ _. named_fits name v p) (λ _. tt))
 
     kept_fits : (v : Value) → ValueFits s v → Gives (ValueFits s) (kept globals t v)
-    kept_fits v p = pointed (Gives (ValueFits s)) (Some v) (λ frame name. kept_pointer (chain_end globals t frame name)) (Ok v) p (λ frame name k. by (chain_end globals t frame name) (last_finds (frame_count t + 1) frame name k)) p
-      where
-        by : (o : Option (ℤ × List ℕ)) → Finds (λ q. IsFrame q.0) o → Gives (ValueFits s) (kept_pointer o)
-        by None k = tt
-        by (Some q) k = k
+    kept_fits v p = pointed (Gives (ValueFits s)) (Some v) (λ frame name. kept_pointer (chain_end globals t frame name)) (Ok v) p
+        (λ frame name k. (elim (chain_end globals t frame name) as (λ o. Finds (λ q. IsFrame q.0) o → Gives (ValueFits s) (kept_pointer o)) [ None ↦ λ h. tt | Some q ↦ λ h. h ])
+        (last_finds (frame_count t + 1) frame name k)) p
 
     scoped_fits : (scope : Scope) (name : List ℕ) (v : Value) → ValueFits s v → BothFit (with_declared globals t scope name v)
     scoped_fits Global name v p = (stored_fits name v globals p fits, stand)
     scoped_fits Temporary name v p = (fits, with_temp_fits (frame_count t) name v t p stand)
 
     pub declared_fits : (scope : Scope) (name : List ℕ) (v : Value) → ValueFits s v → Gives BothFit (declare globals t scope name v)
-    declared_fits scope name v p = by (kept globals t v) (kept_fits v p)
-      where
-        by : (r : Result Value Fault) → Gives (ValueFits s) r → Gives BothFit (declared globals t scope name r)
-        by (Ok w) k = scoped_fits scope name w k
-        by (Err f) k = tt
+    declared_fits scope name v p = (elim (kept globals t v) as (λ r. Gives (ValueFits s) r → Gives BothFit (declared globals t scope name r)) [ Ok w ↦ λ k. scoped_fits scope name w k | Err f ↦ λ k. tt ]) (kept_fits v p)
 
   -- ---- effects
 
