@@ -1,7 +1,7 @@
 //! Objects for the program's words, on a desk (docs/PROGRAM.md).
 
 use crate::objects::{Row, Script, Table};
-use crate::options::{PlayOption, WordsRefused, read_options};
+use crate::options::{PlayOption, WordsRefused, command, read_options};
 use clap::ArgMatches;
 use ink_host::{Desk, Observer};
 use ink_model::Given;
@@ -9,6 +9,21 @@ use std::alloc::Global;
 
 /// A desk of the program's objects.
 pub type PlayDesk = Desk<Table, Script, Observer>;
+
+/// Reads the words that a program of this name was started with: binds what they say, and gives the story's file, where they name one.
+/// The one error is words that are none of the program, words that `bind_words` refuses, or a refused request for memory.
+pub fn read_words<'a>(
+    alloc: Global,
+    program: &'a str,
+    words: &'a [String],
+    desk: &mut PlayDesk,
+) -> Result<Option<&'a str>, WordsRefused> {
+    let Ok(matches) = command(alloc, program)?.try_get_matches_from(words) else {
+        return Err(WordsRefused);
+    };
+    bind_words(alloc, desk, &matches)?;
+    Ok(matches.get_str("STORY"))
+}
 
 /// Binds what the words say. The one error is words that say nothing that can be bound (docs/PROGRAM.md), a name that is bound
 /// twice or watched twice, or a refused request for memory.

@@ -7,7 +7,7 @@ mod objects;
 mod options;
 mod start;
 
-pub use binding::{PlayDesk, bind_words};
+pub use binding::{PlayDesk, bind_words, read_words};
 pub use objects::{Row, Script, Table};
 pub use options::{WordsRefused, command};
 pub use start::{read_story_file, words};

@@ -9,7 +9,7 @@ use ink_host::{Desk, PureFn, TurnFn, Watcher};
 use ink_player::{
     PlayFault, Player, RunFault, Sink, Source, Watched, open_story, serve, serve_story,
 };
-use ink_words::{PlayDesk, bind_words, command, read_story_file, words};
+use ink_words::{PlayDesk, read_story_file, read_words, words};
 use report::{refuse_file, refuse_words, tell};
 use std::alloc::Global;
 use std::fs::Files;
@@ -24,19 +24,13 @@ fn main(rt: HostRuntime) -> ExitCode {
     let Ok(words) = words(&rt) else {
         return ExitCode::from(refuse_words(&rt));
     };
-    let Ok(command) = command(alloc, "inkplay") else {
-        return ExitCode::from(refuse_words(&rt));
-    };
-    let Ok(matches) = command.try_get_matches_from(words.as_slice()) else {
-        return ExitCode::from(refuse_words(&rt));
-    };
     let mut desk = PlayDesk::new(alloc);
-    if bind_words(alloc, &mut desk, &matches).is_err() {
+    let Ok(story) = read_words(alloc, "inkplay", words.as_slice(), &mut desk) else {
         return ExitCode::from(refuse_words(&rt));
-    }
+    };
     let mut source = Watched::new(rt.reader());
     let mut sink = Watched::new(io::writer(&rt));
-    ExitCode::from(match matches.get_str("STORY") {
+    ExitCode::from(match story {
         Some(path) => serve_file(&rt, alloc, path, desk, &mut source, &mut sink),
         None => serve_input(&rt, alloc, desk, &mut source, &mut sink),
     })
