@@ -11,7 +11,7 @@ use Rattle.ink_model.specs.Host.{Bound}
 use Rattle.ink_model.specs.Run.{Broke, Kept, Made, Moment, At, Stopped, Faulted, answers_of}
 use Rattle.ink_model.specs.Tree.{StoryTree}
 use Rattle.ink_model.specs.declared.fault.Fault.{Fault}
-use Rattle.ink_step.specs.Refusals.{KeepsRefusals}
+use Rattle.ink_effects.specs.Refusals.{KeepsRefusals}
 
 module _ (s : StoryTree) (b : Bound) (made : List Made) (c start : Configuration) (is : start ≡ begun c) where
   abbrev pub Ran : Configuration → LineEnd → Type 0

@@ -27,8 +27,8 @@ use Rattle.ink_step.specs.Marks.{presses, stood_of, unmarked}
 use Rattle.ink_step.specs.Steps.{StepEnds, StepMakes, Steps}
 use Rattle.ink_step.specs.Words.{config_of}
 use Rattle.ink_step.specs.declared.machine.Machine.{Machine}
-use Rattle.ink_step.specs.declared.flow.StepEnd.{StepEnd}
-use Rattle.ink_step.specs.declared.flow.StepEnd.TheVariants as ends
+use Rattle.ink_moves.specs.declared.flow.StepEnd.{StepEnd}
+use Rattle.ink_moves.specs.declared.flow.StepEnd.TheVariants as ends
 use Rattle.ink_step.proofs.Follows.{never_wants}
 use Rattle.ink_step.proofs.Marks.{not_presses}
 

@@ -16,7 +16,7 @@ use Rattle.ink_model.specs.Tree.{StoryTree}
 use Rattle.ink_model.specs.declared.fault.Fault.{Fault}
 use Rattle.ink_model.specs.declared.fault.Fault.TheVariants.{OutOfMemory}
 use Rattle.ink_model.specs.declared.limits.TheConstants.{MAX_STEPS}
-use Rattle.ink_step.specs.Refusals.{KeepsRefusals, StopsAtRefusal}
+use Rattle.ink_effects.specs.Refusals.{KeepsRefusals, StopsAtRefusal}
 
 -- what was said, or the fault
 abbrev pub handed : LineEnd → Result Said Fault

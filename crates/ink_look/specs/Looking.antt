@@ -21,8 +21,8 @@ use Rattle.ink_model.specs.declared.host.Event.{Event}
 use Rattle.ink_model.specs.declared.host.Given.{Given}
 use Rattle.ink_step.specs.Marks.{marked_at, stood_of, unmarked}
 use Rattle.ink_step.specs.Steps.{StepMakes}
-use Rattle.ink_step.specs.declared.flow.StepEnd.{StepEnd}
-use Rattle.ink_step.specs.declared.flow.StepEnd.TheVariants as ends
+use Rattle.ink_moves.specs.declared.flow.StepEnd.{StepEnd}
+use Rattle.ink_moves.specs.declared.flow.StepEnd.TheVariants as ends
 use Rattle.ink_step.specs.declared.machine.Machine.{Machine}
 
 -- ---- newlines

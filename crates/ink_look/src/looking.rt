@@ -18,7 +18,7 @@ ghost use Rattle.ink_model.specs.declared.host.Event.{Event as Happening};
 ghost use Rattle.ink_model.specs.declared.host.Given.{Given as Gift};
 ghost use Rattle.ink_step.specs.Marks.{config_back, stood_of, unmarked};
 ghost use Rattle.ink_step.specs.Parts.{config_of_parts};
-ghost use Rattle.ink_step.specs.Refusals.{RunStopsAtRefusal, StepStopsAtRefusal};
+ghost use Rattle.ink_effects.specs.Refusals.{RunStopsAtRefusal, StepStopsAtRefusal};
 ghost use Rattle.ink_step.specs.Words.{aside_in, config_of, start_of};
 
 use crate::ahead::writes_words;

@@ -8,7 +8,7 @@ ghost use Rattle.ink_look.specs.Ends.{RunsThrough};
 ghost use Rattle.ink_look.specs.Words.{said, said_asks};
 ghost use Rattle.ink_model.specs.Events.{Made, calls};
 ghost use Rattle.ink_step.specs.Marks.{stood_of, unmarked};
-ghost use Rattle.ink_step.specs.Refusals.{RunStopsAtRefusal};
+ghost use Rattle.ink_effects.specs.Refusals.{RunStopsAtRefusal};
 ghost use Rattle.ink_step.specs.Words.{aside_in, config_of, globals_of, start_of};
 
 use crate::said::{Said, said_by};

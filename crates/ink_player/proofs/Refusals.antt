@@ -5,7 +5,7 @@ use Rattle.ink_model.specs.Answer.{Reply, Breaks}
 use Rattle.ink_model.specs.declared.fault.Fault.{Fault}
 use Rattle.ink_model.specs.declared.fault.Fault.TheVariants.{OutOfMemory}
 use Rattle.ink_model.specs.declared.host.Event.{Event}
-use Rattle.ink_step.specs.Refusals.{KeepsRefusals, StopsAtRefusal}
+use Rattle.ink_effects.specs.Refusals.{KeepsRefusals, StopsAtRefusal}
 use Rattle.ink_player.specs.Words.{CommandStopsAtRefusal}
 
 module _ {P F O : Type 0} (refusals : F → ℕ) where

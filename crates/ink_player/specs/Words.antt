@@ -26,7 +26,7 @@ use Rattle.ink_model.specs.declared.host.Given.{Given}
 use Rattle.ink_model.specs.declared.value.Value.{Value}
 use Rattle.ink_sound.specs.Kept.{ConditionFits, StoryFits}
 use Rattle.ink_step.specs.Marks.{stood_of, unmarked}
-use Rattle.ink_step.specs.Refusals.{KeepsRefusals, StopsAtRefusal}
+use Rattle.ink_effects.specs.Refusals.{KeepsRefusals, StopsAtRefusal}
 use Rattle.ink_step.specs.Words.{aside_in, aside_of, config_of}
 use Rattle.ink_step.specs.declared.machine.Machine.{Machine}
 

@@ -12,7 +12,7 @@ ghost use Rattle.ink_model.specs.Turns.{open_choices};
 ghost use Rattle.ink_player.specs.Extents.{RunsBy};
 ghost use Rattle.ink_player.specs.Passages.{passage_of};
 ghost use Rattle.ink_step.specs.Marks.{stood_of, unmarked};
-ghost use Rattle.ink_step.specs.Refusals.{RunStopsAtRefusal};
+ghost use Rattle.ink_effects.specs.Refusals.{RunStopsAtRefusal};
 ghost use Rattle.ink_step.specs.Words.{aside_in, config_of, globals_of, start_of};
 
 use ink_check::Story;

@@ -14,8 +14,9 @@ use Rattle.ink_model.specs.declared.fault.Fault.TheVariants.{OutOfMemory}
 use Rattle.ink_model.specs.declared.fault.Refusal.TheVariants as refusal
 use Rattle.ink_model.specs.declared.place.Part.{Part}
 use Rattle.ink_step.specs.Steps.{Chooses, StepEnds}
-use Rattle.ink_step.proofs.Follows.{ends_short, or_first, or_more, or_wider}
-use Rattle.ink_step.specs.declared.flow.StepEnd.TheVariants as ends
+use Rattle.ink_effects.proofs.Bools.{or_first, or_more}
+use Rattle.ink_step.proofs.Follows.{ends_short, or_wider}
+use Rattle.ink_moves.specs.declared.flow.StepEnd.TheVariants as ends
 
 -- ---- what is taken
 

@@ -17,13 +17,13 @@ use Rattle.ink_model.specs.declared.content.Leaf.{Leaf}
 use Rattle.ink_model.specs.declared.fault.Fault.{Fault}
 use Rattle.ink_model.specs.declared.place.Part.{Part}
 use Rattle.ink_step.specs.Marks.{takes_first, takes_there}
-use Rattle.ink_step.specs.Performs.{Keeps, KeepsChoices, Performs, storing_in, unstored}
+use Rattle.ink_effects.specs.Performs.{Keeps, KeepsChoices, Performs, storing_in, unstored}
 use Rattle.ink_step.specs.Steps.{EndsPlainly, StepEnds}
 use Rattle.ink_step.specs.Words.{config_of}
-use Rattle.ink_step.specs.declared.flow.StepEnd.{StepEnd}
-use Rattle.ink_step.specs.declared.flow.StepEnd.TheVariants as ends
+use Rattle.ink_moves.specs.declared.flow.StepEnd.{StepEnd}
+use Rattle.ink_moves.specs.declared.flow.StepEnd.TheVariants as ends
 use Rattle.ink_step.specs.declared.machine.Machine.{Machine}
-use Rattle.ink_step.specs.declared.transfer.Transfer.TheVariants as transfer
+use Rattle.ink_effects.specs.declared.transfer.Transfer.TheVariants as transfer
 use Rattle.ink_step.proofs.Follows.{ends_after, ends_more, ends_where, kept_stays, offered_stay, or_between}
 use Rattle.ink_step.proofs.Goings.{is_in, stays_in}
 use Rattle.ink_step.proofs.Landed.{ends_performed, goes_on, performs_told}

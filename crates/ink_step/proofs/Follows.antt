@@ -17,25 +17,19 @@ use Rattle.ink_model.specs.Tree.{StoryTree}
 use Rattle.ink_model.specs.declared.fault.Fault.{Fault}
 use Rattle.ink_model.specs.declared.fault.Fault.TheVariants.{OutOfMemory}
 use Rattle.ink_model.specs.declared.place.Part.{Part}
-use Rattle.ink_step.specs.Performs.{Keeps, KeepsChoices, Performs, offered_by, stored_by, unstored}
-use Rattle.ink_step.specs.Reaches.{ReachesAs}
+use Rattle.ink_effects.proofs.Bools.{or_first, or_more}
+use Rattle.ink_effects.specs.Performs.{Keeps, KeepsChoices, Performs, offered_by, stored_by, unstored}
+use Rattle.ink_moves.specs.Reaches.{ReachesAs}
 use Rattle.ink_step.specs.Steps.{StepEnds}
 use Rattle.ink_step.specs.Words.{config_of, counts_in}
-use Rattle.ink_step.specs.declared.flow.StepEnd.{StepEnd}
-use Rattle.ink_step.specs.declared.flow.StepEnd.TheVariants as ends
+use Rattle.ink_moves.specs.declared.flow.StepEnd.{StepEnd}
+use Rattle.ink_moves.specs.declared.flow.StepEnd.TheVariants as ends
 use Rattle.ink_step.specs.declared.machine.Machine.{Machine}
-use Rattle.ink_step.specs.declared.transfer.Transfer.TheVariants as transfer
+use Rattle.ink_effects.specs.declared.transfer.Transfer.TheVariants as transfer
 use Rattle.ink_tree.specs.Nodes.{place_of}
 use Rattle.ink_tree.specs.declared.spot.Spot.{Spot}
 
 -- ---- by cases
-
-pub or_more : (a b : Bool) → b ≡ true → a || b ≡ true
-or_more true b h = refl
-or_more false b h = h
-
-pub or_first : (a b : Bool) → a ≡ true → a || b ≡ true
-or_first a b h = subst (λ x. x || b ≡ true) (sym h) refl
 
 pub or_between : (a b x : Bool) → a || x ≡ true → a || (b || x) ≡ true
 or_between true b x h = refl

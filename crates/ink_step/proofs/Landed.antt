@@ -23,15 +23,16 @@ use Rattle.ink_model.specs.declared.limits.TheConstants.{MAX_FRAMES}
 use Rattle.ink_model.specs.declared.place.Part.{Part}
 use Rattle.ink_stack.specs.Calls.{frame_kind}
 use Rattle.ink_stack.specs.declared.frame.CallKind.{CallKind}
-use Rattle.ink_step.specs.Performs.{Performs, landing_of, offered_by, stored_by, unstored}
-use Rattle.ink_step.specs.Reaches.{ReachesAs}
+use Rattle.ink_effects.specs.Performs.{Performs, landing_of, offered_by, stored_by, unstored}
+use Rattle.ink_moves.specs.Reaches.{ReachesAs}
 use Rattle.ink_step.specs.Steps.{StepEnds}
-use Rattle.ink_step.specs.declared.flow.StepEnd.{StepEnd}
-use Rattle.ink_step.specs.declared.flow.StepEnd.TheVariants as ends
-use Rattle.ink_step.specs.declared.transfer.Assignment.{Assignment}
-use Rattle.ink_step.specs.declared.transfer.Landing.{Landing}
-use Rattle.ink_step.specs.declared.transfer.Transfer.TheVariants as transfer
-use Rattle.ink_step.proofs.Follows.{ends_short, ends_where, or_between, or_first, or_more, or_neither, or_wider}
+use Rattle.ink_moves.specs.declared.flow.StepEnd.{StepEnd}
+use Rattle.ink_moves.specs.declared.flow.StepEnd.TheVariants as ends
+use Rattle.ink_effects.specs.declared.transfer.Assignment.{Assignment}
+use Rattle.ink_effects.specs.declared.transfer.Landing.{Landing}
+use Rattle.ink_effects.specs.declared.transfer.Transfer.TheVariants as transfer
+use Rattle.ink_effects.proofs.Bools.{or_first, or_more}
+use Rattle.ink_step.proofs.Follows.{ends_short, ends_where, or_between, or_neither, or_wider}
 use Rattle.ink_tree.specs.Kept.{leaf_in}
 use Rattle.ink_tree.specs.Nodes.{place_of}
 

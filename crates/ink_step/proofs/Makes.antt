@@ -21,14 +21,16 @@ use Rattle.ink_model.specs.declared.host.Event.{Event}
 use Rattle.ink_model.specs.declared.host.Given.{Given}
 use Rattle.ink_model.specs.declared.place.Part.{Part}
 use Rattle.ink_model.specs.declared.value.Value.{Value}
-use Rattle.ink_step.specs.External.{PerformsCall, is_asking}
-use Rattle.ink_step.specs.Performs.{Performs}
-use Rattle.ink_step.specs.Steps.{EndsPlainly, StepEnds, StepMakes, Steps, ended, wants, went}
-use Rattle.ink_step.specs.declared.flow.StepEnd.{StepEnd}
-use Rattle.ink_step.specs.declared.flow.StepEnd.TheVariants as ends
-use Rattle.ink_step.specs.declared.transfer.Transfer.{Transfer}
-use Rattle.ink_step.proofs.Follows.{ends_more, ends_short, ends_unperformed, ends_where, never_wants, or_between, or_more, or_where}
-use Rattle.ink_step.proofs.Plain.{IsPlain, plain_else, plain_if, plain_or}
+use Rattle.ink_effects.specs.External.{PerformsCall, is_asking}
+use Rattle.ink_effects.specs.Performs.{Performs}
+use Rattle.ink_moves.specs.Reaches.{went}
+use Rattle.ink_step.specs.Steps.{EndsPlainly, StepEnds, StepMakes, Steps, ended, wants}
+use Rattle.ink_moves.specs.declared.flow.StepEnd.{StepEnd}
+use Rattle.ink_moves.specs.declared.flow.StepEnd.TheVariants as ends
+use Rattle.ink_effects.specs.declared.transfer.Transfer.{Transfer}
+use Rattle.ink_effects.proofs.Bools.{or_more}
+use Rattle.ink_step.proofs.Follows.{ends_more, ends_short, ends_unperformed, ends_where, never_wants, or_between, or_where}
+use Rattle.ink_effects.proofs.Plain.{IsPlain, plain_else, plain_if, plain_or}
 use Rattle.ink_step.proofs.Stopping.{broke}
 use Rattle.ink_tree.specs.Kept.{leaf_in}
 

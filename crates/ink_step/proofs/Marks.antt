@@ -1,7 +1,8 @@
 -- What memory is asked for while a mark stands.
-use Rattle.std.proofs.Common.{◌≡◌, ◌∙◌, ◌⊎◌, ◌≤◌, ◌<◌, ◌+◌, ◌*◌, ◌&&◌, ◌||◌, ℕ, nat_lt, List, length, ap, arith, inl, inr, refl, Bool, true, false, Option, None, Some, is_some, option_and_then, option_map}
-use Rattle.std.proofs.lemmas.Bool.{lt-ltb, ltb-true}
+use Rattle.std.proofs.Common.{◌≡◌, ◌∙◌, ◌⊎◌, ◌≤◌, ◌+◌, ◌*◌, ◌&&◌, ◌||◌, ℕ, List, length, ap, arith, inl, inr, refl, Bool, true, false, Option, None, Some, is_some, option_and_then, option_map}
 use Rattle.ink_choice.specs.Undo.{choices_spare, choices_stood}
+use Rattle.ink_effects.proofs.Bools.{and_both, or_first, or_more}
+use Rattle.ink_effects.proofs.Rooms.{lacks_more}
 use Rattle.ink_model.specs.Choices.{only_invisible}
 use Rattle.ink_model.specs.Configuration.{Configuration, current_place}
 use Rattle.ink_model.specs.Frames.{map_threads}
@@ -19,48 +20,19 @@ use Rattle.ink_model.specs.declared.place.Part.{Part}
 use Rattle.ink_stack.specs.Undo.{threads_spare, threads_stood}
 use Rattle.ink_step.specs.Marks.{Stood, choices_lack, counts_lack, keeps_mark, lacks, landing_lacks, own_lacks, own_spare, pressed, presses, stack_lacks, stood_of, takes_first, takes_there, threads_lack, unmarked}
 use Rattle.ink_step.specs.Words.{config_of}
-use Rattle.ink_step.specs.declared.flow.TheConstants.{MOVING}
+use Rattle.ink_moves.specs.declared.flow.TheConstants.{MOVING}
 use Rattle.ink_step.specs.declared.machine.Machine.{Machine}
 use Rattle.ink_step.specs.declared.step.TheConstants.{STEPPING}
-use Rattle.ink_step.proofs.Follows.{or_first, or_more}
 use Rattle.ink_tree.specs.Kept.{leaf_in}
 use Rattle.ink_tree.specs.Nodes.{place_of}
 use Rattle.ink_value.specs.Undo.{stack_spare}
 use Rattle.ink_vars.specs.Undo.{counts_spare}
 
--- ---- a part that lacks room
-
-and_first : (a b : Bool) → a && b ≡ true → a ≡ true
-and_first true b h = refl
-and_first false b h = h
-
-and_second : (a b : Bool) → a && b ≡ true → b ≡ true
-and_second true b h = h
-and_second false b h = absurd (cc)
+-- ---- a machine that is pressed
 
 or_split : (a b : Bool) → a || b ≡ true → (a ≡ true) ⊎ (b ≡ true)
 or_split true b h = inl refl
 or_split false b h = inr h
-
-pub and_both : (a b : Bool) → a ≡ true → b ≡ true → a && b ≡ true
-and_both true b h k = k
-and_both false b h k = absurd (cc)
-
-module _ {A : Type 0} (stood : Option A) (spare n : ℕ) where
-  -- a mark stands in it
-  pub lacks_mark : lacks stood spare n ≡ true → is_some stood ≡ true
-  lacks_mark h = and_first (is_some stood) (nat_lt spare n) h
-
-  pub lacks_few : is_some stood ≡ true → spare < n → lacks stood spare n ≡ true
-  lacks_few marked few = and_both (is_some stood) (nat_lt spare n) marked (lt-ltb spare n few)
-
-  -- so it lacks room for more
-  pub lacks_more : (k : ℕ) → n ≤ k → lacks stood spare n ≡ true → lacks stood spare k ≡ true
-  lacks_more k most h =
-      let few : spare < n = ltb-true spare n (and_second (is_some stood) (nat_lt spare n) h) in
-      and_both (is_some stood) (nat_lt spare k) (lacks_mark h) (lt-ltb spare k (omega arith))
-
--- ---- a machine that is pressed
 
 module _ (s : StoryTree) (m : Machine) where
   abbrev frames : ℕ

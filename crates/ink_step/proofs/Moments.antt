@@ -20,8 +20,8 @@ use Rattle.ink_model.specs.declared.value.Value.{Value}
 use Rattle.ink_step.specs.Marks.{takes_first}
 use Rattle.ink_step.specs.Runs.{AreBound, RunFalls, TakesAt}
 use Rattle.ink_step.specs.Steps.{StepEnds, StepMakes}
-use Rattle.ink_step.specs.declared.flow.StepEnd.{StepEnd}
-use Rattle.ink_step.specs.declared.flow.StepEnd.TheVariants as ends
+use Rattle.ink_moves.specs.declared.flow.StepEnd.{StepEnd}
+use Rattle.ink_moves.specs.declared.flow.StepEnd.TheVariants as ends
 use Rattle.ink_step.proofs.Follows.{never_wants}
 use Rattle.ink_step.proofs.Marks.{takes_calls}
 

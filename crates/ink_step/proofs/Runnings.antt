@@ -17,7 +17,7 @@ use Rattle.ink_host.specs.declared.objects.Called.{Called}
 use Rattle.ink_host.specs.declared.objects.Seen.{Seen}
 use Rattle.ink_step.specs.Runs.{AreBound, RunsToStop}
 use Rattle.ink_step.specs.Steps.{StepMakes, ended}
-use Rattle.ink_step.specs.declared.flow.StepEnd.{StepEnd}
+use Rattle.ink_moves.specs.declared.flow.StepEnd.{StepEnd}
 use Rattle.ink_host.proofs.Laws.{bound-same, grew-grew, grew-none}
 use Rattle.ink_step.proofs.Growing.{calls_on}
 use Rattle.ink_step.proofs.Openings.{runs_alone}

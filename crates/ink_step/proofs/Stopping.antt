@@ -12,15 +12,16 @@ use Rattle.ink_model.specs.Tree.{StoryTree}
 use Rattle.ink_model.specs.declared.fault.Fault.{Fault}
 use Rattle.ink_model.specs.declared.fault.Fault.TheVariants.{OutOfMemory}
 use Rattle.ink_model.specs.declared.place.Part.{Part}
-use Rattle.ink_step.specs.Performs.{AsksToStore, Performs, storing_in, unstored}
+use Rattle.ink_effects.specs.Performs.{AsksToStore, Performs, storing_in, unstored}
 use Rattle.ink_step.specs.Steps.{StepEnds}
-use Rattle.ink_step.specs.declared.flow.StepEnd.{StepEnd}
-use Rattle.ink_step.specs.declared.flow.StepEnd.TheVariants as ends
-use Rattle.ink_step.specs.declared.transfer.Assignment.{Assignment}
-use Rattle.ink_step.specs.declared.transfer.Transfer.{Transfer}
-use Rattle.ink_step.specs.declared.transfer.Transfer.TheVariants as transfer
+use Rattle.ink_moves.specs.declared.flow.StepEnd.{StepEnd}
+use Rattle.ink_moves.specs.declared.flow.StepEnd.TheVariants as ends
+use Rattle.ink_effects.specs.declared.transfer.Assignment.{Assignment}
+use Rattle.ink_effects.specs.declared.transfer.Transfer.{Transfer}
+use Rattle.ink_effects.specs.declared.transfer.Transfer.TheVariants as transfer
 use Rattle.ink_vars.specs.Words.{name_of}
-use Rattle.ink_step.proofs.Follows.{ends_short, ends_where, or_between, or_first}
+use Rattle.ink_effects.proofs.Bools.{or_first}
+use Rattle.ink_step.proofs.Follows.{ends_short, ends_where, or_between}
 
 module _ (s : StoryTree) where
   -- a fault that came before a choice is followed

@@ -7,12 +7,12 @@ use Rattle.ink_model.specs.MoveMemory.{move_asks}
 use Rattle.ink_model.specs.Tree.{StoryTree}
 use Rattle.ink_model.specs.declared.fault.Fault.{Fault}
 use Rattle.ink_step.specs.Marks.{pressed}
-use Rattle.ink_step.specs.Performs.{AsksToStore, Keeps, KeepsChoices, Performs}
+use Rattle.ink_effects.specs.Performs.{AsksToStore, Keeps, KeepsChoices, Performs}
 use Rattle.ink_step.specs.Steps.{StepEnds}
 use Rattle.ink_step.specs.Words.{config_of}
-use Rattle.ink_step.specs.declared.flow.StepEnd.{StepEnd}
+use Rattle.ink_moves.specs.declared.flow.StepEnd.{StepEnd}
 use Rattle.ink_step.specs.declared.machine.Machine.{Machine}
-use Rattle.ink_step.specs.declared.transfer.Transfer.{Transfer}
+use Rattle.ink_effects.specs.declared.transfer.Transfer.{Transfer}
 use Rattle.ink_vars.specs.Undo.{globals_stood}
 
 -- A content was performed on the way from a machine to the next, and left this transfer: flow goes where the content sends it, may

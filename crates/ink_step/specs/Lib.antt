@@ -1,14 +1,8 @@
 pub mod Words
 pub mod Marks
 pub mod MarkExamples
-pub mod Performs
-pub mod External
-pub mod Refusals
-pub mod Stacks
-pub mod Reaches
 pub mod Steps
 pub mod Runs
 pub mod Finishes
 pub mod Stores
-pub mod Asked
 pub mod Parts

@@ -1,6 +1,7 @@
 -- What a mark keeps of a machine: each part of its configuration as it stood there, none where no mark stands.
-use Rattle.std.specs.Prelude.{ℕ, ◌+◌, ◌-◌, ◌*◌, ◌^◌, min, nat_lt, List, length, map, Bool, true, false, ◌&&◌, ◌||◌, Option, None, Some, is_some, option_and_then, unwrap_or}
+use Rattle.std.specs.Prelude.{ℕ, ◌+◌, ◌-◌, ◌*◌, ◌^◌, min, List, length, map, Bool, false, ◌&&◌, ◌||◌, Option, None, Some, is_some, option_and_then, unwrap_or}
 use Rattle.ink_choice.specs.Undo.{choices_spare, choices_stood}
+pub use Rattle.ink_effects.specs.Marks.{lacks, takes_value}
 use Rattle.ink_model.specs.Choices.{only_invisible}
 use Rattle.ink_model.specs.Configuration.{ChoiceOf, Configuration, current_place, map_choice}
 use Rattle.ink_model.specs.Counts.{CountsOf}
@@ -11,8 +12,6 @@ use Rattle.ink_model.specs.Place.{entered}
 use Rattle.ink_model.specs.Store.{Values}
 use Rattle.ink_model.specs.Threads.{frame_count}
 use Rattle.ink_model.specs.Visits.{around}
-use Rattle.ink_model.specs.declared.content.Leaf.{Leaf}
-use Rattle.ink_model.specs.declared.content.Leaf.TheVariants as leaves
 use Rattle.ink_model.specs.declared.place.Part.{Part}
 use Rattle.ink_model.specs.declared.value.Value.{Value}
 use Rattle.ink_out.specs.Undo.{output_stood}
@@ -81,14 +80,6 @@ unmarked = record { own = None; threads = None; stack = None; choices = None; gl
 abbrev pub keeps_mark : Stood → Bool
 keeps_mark t = is_some t.stack || is_some t.globals
 
--- a content takes a value off the stack and keeps it, so that while a mark stands it copies the value, or the one before
-abbrev pub takes_value : Leaf → Bool
-takes_value (leaves.Declare name) = true
-takes_value (leaves.DeclareTemp name) = true
-takes_value (leaves.Assign name) = true
-takes_value (leaves.AssignTemp name) = true
-takes_value l = false
-
 -- what stands at a place is such a content
 abbrev pub takes_there : Option StoryTree → Bool
 takes_there (Some (leaf l)) = takes_value l
@@ -99,10 +90,6 @@ unfoldable pub takes_first : StoryTree → Configuration → Bool
 takes_first s c = takes_there (option_and_then (λ p. at s (entered s p)) (current_place c))
 
 -- ---- what notes want
-
--- a mark stands in a part, and fewer than n changes of it can be noted without memory
-abbrev pub lacks : {A : Type 0} → Option A → ℕ → ℕ → Bool
-lacks stood spare n = is_some stood && nat_lt spare n
 
 abbrev pub threads_lack : ℕ → Machine → Bool
 threads_lack n m = lacks (threads_stood m.flow.threads) (threads_spare m.flow.threads) n

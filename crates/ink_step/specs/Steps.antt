@@ -19,9 +19,9 @@ use Rattle.ink_model.specs.declared.fault.Refusal.TheVariants as refusal
 use Rattle.ink_model.specs.declared.host.Event.{Event}
 use Rattle.ink_model.specs.declared.host.Given.{Given}
 use Rattle.ink_model.specs.declared.place.Part.{Part}
-use Rattle.ink_step.specs.External.{made_call}
-use Rattle.ink_step.specs.declared.flow.StepEnd.{StepEnd}
-use Rattle.ink_step.specs.declared.flow.StepEnd.TheVariants as ends
+use Rattle.ink_effects.specs.External.{made_call}
+use Rattle.ink_moves.specs.declared.flow.StepEnd.{StepEnd}
+use Rattle.ink_moves.specs.declared.flow.StepEnd.TheVariants as ends
 
 -- A step ends as its outcome says; where it asks for memory, it may end with OutOfMemory instead. A fault leaves the globals
 -- as they were.
@@ -36,11 +36,6 @@ StepEnds asks outcome globals new result = ⊥
 abbrev pub wants : Stepped → Bool
 wants (Wants name arguments f d) = true
 wants (Comes outcome) = false
-
--- flow went on
-abbrev pub went : StepEnd → Bool
-went ends.Went = true
-went end = false
 
 -- that as the end of a step
 abbrev pub ended : Result Bool Fault → Result StepEnd Fault

@@ -1,33 +1,16 @@
 -- What a machine stands for.
-use Rattle.std.specs.Prelude.{ℕ, List, [], ◌∷◌, length, map, nat_lt, if◌then◌else◌}
+use Rattle.std.specs.Prelude.{List}
+pub use Rattle.ink_effects.specs.Words.{Rest, counts_in, rest_in, rows_below, rows_in, seen_by}
 pub use Rattle.ink_flows.specs.Words.{aside_of, flow_of}
 use Rattle.ink_flows.specs.declared.flow.Flow.{Flow}
-use Rattle.ink_model.specs.Configuration.{ChoiceOf, Configuration, SharedOf, map_choice}
-use Rattle.ink_model.specs.Counts.{CountsOf}
-use Rattle.ink_model.specs.Effect.{Context}
+use Rattle.ink_model.specs.Configuration.{Configuration, SharedOf}
 use Rattle.ink_model.specs.Flows.{AsideOf, Game}
-use Rattle.ink_model.specs.Frames.{ThreadsOf, map_thread}
 use Rattle.ink_model.specs.Places.{places}
-use Rattle.ink_model.specs.Rows.{map_keys}
 use Rattle.ink_model.specs.Store.{Values}
 use Rattle.ink_model.specs.Tree.{StoryTree}
 use Rattle.ink_model.specs.declared.place.Part.{Part}
 use Rattle.ink_step.specs.declared.machine.Machine.{Machine}
-use Rattle.ink_step.specs.declared.machine.Shared.{Shared}
-use Rattle.ink_tree.specs.Nodes.{node_place, place_of}
-use Rattle.ink_tree.specs.declared.spot.Spot.{Spot}
-
--- the rows of a story's contents; rows rise, and so these come first
-abbrev pub rows_below : ℕ → List (ℕ × ℕ) → List (ℕ × ℕ)
-rows_below k [] = []
-rows_below k (r ∷ rs) = if nat_lt r.0 k then r ∷ rows_below k rs else []
-
-abbrev pub rows_in : StoryTree → List (ℕ × ℕ) → List (List Part × ℕ)
-rows_in s rows = map_keys (λ n. node_place s (record { number = n })) (rows_below (length (places s)) rows)
-
--- what counts by number stand for in a story
-abbrev pub counts_in : StoryTree → CountsOf ℕ → CountsOf (List Part)
-counts_in s counts = record { visits = rows_in s counts.visits; turns = rows_in s counts.turns }
+use Rattle.ink_effects.specs.declared.shared.Shared.{Shared}
 
 -- what flows share, over the places that its numbers stand for
 abbrev pub shared_of : StoryTree → Shared → SharedOf (List Part)
@@ -36,24 +19,6 @@ shared_of s v = record { globals = v.globals.rows; counts = counts_in s v.counts
 -- the configuration of a machine
 abbrev pub config_of : StoryTree → Machine → Configuration
 config_of s m = record { flow = flow_of s m.flow; shared = shared_of s m.shared; page = m.output.page }
-
--- what a machine has beside its threads that content may look at and not change
-pub record Rest : Type 0 where
-  pub choices : List (ChoiceOf Spot)
-  pub counts : CountsOf ℕ
-  pub turn : ℕ
-
-abbrev pub rest_in : List (ChoiceOf Spot) → Shared → Rest
-rest_in choices shared = record { choices = choices; counts = shared.counts.rows; turn = shared.turn }
-
--- what content may look at and not change, as `context_of` gives it
-abbrev pub seen_by : StoryTree → ThreadsOf Spot → Rest → Context
-seen_by s threads rest = record {
-  thread = map_thread (place_of s) threads.thread;
-  choices = map (map_choice (place_of s)) rest.choices;
-  counts = counts_in s rest.counts;
-  turn = rest.turn;
-}
 
 abbrev pub globals_of : Machine → Values
 globals_of m = m.shared.globals.rows

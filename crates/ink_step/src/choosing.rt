@@ -13,13 +13,12 @@ ghost use Rattle.ink_step.specs.Steps.{Chooses, StepEnds};
 ghost use Rattle.ink_step.specs.Words.{aside_in, config_of, start_of};
 ghost use Rattle.ink_tree.specs.Nodes.{place_of};
 
-use crate::counting::enter_landed;
-use crate::flow::StepEnd;
 use crate::machine::Machine;
-use crate::noting::{ready_choices, ready_threads};
 use ink_check::Story;
 use ink_choice::Choice;
+use ink_effects::{enter_landed, ready_choices, ready_threads};
 use ink_model::{Fault, Refusal};
+use ink_moves::StepEnd;
 use ink_trail::Undo;
 use ink_tree::Spot;
 use ink_vars::Turn;

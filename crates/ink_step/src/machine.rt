@@ -8,21 +8,14 @@ ghost use Rattle.ink_model.specs.Tree.{StoryTree};
 ghost use Rattle.ink_step.specs.Marks.{room_in, stood_of, unmarked};
 
 use crate::own::OwnPair;
+use ink_effects::Shared;
 use ink_flows::{Aside, Flow};
 use ink_model::Value;
 use ink_out::Output;
 use ink_trail::{Trail, Undo};
-use ink_vars::{Counts, Globals, Turn};
+use ink_vars::Globals;
 use std::alloc::Global;
 use std::mem;
-
-/// What all flows of a story share.
-#[derive(Drop)]
-pub struct Shared {
-    pub globals: Globals,
-    pub counts: Counts,
-    pub turn: Turn,
-}
 
 /// What changes while a story runs: a configuration, which has the current flow; the flows that stand aside; what the globals were
 /// when the last running command began; and while a mark stands the trail of what all was.

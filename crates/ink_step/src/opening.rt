@@ -11,8 +11,9 @@ ghost use Rattle.ink_check.specs.Words.{story_tree};
 ghost use Rattle.ink_step.specs.Runs.{RunsToStop};
 ghost use Rattle.ink_tree.specs.Nodes.{place_of};
 
-use crate::machine::{Machine, Shared};
+use crate::machine::Machine;
 use ink_check::Story;
+use ink_effects::Shared;
 use ink_flows::{Aside, Flow};
 use ink_host::{Desk, Nobody};
 use ink_model::Fault;

@@ -7,8 +7,9 @@ ghost use Rattle.ink_model.specs.Flows.{one_flow};
 ghost use Rattle.ink_model.specs.Tree.{StoryTree};
 ghost use Rattle.ink_step.specs.Parts.{config_of_fields, config_of_parts};
 
-use crate::machine::{Machine, Shared};
+use crate::machine::Machine;
 use ink_check::Story;
+use ink_effects::Shared;
 use ink_flows::{Aside, Flow};
 use ink_out::Output;
 use ink_trail::Trail;

@@ -8,7 +8,7 @@ ghost use Rattle.ink_model.specs.Events.{Made, calls};
 ghost use Rattle.ink_model.specs.Tree.{StoryTree};
 ghost use Rattle.ink_model.specs.Turns.{open_choices};
 ghost use Rattle.ink_step.specs.Marks.{keeps_mark, pressed, stood_of};
-ghost use Rattle.ink_step.specs.Refusals.{RunStopsAtRefusal};
+ghost use Rattle.ink_effects.specs.Refusals.{RunStopsAtRefusal};
 ghost use Rattle.ink_step.specs.Runs.{AreBound, RunsToStop};
 
 use crate::machine::Machine;

@@ -29,28 +29,26 @@ ghost use Rattle.ink_stack.specs.Calls.{frame_kind};
 ghost use Rattle.ink_step.specs.Stores.{StoresAtOnce};
 ghost use Rattle.ink_step.specs.Marks.{keeps_mark, pressed, presses, stack_lacks, stood_of, takes_there, threads_lack};
 ghost use Rattle.ink_step.specs.Finishes.{Finishes};
-ghost use Rattle.ink_step.specs.Performs.{AsksToStore, Keeps, KeepsChoices, Performs, landing_of, leading, storing_in, unstored};
-ghost use Rattle.ink_step.specs.External.{call_of};
-ghost use Rattle.ink_step.specs.Refusals.{StepStopsAtRefusal};
+ghost use Rattle.ink_effects.specs.Performs.{AsksToStore, Keeps, KeepsChoices, Performs, landing_of, leading, storing_in, unstored};
+ghost use Rattle.ink_effects.specs.External.{call_of};
+ghost use Rattle.ink_effects.specs.Refusals.{StepStopsAtRefusal};
 ghost use Rattle.ink_step.specs.Steps.{EndsPlainly, StepEnds, StepMakes, Steps, ended, wants};
 ghost use Rattle.ink_step.specs.Words.{aside_in, config_of, globals_of, start_of};
-ghost use Rattle.ink_step.specs.declared.flow.StepEnd.TheVariants.{WantsCall, Went};
+ghost use Rattle.ink_moves.specs.declared.flow.StepEnd.TheVariants.{WantsCall, Went};
+ghost use Rattle.ink_moves.specs.declared.flow.TheConstants.{MOVING};
 ghost use Rattle.ink_tree.specs.Kept.{leaf_in};
 ghost use Rattle.ink_tree.specs.Nodes.{place_of};
 ghost use Rattle.ink_vars.specs.Undo.{globals_stood};
 
-use crate::diverting::number_of;
-use crate::external::{External, external_in, is_external, would_call};
-use crate::flow::{MOVING, StepEnd, done, end, fork, give_back, land, move_on, move_to, next_of};
-use crate::leaf::perform_leaf;
 use crate::machine::Machine;
-use crate::noting::{ready_choices, ready_stack, ready_threads};
-use crate::operands::{take, top};
-use crate::transfer::{Landing, Transfer};
-use crate::{external, flow};
 use ink_check::Story;
+use ink_effects::{
+    External, Landing, Transfer, call_external, external_in, is_external, number_of, perform_leaf,
+    ready_choices, ready_stack, ready_threads, take, top, would_call,
+};
 use ink_host::{Desk, PureFn, TurnFn, Watcher};
 use ink_model::{Fault, FrameKind, Leaf, Shared, Text, Value};
+use ink_moves::{MOVING, StepEnd, done, end, fork, give_back, land, move_on, move_to, next_of};
 use ink_stack::CallKind;
 use ink_trail::Undo;
 use ink_tree::Spot;
@@ -218,13 +216,7 @@ impl Machine {
         ensures aside { aside_in self.new ≡ aside_in self.old }
         ensures mark { stood_of self.new ≡ stood_of self.old }
     {
-        let mut transfer = external::call_external(
-            story,
-            call,
-            &mut self.flow.stack,
-            &self.output,
-            desk,
-        )?;
+        let mut transfer = call_external(story, call, &mut self.flow.stack, &self.output, desk)?;
         self.finish(story, &mut transfer)
     }
 
@@ -784,7 +776,7 @@ impl Machine {
         ensures mark { stood_of self.new ≡ stood_of self.old }
         ensures spare { threads_spare self.old.flow.threads ≤ threads_spare self.new.flow.threads + 4 }
     {
-        let end = flow::call(&mut self.flow.threads, &mut self.output, kind, to.place)?;
+        let end = ink_moves::call(&mut self.flow.threads, &mut self.output, kind, to.place)?;
         self.enter_around(story.tree(), to.enters)?;
         Ok(end)
     }

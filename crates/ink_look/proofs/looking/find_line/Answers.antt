@@ -7,9 +7,9 @@ use Rattle.ink_look.proofs.Marks.{waits_as, waits_for}
 use Rattle.ink_look.proofs.Searches.{EndsLine, ran_back, ran_none, ran_on, ran_out, ran_past, ran_to, ran_to_cut, ran_to_fault, ran_to_stop}
 use Rattle.ink_look.proofs.looking.find_line.Goals as goal
 use Rattle.ink_look.proofs.looking.find_line.Goals.{in-Nothing, in-Newline}
-use Rattle.ink_step.proofs.Refusals.{keeps_all, keeps_then, run_stops}
+use Rattle.ink_effects.proofs.Refusals.{keeps_all, keeps_then, run_stops}
 use Rattle.ink_step.specs.Marks.{config_back}
-use Rattle.ink_step.specs.Refusals.{RunStopsAtRefusal}
+use Rattle.ink_effects.specs.Refusals.{RunStopsAtRefusal}
 use Rattle.ink_step.specs.Words.{config_of}
 
 pub loop-step-init : goal.loop-step-init

@@ -5,7 +5,7 @@ use Rattle.ink_look.specs.Looking.{Waits, search_at}
 use Rattle.ink_look.proofs.Searches.{Ran}
 use Rattle.ink_look.proofs.looking.find_line.Given as goal
 use Rattle.ink_step.specs.Marks.{config_back}
-use Rattle.ink_step.specs.Refusals.{KeepsRefusals}
+use Rattle.ink_effects.specs.Refusals.{KeepsRefusals}
 use Rattle.ink_step.specs.Words.{aside_in, config_of, start_of}
 
 -- the search got here and is not over

@@ -14,11 +14,11 @@ use Rattle.ink_model.specs.Run.{At}
 use Rattle.ink_model.specs.Shown.{open_newline}
 use Rattle.ink_model.specs.Step.{step}
 use Rattle.ink_model.specs.declared.fault.Fault.TheVariants.{OutOfMemory}
-use Rattle.ink_step.proofs.Refusals.{keeps_all, kept_unless}
+use Rattle.ink_effects.proofs.Refusals.{keeps_all, kept_unless}
 use Rattle.ink_step.specs.Marks.{config_back, presses}
 use Rattle.ink_step.specs.Parts.{config_of_parts}
 use Rattle.ink_step.specs.Words.{config_of}
-use Rattle.ink_step.specs.declared.flow.StepEnd.TheVariants as ends
+use Rattle.ink_moves.specs.declared.flow.StepEnd.TheVariants as ends
 
 -- a text comes, behind which the newline stands
 pub returns-then-is_followed-clause-steps : goal.returns-then-is_followed-clause-steps

@@ -5,9 +5,9 @@ use Rattle.ink_look.proofs.Steps.{seeks_on, unmarked_makes}
 use Rattle.ink_look.proofs.looking.seek.Goals as goal
 use Rattle.ink_look.specs.Looking.{StepsOn, Waits, waiting_then}
 use Rattle.ink_step.specs.Marks.{config_back}
-use Rattle.ink_step.specs.Refusals.{StepStopsAtRefusal}
+use Rattle.ink_effects.specs.Refusals.{StepStopsAtRefusal}
 use Rattle.ink_step.specs.Words.{config_of}
-use Rattle.ink_step.specs.declared.flow.StepEnd.TheVariants as ends
+use Rattle.ink_moves.specs.declared.flow.StepEnd.TheVariants as ends
 
 pub returns-in-Went-clause-steps : goal.returns-in-Went-clause-steps
 returns-in-Went-clause-steps g c =

@@ -9,7 +9,7 @@ use Rattle.ink_model.specs.declared.fault.Fault.TheVariants.{OutOfMemory}
 use Rattle.ink_step.specs.Marks.{Stood, keeps_mark, pressed, stood_of}
 use Rattle.ink_step.proofs.Marks.{not_pressed}
 use Rattle.ink_step.specs.Runs.{RunFalls}
-use Rattle.ink_step.specs.Refusals.{RunStopsAtRefusal}
+use Rattle.ink_effects.specs.Refusals.{RunStopsAtRefusal}
 use Rattle.ink_step.specs.Words.{config_of, start_of}
 
 pub returns-in_err-run-clause-runs : goal.returns-in_err-run-clause-runs

@@ -6,7 +6,7 @@ use Rattle.ink_model.specs.declared.fault.Fault.TheVariants.{OutOfMemory}
 use Rattle.ink_player.specs.Extents.{RunsBy}
 use Rattle.ink_player.proofs.Settling.{passes, passes_fault, passes_short}
 use Rattle.ink_player.proofs.passages.run_to.Goals as goal
-use Rattle.ink_step.specs.Refusals.{RunStopsAtRefusal}
+use Rattle.ink_effects.specs.Refusals.{RunStopsAtRefusal}
 use Rattle.ink_step.specs.Words.{config_of}
 
 pub returns-in_err-said-clause-runs : goal.returns-in_err-said-clause-runs

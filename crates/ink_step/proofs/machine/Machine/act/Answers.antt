@@ -10,12 +10,13 @@ use Rattle.ink_model.specs.Step.{acted, effect}
 use Rattle.ink_model.specs.Tree.{leaf}
 use Rattle.ink_step.specs.Marks.{Stood, keeps_mark, pressed, stood_of, takes_there}
 use Rattle.ink_step.specs.Steps.{StepEnds}
-use Rattle.ink_step.specs.declared.flow.StepEnd.TheVariants as ends
+use Rattle.ink_moves.specs.declared.flow.StepEnd.TheVariants as ends
 use Rattle.ink_step.specs.Words.{config_of}
-use Rattle.ink_step.specs.Performs.{AsksToStore, Performs}
+use Rattle.ink_effects.specs.Performs.{AsksToStore, Performs}
 use Rattle.ink_step.proofs.Finished.{finished}
-use Rattle.ink_step.proofs.Follows.{ends_any, ends_unperformed, ends_where, or_apart, or_first, or_where, or_whole}
-use Rattle.ink_step.proofs.Plain.{performs_marked, stores_marked}
+use Rattle.ink_effects.proofs.Bools.{or_first}
+use Rattle.ink_step.proofs.Follows.{ends_any, ends_unperformed, ends_where, or_apart, or_where, or_whole}
+use Rattle.ink_step.proofs.Storing.{performs_marked, stores_marked}
 use Rattle.ink_step.proofs.Stopping.{broke}
 use Rattle.ink_step.proofs.machine.Machine.act.Goals as goal
 use Rattle.ink_tree.specs.Nodes.{place_of}

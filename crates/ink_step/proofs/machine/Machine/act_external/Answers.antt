@@ -5,14 +5,14 @@ use Rattle.ink_model.specs.Asks.{calling_asks, external_asks}
 use Rattle.ink_model.specs.Effect.{fields_of}
 use Rattle.ink_model.specs.Step.{call_made}
 use Rattle.ink_model.specs.Step.Host.{call_external}
-use Rattle.ink_step.specs.External.{call_of}
+use Rattle.ink_effects.specs.External.{call_of}
 use Rattle.ink_step.specs.Marks.{pressed}
 use Rattle.ink_step.specs.Steps.{StepMakes}
 use Rattle.ink_step.specs.Words.{config_of}
 use Rattle.ink_step.proofs.Makes.{external_call, makes_broken, makes_ended}
-use Rattle.ink_step.proofs.Plain.{keeps_plain, offers_plain, stores_plain}
-use Rattle.ink_step.specs.Refusals.{StepStopsAtRefusal}
-use Rattle.ink_step.proofs.Refusals.{stops_kept}
+use Rattle.ink_effects.proofs.Plain.{keeps_plain, offers_plain, stores_plain}
+use Rattle.ink_effects.specs.Refusals.{StepStopsAtRefusal}
+use Rattle.ink_effects.proofs.Refusals.{stops_kept}
 use Rattle.ink_step.proofs.machine.Machine.act_external.Goals as goal
 
 pub returns-in_err-transfer-clause-step : goal.returns-in_err-transfer-clause-step

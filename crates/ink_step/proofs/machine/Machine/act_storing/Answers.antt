@@ -7,7 +7,7 @@ use Rattle.ink_model.specs.Tree.{leaf}
 use Rattle.ink_step.specs.Marks.{keeps_mark, pressed, stood_of, takes_there}
 use Rattle.ink_step.specs.Steps.{StepEnds}
 use Rattle.ink_step.specs.Words.{config_of}
-use Rattle.ink_step.proofs.Follows.{or_first}
+use Rattle.ink_effects.proofs.Bools.{or_first}
 use Rattle.ink_step.proofs.machine.Machine.act_storing.Goals as goal
 use Rattle.ink_tree.specs.Nodes.{place_of}
 

@@ -14,7 +14,7 @@ use Rattle.ink_step.specs.Steps.{Chooses}
 use Rattle.ink_step.specs.Words.{config_of, counts_in}
 use Rattle.ink_step.specs.declared.machine.Machine.{Machine}
 use Rattle.ink_step.proofs.Chosen.{asks_or_lacks, chooses_none, chooses_one, chooses_short, chosen_lands, open_alike, takes_any, takes_visible, turn_short}
-use Rattle.ink_step.proofs.Follows.{or_first, or_more}
+use Rattle.ink_effects.proofs.Bools.{or_first, or_more}
 use Rattle.ink_step.proofs.machine.Machine.choose.Goals as goal
 use Rattle.ink_step.proofs.machine.Machine.choose.Goals.{After-enter_landed, Else-can_go_on}
 use Rattle.ink_tree.specs.Nodes as Nodes

@@ -5,10 +5,11 @@ use Rattle.ink_model.specs.Effect.{fields_of}
 use Rattle.ink_model.specs.Move.{move}
 use Rattle.ink_model.specs.MoveMemory.{move_asks}
 use Rattle.ink_step.specs.Marks.{Stood, pressed}
-use Rattle.ink_step.specs.Performs.{storing_in, unstored}
+use Rattle.ink_effects.specs.Performs.{storing_in, unstored}
 use Rattle.ink_step.specs.Steps.{StepEnds}
 use Rattle.ink_step.specs.Words.{config_of}
-use Rattle.ink_step.proofs.Follows.{ends_after, ends_any, kept_stays, offered_stay, or_assoc, or_first, or_more, or_whole}
+use Rattle.ink_effects.proofs.Bools.{or_first, or_more}
+use Rattle.ink_step.proofs.Follows.{ends_after, ends_any, kept_stays, offered_stay, or_assoc, or_whole}
 use Rattle.ink_step.proofs.Stopping.{broke_storing, ends_stored}
 use Rattle.ink_step.proofs.machine.Machine.finish_by.Goals as goal
 

@@ -4,7 +4,7 @@ use Rattle.ink_model.specs.Choosing.{default_asks, default_choice, following, fo
 use Rattle.ink_model.specs.Move.{move}
 use Rattle.ink_model.specs.MoveMemory.{move_asks}
 use Rattle.ink_step.specs.Marks.{pressed}
-use Rattle.ink_step.specs.Performs.{unstored}
+use Rattle.ink_effects.specs.Performs.{unstored}
 use Rattle.ink_step.specs.Steps.{StepEnds}
 use Rattle.ink_step.specs.Words.{config_of}
 use Rattle.ink_step.proofs.Follows.{ends_any, or_assoc}

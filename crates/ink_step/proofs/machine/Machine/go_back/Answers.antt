@@ -6,8 +6,8 @@ use Rattle.ink_model.specs.Move.{landing, may_enter, place_to, written_in}
 use Rattle.ink_model.specs.MoveMemory.{landed_asks, returned_asks}
 use Rattle.ink_model.specs.Place.{next_place}
 use Rattle.ink_step.specs.Marks.{landing_lacks, pressed, stood_of}
-use Rattle.ink_step.specs.Performs.{landing_of}
-use Rattle.ink_step.specs.Reaches.{ReachesAs, written}
+use Rattle.ink_effects.specs.Performs.{landing_of}
+use Rattle.ink_moves.specs.Reaches.{ReachesAs, written}
 use Rattle.ink_step.specs.Steps.{StepEnds}
 use Rattle.ink_step.specs.Words.{config_of, counts_in}
 use Rattle.ink_model.specs.Visits.{adds_rows, around}

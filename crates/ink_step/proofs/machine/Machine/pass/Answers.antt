@@ -10,10 +10,11 @@ use Rattle.ink_model.specs.declared.fault.Fault.{Fault}
 use Rattle.ink_step.specs.Marks.{Stood, keeps_mark, pressed, presses, stood_of, takes_there}
 use Rattle.ink_step.specs.Steps.{EndsPlainly, StepEnds}
 use Rattle.ink_step.specs.Words.{config_of}
-use Rattle.ink_step.specs.declared.flow.StepEnd.{StepEnd}
+use Rattle.ink_moves.specs.declared.flow.StepEnd.{StepEnd}
 use Rattle.ink_step.specs.declared.machine.Machine.{Machine}
 use Rattle.ink_step.proofs.Finished.{not_external, passed, takes_here}
-use Rattle.ink_step.proofs.Follows.{ends_short, or_first, or_more, ready_alike}
+use Rattle.ink_effects.proofs.Bools.{or_first, or_more}
+use Rattle.ink_step.proofs.Follows.{ends_short, ready_alike}
 use Rattle.ink_step.proofs.Marks.{step_pressed}
 use Rattle.ink_step.proofs.machine.Machine.pass.Goals as goal
 use Rattle.ink_step.proofs.machine.Machine.pass.Goals.{Start}

@@ -5,7 +5,7 @@ use Rattle.ink_model.specs.Memory.{content_asks}
 use Rattle.ink_model.specs.Step.{effect}
 use Rattle.ink_model.specs.Tree.{leaf}
 use Rattle.ink_step.specs.Marks.{takes_there}
-use Rattle.ink_step.specs.Performs.{Keeps, KeepsChoices, Performs, fields_in, leading}
+use Rattle.ink_effects.specs.Performs.{Keeps, KeepsChoices, Performs, fields_in, leading}
 use Rattle.ink_step.specs.Words.{config_of}
 use Rattle.ink_step.proofs.machine.Machine.perform.Goals as goal
 use Rattle.ink_step.proofs.machine.Machine.perform.Goals.{In-Some}

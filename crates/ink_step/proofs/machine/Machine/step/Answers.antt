@@ -11,10 +11,10 @@ use Rattle.ink_model.specs.Tree.{at, leaf}
 use Rattle.ink_step.specs.Marks.{presses}
 use Rattle.ink_step.specs.Steps.{Steps}
 use Rattle.ink_step.specs.Words.{config_of}
-use Rattle.ink_step.specs.declared.flow.StepEnd.TheVariants as ends
+use Rattle.ink_moves.specs.declared.flow.StepEnd.TheVariants as ends
 use Rattle.ink_step.proofs.Follows.{stands_still}
 use Rattle.ink_step.proofs.Makes.{plainly_never, steps_plainly}
-use Rattle.ink_step.proofs.Refusals.{keeps_all, stops_kept}
+use Rattle.ink_effects.proofs.Refusals.{keeps_all, stops_kept}
 use Rattle.ink_step.proofs.machine.Machine.step.Goals as goal
 use Rattle.ink_tree.specs.Kept.{leaf_in}
 use Rattle.ink_tree.specs.Nodes.{place_of}

@@ -11,17 +11,18 @@ use Rattle.ink_model.specs.Step.Host.{Call, call_at}
 use Rattle.ink_model.specs.Tree.{at, leaf}
 use Rattle.ink_model.specs.declared.fault.Fault.{Fault}
 use Rattle.ink_model.specs.declared.host.Event.{Event}
-use Rattle.ink_step.specs.External.{call_of}
+use Rattle.ink_effects.specs.External.{call_of}
 use Rattle.ink_step.specs.Marks.{counts_lack, keeps_mark, pressed, presses, stood_of, takes_first, takes_there}
 use Rattle.ink_step.specs.Steps.{StepMakes}
 use Rattle.ink_step.specs.Words.{config_of}
-use Rattle.ink_step.specs.declared.flow.StepEnd.{StepEnd}
-use Rattle.ink_step.proofs.Follows.{or_more, or_where}
+use Rattle.ink_moves.specs.declared.flow.StepEnd.{StepEnd}
+use Rattle.ink_effects.proofs.Bools.{or_more}
+use Rattle.ink_step.proofs.Follows.{or_where}
 use Rattle.ink_step.proofs.Landed.{Performing, ends_outside, ends_performed, performs_alike, performs_told}
 use Rattle.ink_step.proofs.Makes.{found_leaves, makes_more, makes_short, makes_where}
 use Rattle.ink_step.proofs.Marks.{pressed_counts, takes_alike, takes_at}
 use Rattle.ink_step.proofs.machine.Machine.step_from.Given as given
-use Rattle.ink_step.proofs.Refusals.{keeps_all, stops_kept}
+use Rattle.ink_effects.proofs.Refusals.{keeps_all, stops_kept}
 use Rattle.ink_step.proofs.machine.Machine.step_from.Goals as goal
 use Rattle.ink_step.proofs.machine.Machine.step_from.Goals.{In_ok-here}
 use Rattle.ink_tree.specs.Kept.{leaf_in}

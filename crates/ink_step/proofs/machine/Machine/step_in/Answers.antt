@@ -8,11 +8,12 @@ use Rattle.ink_model.specs.Step.{step}
 use Rattle.ink_step.specs.Marks.{Stood, keeps_mark, pressed, presses, stood_of, takes_first}
 use Rattle.ink_step.specs.Steps.{StepMakes, Steps, wants}
 use Rattle.ink_step.specs.Words.{config_of}
-use Rattle.ink_step.specs.declared.flow.StepEnd.TheVariants as ends
-use Rattle.ink_step.proofs.Follows.{or_first, or_more, ready_alike}
+use Rattle.ink_moves.specs.declared.flow.StepEnd.TheVariants as ends
+use Rattle.ink_effects.proofs.Bools.{or_first, or_more}
+use Rattle.ink_step.proofs.Follows.{ready_alike}
 use Rattle.ink_step.proofs.Makes.{makes_quietly, makes_said, makes_short, said}
 use Rattle.ink_step.proofs.Marks.{step_pressed}
-use Rattle.ink_step.proofs.Refusals.{keeps_all, stops_kept}
+use Rattle.ink_effects.proofs.Refusals.{keeps_all, stops_kept}
 use Rattle.ink_step.proofs.machine.Machine.step_in.Given as given
 use Rattle.ink_step.proofs.machine.Machine.step_in.Goals as goal
 use Rattle.ink_step.proofs.machine.Machine.step_in.Goals.{After-make_step_room, After-step_from, else-quiet-via-then-quiet+else-wants_call, else-quiet-via-else-quiet}

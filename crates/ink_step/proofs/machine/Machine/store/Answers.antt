@@ -1,7 +1,7 @@
 use Rattle.std.proofs.Common.{◌≡◌, ◌⊎◌, Bool, false, is_some, rules, subst, sym, true, Ok, Err}
 use Rattle.ink_model.specs.Store.{stored}
 use Rattle.ink_model.specs.declared.fault.Fault.TheVariants.{OutOfMemory}
-use Rattle.ink_step.specs.Performs.{Performs, storing_in}
+use Rattle.ink_effects.specs.Performs.{Performs, storing_in}
 use Rattle.ink_step.specs.Steps.{StepEnds}
 use Rattle.ink_step.proofs.Stopping.{stored_short}
 use Rattle.ink_step.proofs.machine.Machine.store.Goals as goal

@@ -5,7 +5,7 @@ use Rattle.ink_model.specs.Effect.{fields_of}
 use Rattle.ink_model.specs.Place.{entered}
 use Rattle.ink_model.specs.Step.{gone_in}
 use Rattle.ink_model.specs.Tree.{at, leaf}
-use Rattle.ink_step.specs.External.{call_of}
+use Rattle.ink_effects.specs.External.{call_of}
 use Rattle.ink_step.specs.Words.{config_of}
 use Rattle.ink_step.proofs.Makes.{found_leaves, stands_in, wants_call, wants_none}
 use Rattle.ink_step.proofs.machine.Machine.wants_call.Given as given

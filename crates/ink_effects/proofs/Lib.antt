@@ -1,0 +1,18 @@
+pub mod Bools
+mod Tops
+mod Puts
+pub mod Effects
+mod Landings
+mod Leading
+pub mod Rooms
+mod Keys
+mod Visits
+mod Places
+mod Stored
+mod Asked
+mod Offered
+pub mod Plain
+mod Calls
+mod Asking
+mod Closing
+pub mod Refusals

@@ -1,0 +1,236 @@
+-- Choice points: what is made of spots and of places, and what it comes to.
+use Rattle.std.proofs.Common.{◌≡◌, ◌∙◌, ℕ, List, [], ◌∷◌, ◌++◌, length, map, reverse, nat_lt, if◌then◌else◌, Bool, true, false, Option, Some, None, option_map, ◌||◌, Result, Ok, Err, OnOk, is_ok, true≢false, ap, sym, subst, refl, inl, inr}
+use Rattle.std.proofs.lemmas.List.{length-map, map-append}
+use Rattle.ink_choice.specs.Words.{Adds, Makes}
+use Rattle.ink_model.specs.Acceptance.{content_counted, counted_container, lands, leaf_counted, written_target}
+use Rattle.ink_model.specs.Bytes.{fits_text}
+use Rattle.ink_model.specs.Choices.{Operands, added, choice, choice_asks, choice_of, choice_text, has_any, is_offered, make, operands, then_pop}
+use Rattle.ink_model.specs.Configuration.{ChoiceOf, map_choice}
+use Rattle.ink_model.specs.Effect.{Context, Effect, Fields, Offers, or_else, or_fault}
+use Rattle.ink_model.specs.Frames.{FrameOf, ThreadOf, ThreadsOf, map_frame, map_thread}
+use Rattle.ink_model.specs.Asks.{makes_choice, offer_asks}
+use Rattle.ink_model.specs.Page.{Page}
+use Rattle.ink_model.specs.Step.Choices.{is_visited, offer, offering, visited_at, was_visited}
+use Rattle.ink_model.specs.Store.{Values}
+use Rattle.ink_model.specs.Tree.{StoryTree, at, leaf}
+use Rattle.ink_model.specs.declared.content.Leaf.TheVariants.{Choice}
+use Rattle.ink_model.specs.declared.fault.Fault.{Fault}
+use Rattle.ink_model.specs.declared.fault.Fault.TheVariants.{BadTarget, TooDeep}
+use Rattle.ink_model.specs.declared.limits.TheConstants.{MAX_CHOICES}
+use Rattle.ink_model.specs.declared.place.Part.{Part}
+use Rattle.ink_model.specs.declared.value.Value.{Value}
+use Rattle.ink_effects.proofs.Effects.{short}
+use Rattle.ink_effects.proofs.Bools.{or_first, or_more}
+use Rattle.ink_effects.proofs.Landings.{leaf_landing}
+use Rattle.ink_effects.specs.Asked.{visits_in}
+use Rattle.ink_effects.specs.Performs.{KeepsChoices, Performs, fields, moving}
+use Rattle.ink_effects.specs.Words.{Rest, counts_in, seen_by}
+use Rattle.ink_effects.specs.declared.transfer.Transfer.{Transfer}
+use Rattle.ink_effects.specs.declared.transfer.Transfer.TheVariants as transfer
+use Rattle.ink_tree.specs.Nodes.{place_of}
+use Rattle.ink_tree.specs.declared.spot.Spot.{Spot}
+
+-- ---- at other places
+
+module _ {P Q : Type 0} (g : P → Q) where
+  -- what is made
+  abbrev pub made_at : Result (Option (ChoiceOf P) × List Value) Fault → Result (Option (ChoiceOf Q) × List Value) Fault
+  made_at (Ok r) = Ok (option_map (map_choice g) r.0, r.1)
+  made_at (Err f) = Err f
+
+  -- what is offered
+  abbrev pub offered_at : Result (List (ChoiceOf P)) Fault → Result (List (ChoiceOf Q)) Fault
+  offered_at (Ok cs) = Ok (map (map_choice g) cs)
+  offered_at (Err f) = Err f
+
+  module _ (flags : ℕ) (target : P) (visited : Bool) (t : ThreadOf P) where
+    by_text : (o : Operands) (b : Bool)
+        → ◌≡◌ {A = Result (Option (ChoiceOf Q) × List Value) Fault} (if b then Ok (Some (choice flags (g target) (map_thread g t) o), reverse o.left) else Err TooDeep)
+        (made_at (if b then Ok (Some (choice flags target t o), reverse o.left) else Err TooDeep))
+    by_text o true = refl
+    by_text o false = refl
+
+    by_operands : (o : Operands) (b : Bool)
+        → ◌≡◌ {A = Result (Option (ChoiceOf Q) × List Value) Fault}
+        (if b then (if fits_text (choice_text o) then Ok (Some (choice flags (g target) (map_thread g t) o), reverse o.left) else Err TooDeep) else Ok (None, reverse o.left))
+        (made_at (if b then (if fits_text (choice_text o) then Ok (Some (choice flags target t o), reverse o.left) else Err TooDeep) else Ok (None, reverse o.left)))
+    by_operands o true = by_text o (fits_text (choice_text o))
+    by_operands o false = refl
+
+    by_result : (r : Result Operands Fault) → then_pop r (choice_of flags (g target) visited (map_thread g t)) ≡ made_at (then_pop r (choice_of flags target visited t))
+    by_result (Ok o) = by_operands o (is_offered flags visited o.condition)
+    by_result (Err f) = refl
+
+    pub make_renamed : (vs : List Value) → make flags (g target) visited (map_thread g t) vs ≡ made_at (make flags target visited t vs)
+    make_renamed vs = by_result (operands flags (reverse vs))
+
+  added_by : (c : ChoiceOf P) (cs : List (ChoiceOf P)) (b : Bool)
+      → ◌≡◌ {A = Result (List (ChoiceOf Q)) Fault} (if b then Ok (map (map_choice g) cs ++ map_choice g c ∷ []) else Err TooDeep) (offered_at (if b then Ok (cs ++ c ∷ []) else Err TooDeep))
+  added_by c cs true = ap Ok (sym (map-append (map_choice g) cs (c ∷ [])))
+  added_by c cs false = refl
+
+  pub added_renamed : (c : ChoiceOf P) (cs : List (ChoiceOf P)) → added (map_choice g c) (map (map_choice g) cs) ≡ offered_at (added c cs)
+  added_renamed c cs =
+      ap (λ n. if nat_lt n MAX_CHOICES then Ok (map (map_choice g) cs ++ map_choice g c ∷ []) else Err TooDeep) (length-map cs (map_choice g)) ∙ added_by c cs (nat_lt (length cs) MAX_CHOICES)
+
+  -- what it asks for is the same
+  below_renamed : (fs : List (FrameOf P)) → has_any (map (map_frame g) fs) ≡ has_any fs
+  below_renamed [] = refl
+  below_renamed (f ∷ fs) = refl
+
+  pub choice_asks_renamed : (c : ChoiceOf P) → choice_asks (map_choice g c) ≡ choice_asks c
+  choice_asks_renamed c = ap (λ b. has_any c.text || (has_any c.tags || (has_any c.thread.frame.temps || b))) (below_renamed c.thread.below)
+
+-- ---- a choice point
+
+module _ (s : StoryTree) (p : List Part) (rest : Rest) (ts : ThreadsOf Spot) (text : List ℕ) (flags : ℕ) (stands : at s p ≡ Some (leaf (Choice text flags)))
+    (evaluating : Bool) (fresh : Option ℕ) (page : Page) (globals : Values) (old : List Value) where
+  abbrev seen : Context
+  seen = seen_by s ts rest
+
+  abbrev with : List Value → Fields
+  with vs = fields evaluating fresh vs page globals
+
+  abbrev offers : Effect
+  offers = offer s p seen text flags (with old)
+
+  abbrev asking : Bool
+  asking = offer_asks s p seen text flags (with old) (lands s p text)
+
+  -- it leads nowhere
+  pub offers_nowhere : None ≡ written_target s p → (new : List Value) (t : StoryTree) → Performs t asking offers (with new) (Err BadTarget)
+  offers_nowhere h new t =
+      subst (λ o. Performs t (offer_asks s p seen text flags (with old) o)
+      (or_else BadTarget o (λ q. or_fault (make flags q (was_visited s p seen text flags) seen.thread old) (λ r. offering s p seen r.0 (with r.1)))) (with new) (Err BadTarget))
+      (h ∙ leaf_landing s p _ stands) (inl refl)
+
+  module _ (spot : Spot) (there : Some (place_of s spot) ≡ written_target s p) (visited : Bool) (is : visited ≡ is_visited (visits_in s (counts_in s rest.counts) (counted_container s p))) (Short : Type 0) where
+    -- of what is made of spots
+    abbrev made : Result (Option (ChoiceOf Spot) × List Value) Fault
+    made = make flags spot visited ts.thread old
+
+    abbrev others : ℕ
+    others = length seen.choices
+
+    abbrev so : Option (ChoiceOf (List Part)) × List Value → Effect
+    so r = offering s p seen r.0 (with r.1)
+
+    abbrev comes_to : Result (Option (ChoiceOf Spot) × List Value) Fault → Effect
+    comes_to m = or_fault (made_at (place_of s) m) so
+
+    visited_in : (o : Option (List Part)) → is_visited (visits_in s seen.counts o) ≡ visited_at s p seen o
+    visited_in None = refl
+    visited_in (Some q) = refl
+
+    counts_there : counted_container s p ≡ leaf_counted s p (Choice text flags)
+    unfolding counted_container
+    counts_there = ap (content_counted s p) stands
+
+    was : was_visited s p seen text flags ≡ visited
+    was = sym (is ∙ ap (λ o. is_visited (visits_in s seen.counts o)) counts_there ∙ visited_in (leaf_counted s p (Choice text flags)))
+
+    makes : make flags (place_of s spot) (was_visited s p seen text flags) seen.thread old ≡ made_at (place_of s) made
+    makes = ap (λ b. make flags (place_of s spot) b seen.thread old) was ∙ make_renamed (place_of s) flags spot visited ts.thread old
+
+    leads_there : lands s p text ≡ Some (place_of s spot)
+    leads_there = sym (there ∙ leaf_landing s p _ stands)
+
+    offers_is : offers ≡ comes_to made
+    offers_is =
+        ap (λ o. or_else BadTarget o (λ q. or_fault (make flags q (was_visited s p seen text flags) seen.thread old) so)) leads_there
+        ∙ ap (λ m. or_fault m so) makes
+
+    asking_is : asking ≡ makes_choice others (made_at (place_of s) made)
+    asking_is = ap (offer_asks s p seen text flags (with old)) leads_there ∙ ap (makes_choice others) makes
+
+    module _ (t : StoryTree) (new : List Value) where
+      abbrev Comes : Result (Option (ChoiceOf Spot) × List Value) Fault → Result Transfer Fault → Type 0
+      Comes m result = Performs t (makes_choice others (made_at (place_of s) m)) (comes_to m) (with new) result
+
+      offers_so : (result : Result Transfer Fault) → Comes made result → Performs t asking offers (with new) result
+      offers_so result h =
+          subst (λ b. Performs t b offers (with new) result) (sym asking_is) (subst (λ e. Performs t (makes_choice others (made_at (place_of s) made)) e (with new) result) (sym offers_is) h)
+
+      -- none is made
+      none_by : (m : Result (Option (ChoiceOf Spot) × List Value) Fault) → Makes Short m old new (Ok None) → Comes m (Ok transfer.Next)
+      none_by (Ok (None, left)) h = ap with h.1
+      none_by (Ok (Some c, left)) h = absurd (let no : None ≡ Some c = h.0 in cc)
+      none_by (Err g) h = absurd h
+
+      pub offers_none : Makes Short made old new (Ok None) → Performs t asking offers (with new) (Ok transfer.Next)
+      offers_none h = offers_so _ (none_by made h)
+
+      -- or a fault comes
+      fails_by : (never : Short → ⊥) (m : Result (Option (ChoiceOf Spot) × List Value) Fault) (g : Fault) → Makes Short m old new (Err g) → Comes m (Err g)
+      fails_by never (Ok (None, left)) g h = elim h.1 [
+        | inl asks ↦ absurd (let no : false ≡ true = asks in cc)
+        | inr few ↦ absurd (never few)
+      ]
+      fails_by never (Ok (Some c, left)) g h =
+          let asks : Bool = choice_asks (map_choice (place_of s) c) || nat_lt others MAX_CHOICES in
+          let memory : choice_asks c ≡ true = elim h.1 [ inl asking ↦ asking | inr few ↦ absurd (never few) ] in
+          subst (λ x. Performs t asks (so (Some (map_choice (place_of s) c), left)) (with new) (Err x)) (sym h.0)
+          (short t asks (with new) _ (or_first _ _ (choice_asks_renamed (place_of s) c ∙ memory)))
+      fails_by never (Err x) g h = inl h.0
+
+      pub offers_fault : (never : Short → ⊥) (g : Fault) → Makes Short made old new (Err g) → Performs t asking offers (with new) (Err g)
+      offers_fault never g h = offers_so _ (fails_by never made g h)
+
+      -- one is made
+      module _ (c : ChoiceOf Spot) (after : List (ChoiceOf Spot)) (result : Result (Unit {0}) Fault) where
+        one_added : (asks : Bool) (left : List Value) → new ≡ left → (r : Result (List (ChoiceOf Spot)) Fault) (x : Result (Unit {0}) Fault) → (is_ok r ≡ true → asks ≡ true) → Adds r rest.choices after x
+            → Performs t asks (or_fault (offered_at (place_of s) r) (λ choices. Offers choices (with left))) (with new) (moving x)
+        one_added asks left e (Ok ds) (Ok u) there h = ap with e
+        one_added asks left e (Ok ds) (Err f) there h = (h.0, there refl)
+        one_added asks left e (Err g) (Ok u) there h = absurd h
+        one_added asks left e (Err g) (Err f) there h = inl h.0
+
+        -- there is room for it
+        room_there : (d : ChoiceOf Spot) → is_ok (added d rest.choices) ≡ true → choice_asks (map_choice (place_of s) d) || nat_lt others MAX_CHOICES ≡ true
+        room_there d h = or_more (choice_asks (map_choice (place_of s) d)) _ (ap (λ n. nat_lt n MAX_CHOICES) (length-map rest.choices (map_choice (place_of s))) ∙ by (nat_lt (length rest.choices) MAX_CHOICES) h)
+          where
+            by : (b : Bool) → (let r : Result (List (ChoiceOf Spot)) Fault = if b then Ok (rest.choices ++ d ∷ []) else Err TooDeep in is_ok r ≡ true) → b ≡ true
+            by true h = refl
+            by false h = absurd (true≢false (sym h))
+
+        one_by : (m : Result (Option (ChoiceOf Spot) × List Value) Fault) → Makes Short m old new (Ok (Some c)) → Adds (added c rest.choices) rest.choices after result → Comes m (moving result)
+        one_by (Ok (None, left)) h adds = absurd (let no : Some c ≡ None = h.0 in cc)
+        one_by (Ok (Some d, left)) h adds =
+            let same : c ≡ d = let both : Some c ≡ Some d = h.0 in cc in
+            let asks : Bool = choice_asks (map_choice (place_of s) d) || nat_lt others MAX_CHOICES in
+            subst (λ r. Performs t asks (or_fault r (λ choices. Offers choices (with left))) (with new) (moving result)) (sym (added_renamed (place_of s) d rest.choices))
+            (one_added asks left h.1 (added d rest.choices) result (room_there d) (subst (λ x. Adds (added x rest.choices) rest.choices after result) same adds))
+        one_by (Err g) h adds = absurd h
+
+        pub offers_one : Makes Short made old new (Ok (Some c)) → Adds (added c rest.choices) rest.choices after result → Performs t asking offers (with new) (moving result)
+        offers_one h adds = offers_so _ (one_by made h adds)
+
+    -- ---- the choices after it
+
+    module _ (new : List Value) where
+      pub keeps_none : Makes Short made old new (Ok None) → KeepsChoices s offers rest.choices rest.choices
+      keeps_none h = subst (λ e. KeepsChoices s e rest.choices rest.choices) (sym offers_is) (by made h)
+        where
+          by : (m : Result (Option (ChoiceOf Spot) × List Value) Fault) → Makes Short m old new (Ok None) → KeepsChoices s (comes_to m) rest.choices rest.choices
+          by (Ok (None, left)) h = refl
+          by (Ok (Some c, left)) h = absurd (let no : None ≡ Some c = h.0 in cc)
+          by (Err g) h = absurd h
+
+      module _ (c : ChoiceOf Spot) (after : List (ChoiceOf Spot)) where
+        keeps_added : (f : Fields) (r : Result (List (ChoiceOf Spot)) Fault) (x : Result (Unit {0}) Fault) → Adds r rest.choices after x
+            → OnOk x (KeepsChoices s (or_fault (offered_at (place_of s) r) (λ choices. Offers choices f)) rest.choices after)
+        keeps_added f (Ok ds) (Ok u) h = ap (map (map_choice (place_of s))) h
+        keeps_added f (Err g) (Ok u) h = absurd h
+        keeps_added f r (Err g) h = tt
+
+        pub keeps_one : (result : Result (Unit {0}) Fault) → Makes Short made old new (Ok (Some c)) → Adds (added c rest.choices) rest.choices after result
+            → OnOk result (KeepsChoices s offers rest.choices after)
+        keeps_one result h adds = subst (λ e. OnOk result (KeepsChoices s e rest.choices after)) (sym offers_is) (by made h)
+          where
+            by : (m : Result (Option (ChoiceOf Spot) × List Value) Fault) → Makes Short m old new (Ok (Some c)) → OnOk result (KeepsChoices s (comes_to m) rest.choices after)
+            by (Ok (None, left)) h = absurd (let no : Some c ≡ None = h.0 in cc)
+            by (Ok (Some d, left)) h =
+                let same : c ≡ d = let both : Some c ≡ Some d = h.0 in cc in
+                subst (λ r. OnOk result (KeepsChoices s (or_fault r (λ choices. Offers choices (with left))) rest.choices after)) (sym (added_renamed (place_of s) d rest.choices))
+                (keeps_added (with left) (added d rest.choices) result (subst (λ x. Adds (added x rest.choices) rest.choices after result) same adds))
+            by (Err g) h = absurd h

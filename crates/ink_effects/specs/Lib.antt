@@ -1,0 +1,7 @@
+pub mod Words
+pub mod Marks
+pub mod Performs
+pub mod External
+pub mod Refusals
+pub mod Stacks
+pub mod Asked

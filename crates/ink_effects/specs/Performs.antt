@@ -1,0 +1,123 @@
+-- What performing a content does, beside its effect.
+use Rattle.std.specs.Prelude.{◌≡◌, ◌⊎◌, ⊤, ℕ, List, length, map, Bool, true, false, Option, Some, None, is_some, option_map, Result, Ok, Err}
+use Rattle.ink_model.specs.Configuration.{ChoiceOf, map_choice, with_globals}
+use Rattle.ink_model.specs.Effect.{Fields, Effect, Landing as Goal, Moves, Stores, Offers, Lands, Calls, Returns, Forks, Done, Ends, Fails}
+use Rattle.ink_model.specs.Frames.{FrameOf, ThreadOf, ThreadsOf, fresh_depth, map_threads, mode_in, on_top}
+use Rattle.ink_model.specs.Move.{Outcome, Next, Stop}
+use Rattle.ink_model.specs.Page.{Page}
+use Rattle.ink_model.specs.Store.{Values, store, stored}
+use Rattle.ink_model.specs.Tree.{StoryTree}
+use Rattle.ink_model.specs.declared.fault.Fault.{Fault}
+use Rattle.ink_model.specs.declared.fault.Fault.TheVariants.{OutOfMemory}
+use Rattle.ink_model.specs.declared.value.Value.{Value}
+use Rattle.ink_model.specs.declared.place.Part.{Part}
+use Rattle.ink_effects.specs.declared.transfer.Landing.{Landing}
+use Rattle.ink_effects.specs.declared.transfer.Transfer.{Transfer}
+use Rattle.ink_effects.specs.declared.transfer.Transfer.TheVariants as transfer
+use Rattle.ink_stack.specs.Calls.{frame_kind}
+use Rattle.ink_tree.specs.Nodes.{place_of}
+use Rattle.ink_tree.specs.declared.spot.Spot.{Spot}
+use Rattle.ink_vars.specs.Words.{name_of}
+
+-- where no text was written
+abbrev pub fields : Bool → Option ℕ → List Value → Page → Values → Fields
+fields evaluating fresh stack page globals =
+    record { evaluating = evaluating; fresh = fresh; wrote = None; stack = stack; page = page; globals = globals }
+
+-- the same of the top frame
+abbrev pub fields_in : {P : Type 0} → FrameOf P → List Value → Page → Values → Fields
+fields_in frame stack page globals = fields frame.evaluating (fresh_depth frame) stack page globals
+
+-- a text was written in the open section
+abbrev pub with_text : Fields → Fields
+with_text f = record f { wrote = Some (length f.page.sections) }
+
+-- a landing, at the place that its spot stands for
+abbrev pub landing_of : StoryTree → Landing → Goal
+landing_of s to = record { place = place_of s to.place; enters = to.enters }
+
+-- where content leads, in the same way
+abbrev pub led_as : StoryTree → Result Landing Fault → Result Goal Fault
+led_as s (Ok to) = Ok (landing_of s to)
+led_as s (Err f) = Err f
+
+-- where a tunnel goes back to, in the same way
+abbrev pub led_back_as : StoryTree → Result (Option Landing) Fault → Result (Option Goal) Fault
+led_back_as s (Ok to) = Ok (option_map (landing_of s) to)
+led_back_as s (Err f) = Err f
+
+-- Performing has an effect: it leaves the effect's fields, but for the end of freshness that a text makes, and for a global that
+-- is stored last, which asks for memory where it is new; or it is its fault. Where it asks for memory it may be OutOfMemory
+-- instead. Temporaries are stored at once (`stored_by`).
+abbrev pub Performs : StoryTree → Bool → Effect → Fields → Result Transfer Fault → Type 0
+Performs s asks (Moves f) new (Ok transfer.Next) = new ≡ f
+Performs s asks (Moves f) new (Ok transfer.Wrote) = f ≡ with_text new
+Performs s asks (Stores t f) new (Ok transfer.Next) = new ≡ f
+Performs s asks (Stores t f) new (Ok (transfer.Store a)) = (f ≡ record new { globals = store (name_of a.name) a.value new.globals }) × (is_some (stored (name_of a.name) new.globals) ≡ false → asks ≡ true)
+Performs s asks (Offers choices f) new (Ok transfer.Next) = new ≡ f
+Performs s asks (Lands l f) new (Ok (transfer.Land to)) = (l ≡ landing_of s to) × (new ≡ f)
+Performs s asks (Calls k l f) new (Ok (transfer.Call kind to)) = (k ≡ frame_kind kind) × (l ≡ landing_of s to) × (new ≡ f)
+Performs s asks (Returns k to f) new (Ok (transfer.Return kind back)) = (k ≡ kind) × (to ≡ option_map (landing_of s) back) × (new ≡ f)
+Performs s asks (Forks f) new (Ok transfer.Fork) = new ≡ f
+Performs s asks (Done f) new (Ok transfer.Done) = new ≡ f
+Performs s asks (Ends f) new (Ok transfer.End) = new ≡ f
+Performs s asks (Fails g) new (Err f) = (f ≡ g) ⊎ ((f ≡ OutOfMemory) × (asks ≡ true))
+Performs s asks e new (Err f) = (f ≡ OutOfMemory) × (asks ≡ true)
+Performs s asks e new result = ⊥
+
+-- the thread that runs, with the temporaries of an effect
+abbrev pub stored_by : Effect → ThreadOf (List Part) → ThreadOf (List Part)
+stored_by (Stores t f) u = t
+stored_by e u = u
+
+-- an effect that stores something asks for memory
+abbrev pub AsksToStore : Effect → Bool → Type 0
+AsksToStore (Stores t f) asks = asks ≡ true
+AsksToStore e asks = ⊤
+
+-- An effect that stores a global, before that is done: the globals are still these.
+abbrev pub unstored : Values → Effect → Effect
+unstored globals (Stores t f) = Stores t (record f { globals = globals })
+unstored globals e = e
+
+-- with the globals that an effect stores
+abbrev pub storing_in : Effect → Outcome → Outcome
+storing_in (Stores t f) (Next c) = Next (with_globals f.globals c)
+storing_in (Stores t f) (Stop c) = Stop (with_globals f.globals c)
+storing_in e o = o
+
+-- the choices, with those of an effect
+abbrev pub offered_by : Effect → List (ChoiceOf (List Part)) → List (ChoiceOf (List Part))
+offered_by (Offers choices f) old = choices
+offered_by e old = old
+
+-- Performing keeps the choices, but for those that an effect offers.
+abbrev pub KeepsChoices : StoryTree → Effect → List (ChoiceOf Spot) → List (ChoiceOf Spot) → Type 0
+KeepsChoices s e old new = map (map_choice (place_of s)) new ≡ offered_by e (map (map_choice (place_of s)) old)
+
+-- Performing keeps the threads, but for the mode of the top frame, and for temporaries that an effect stores.
+abbrev pub Keeps : StoryTree → Effect → ThreadsOf Spot → ThreadsOf Spot → Type 0
+Keeps s e old new = map_threads (place_of s) new ≡ on_top (mode_in new.thread.frame.evaluating) (on_top (stored_by e) (map_threads (place_of s) old))
+
+-- flow goes where a transfer says after what was done without a fault
+abbrev pub leading : Result (Unit {0}) Fault → Transfer → Result Transfer Fault
+leading (Ok u) to = Ok to
+leading (Err f) to = Err f
+
+-- it goes on
+abbrev pub moving : Result (Unit {0}) Fault → Result Transfer Fault
+moving outcome = leading outcome transfer.Next
+
+-- the same of what may have written a text
+abbrev pub after_text : Result Bool Fault → Result Transfer Fault
+after_text (Ok true) = Ok transfer.Wrote
+after_text (Ok false) = Ok transfer.Next
+after_text (Err f) = Err f
+
+-- Performs, of a content after which flow goes on.
+abbrev pub Changes : Bool → Effect → Fields → Result (Unit {0}) Fault → Type 0
+Changes asks e new result = (s : StoryTree) → Performs s asks e new (moving result)
+
+-- The same of one that tells whether it wrote a text.
+abbrev pub Writes : Bool → Effect → Fields → Result Bool Fault → Type 0
+Writes asks e new result = (s : StoryTree) → Performs s asks e new (after_text result)

@@ -1,0 +1,3 @@
+mod Passing
+mod Turns
+mod Calling

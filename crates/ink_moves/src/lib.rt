@@ -1,0 +1,8 @@
+//! Where flow goes among frames and threads.
+#![tactic(auto)]
+
+mod flow;
+
+pub use flow::{
+    MOVING, StepEnd, call, done, end, fork, give_back, land, move_on, move_to, next_of,
+};

@@ -1,5 +1,0 @@
-use Rattle.ink_step.proofs.Tops.{lent_top}
-use Rattle.ink_step.proofs.operands.top.Goals as goal
-
-pub returns-in-Ok : goal.returns-in-Ok
-returns-in-Ok c = lent_top c.args.stack.now.items _ c.in-Ok.ensures
