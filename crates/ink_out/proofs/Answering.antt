@@ -55,11 +55,7 @@ shown_none marks settled s i is h = sym (ap (is_among i) (h.tracks.newlines [] �
 
 stays_now : (before : List Mark) (first : Option First) → stays before first [] ≡ is_some first
 stays_now before None = refl
-stays_now before (Some b) = by b.broken
-  where
-    by : (x : Bool) → not (false || (x && false)) ≡ true
-    by true = refl
-    by false = refl
+stays_now before (Some b) = elim b.broken as (λ broken. not (false || (broken && false)) ≡ true) [ true ↦ refl | false ↦ refl ]
 
 pub shows_of : (marks : List Mark) (settled : List ℕ) (s : State) → Stands (reverse marks) settled s → (s.tracker.text || is_some s.tracker.blank) ≡ shows_text marks
 shows_of marks settled s h = sym (h.tracks.some [] ∙ ap (λ b. s.tracker.text || b) (stays_now (reverse marks) s.tracker.blank))
@@ -78,8 +74,7 @@ nothing_before (Newline ∷ before) after h = rw (nothing_before before (Newline
   where
     unshown : (text : List ℕ) (c x : Bool) → x ≡ false → (if c && (x && not (ends before (Newline ∷ after))) then text else []) ≡ []
     unshown text true true k = absurd (cc)
-    unshown text true false k = refl
-    unshown text false x k = refl
+    unshown text c x k = refl
 nothing_before (m ∷ before) after h = ap (λ text. text ++ []) (nothing_before before (m ∷ after) h)
 
 pub nothing_shown : (marks : List Mark) → shows_text marks ≡ false → [] ≡ clean (shown_text marks)

@@ -1,6 +1,8 @@
 -- Where blanks alone are shown, nothing is left of them.
-use Rattle.std.proofs.Common.{◌≡◌, ◌∙◌, ◌⊎◌, inl, inr, ap, refl, sym, ℕ, List, [], ◌∷◌, ◌++◌, Bool, true, false, not, ◌&&◌, ◌||◌, if◌then◌else◌, is_some, reverse, Option, None, Some}
+use Rattle.std.proofs.Common.{◌≡◌, ◌∙◌, inl, inr, ap, refl, sym, ℕ, List, [], ◌∷◌, ◌++◌, Bool, true, false, not, ◌&&◌, ◌||◌, if◌then◌else◌, is_some, reverse, Option, None, Some}
 use Rattle.std.specs.List.{list_any}
+use Rattle.std.proofs.Math.Bool.{or_assoc}
+use Rattle.std.proofs.lemmas.Bool.{and_cases, not-false, or_parts}
 use Rattle.std.proofs.lemmas.List.Sorted.{list_any-IsPermutation, IsPermutation-reverse}
 use Rattle.ink_model.specs.Bytes.{is_blank, is_newline}
 use Rattle.ink_model.specs.Clean.{clean}
@@ -21,30 +23,21 @@ use Rattle.ink_out.proofs.WhiteEnds.{blank_no_newline}
 abbrev is_filled : List ℕ → Bool
 is_filled cs = list_any (λ c. not (is_blank c)) cs
 
-neither : (a b : Bool) → (a || b) ≡ false → (a ≡ false) × (b ≡ false)
-neither true b h = absurd (cc)
-neither false b h = (refl, h)
-
-turned : (b : Bool) → not b ≡ false → b ≡ true
-turned true h = refl
-turned false h = absurd (cc)
-
 blank_append : (a b : List ℕ) → is_filled a ≡ false → is_filled b ≡ false → is_filled (a ++ b) ≡ false
 blank_append [] b h k = k
-blank_append (c ∷ cs) b h k = let p = neither (not (is_blank c)) (is_filled cs) h in rw p.0 (blank_append cs b p.1 k)
+blank_append (c ∷ cs) b h k = let p = or_parts (not (is_blank c)) (is_filled cs) h in rw p.0 (blank_append cs b p.1 k)
 
 cleaned_blank : (cs : List ℕ) → is_filled cs ≡ false → cleaned_on Nothing cs ≡ []
 cleaned_blank [] h = refl
 cleaned_blank (c ∷ cs) h =
-    let p = neither (not (is_blank c)) (is_filled cs) h in
-    let blank = turned (is_blank c) p.0 in
+    let p = or_parts (not (is_blank c)) (is_filled cs) h in
+    let blank = not-false (is_blank c) p.0 in
     let other : is_newline c ≡ false = blank_no_newline c blank in
     rw (other, blank) (cleaned_blank cs p.1)
 
 unshown : (c x e : Bool) → (c && x) ≡ false → is_filled (if c && (x && not e) then 10 ∷ [] else []) ≡ false
 unshown true true e h = absurd (cc)
-unshown true false e h = refl
-unshown false x e h = refl
+unshown c x e h = refl
 
 held : (t : List ℕ) (b : Bool) → is_filled t ≡ false → is_filled (if b then t else []) ≡ false
 held t true h = h
@@ -55,11 +48,11 @@ blank_before : (before after : List Mark) → has_text before ≡ false → ends
 blank_before [] after h e w = refl
 blank_before (Text t ∷ before) after h e w = absurd (cc)
 blank_before (Blank t ∷ before) after h e w =
-    let p = neither (is_filled t) (list_any is_filled_blank before) w in
+    let p = or_parts (is_filled t) (list_any is_filled_blank before) w in
     blank_append (text_before before (Blank t ∷ after)) (if blank_shown before after then t else []) (blank_before before (Blank t ∷ after) h e p.1)
     (held t (blank_shown before after) p.0)
 blank_before (Newline ∷ before) after h e w =
-    let p = neither (clear before after && some before (Newline ∷ after)) (ends before (Newline ∷ after)) e in
+    let p = or_parts (clear before after && some before (Newline ∷ after)) (ends before (Newline ∷ after)) e in
     blank_append (text_before before (Newline ∷ after)) (if newline_shown before after then 10 ∷ [] else []) (blank_before before (Newline ∷ after) h p.1 w)
     (unshown (clear before after) (some before (Newline ∷ after)) (ends before (Newline ∷ after)) p.0)
 blank_before (m ∷ before) after h e w = blank_append (text_before before (m ∷ after)) [] (blank_before before (m ∷ after) h e w) refl
@@ -67,27 +60,19 @@ blank_before (m ∷ before) after h e w = blank_append (text_before before (m �
 turned_round : (marks : List Mark) → list_any is_filled_blank (reverse marks) ≡ list_any is_filled_blank marks
 turned_round marks = sym (list_any-IsPermutation is_filled_blank marks (reverse marks) (IsPermutation-reverse marks))
 
-cases_and : (a b : Bool) → (a && b) ≡ false → (a ≡ false) ⊎ (b ≡ false)
-cases_and true b h = inr h
-cases_and false b h = inl refl
-
 pub nothing_more : (marks : List Mark) → shows_more marks ≡ false → [] ≡ clean (shown_text marks)
 nothing_more marks h =
-    elim (cases_and (shows_text marks) (has_text (reverse marks) || (ends (reverse marks) [] || list_any is_filled_blank marks)) h) [
+    elim (and_cases (shows_text marks) (has_text (reverse marks) || (ends (reverse marks) [] || list_any is_filled_blank marks)) h) [
       | inl none ↦ nothing_shown marks none
       | inr blank ↦
-          let p = neither (has_text (reverse marks)) (ends (reverse marks) [] || list_any is_filled_blank marks) blank in
-          let q = neither (ends (reverse marks) []) (list_any is_filled_blank marks) p.1 in
+          let p = or_parts (has_text (reverse marks)) (ends (reverse marks) [] || list_any is_filled_blank marks) blank in
+          let q = or_parts (ends (reverse marks) []) (list_any is_filled_blank marks) p.1 in
           sym (clean_is (shown_text marks) ∙ cleaned_blank (shown_text marks) (blank_before (reverse marks) [] p.0 q.0 (turned_round marks ∙ q.1)))
     ]
 
 waiting_now : (before : List Mark) (o : Option Waiting) → waiting before o [] ≡ is_some o
 waiting_now before None = refl
 waiting_now before (Some w) = waits_now before w
-
-or_parts : (a b c : Bool) → ((a || b) || c) ≡ (a || (b || c))
-or_parts true b c = refl
-or_parts false b c = refl
 
 -- what is known at once of a section's marks
 pub more_is : (marks : List Mark) (settled : List ℕ) (s : State) → Stands (reverse marks) settled s
@@ -97,6 +82,6 @@ more_is marks settled s h =
     let words = list_any is_filled_blank marks in
     let ends_is : is_some t.newline ≡ ends (reverse marks) [] = sym (h.tracks.ends [] ∙ waiting_now (reverse marks) t.newline) in
     ap (λ b. b && ((t.text || is_some t.newline) || words)) (shows_of marks settled s h)
-    ∙ ap (λ b. shows_text marks && b) (or_parts t.text (is_some t.newline) words)
+    ∙ ap (λ b. shows_text marks && b) (or_assoc t.text (is_some t.newline) words)
     ∙ ap (λ b. shows_text marks && (b || (is_some t.newline || words))) h.tracks.text
     ∙ ap (λ b. shows_text marks && (has_text (reverse marks) || (b || words))) ends_is

@@ -35,8 +35,10 @@ unfolding page_with
 closed_page line sections n some = ap (page_with line n) (below_last sections some)
 
 -- what was lent comes back whole
-pub refilled : (xs ys : List Section) (n : ℕ) → length xs ≡ n → length ys ≡ length xs → take n (ys ++ drop (length ys) xs) ≡ ys
-refilled xs ys n fits same = rw (drop_all (length ys) xs (omega arith), append-nil ys) (take_all n ys (omega arith))
+pub refilled : (xs slice ys : List Section) (n : ℕ) → n ≡ length xs → slice ≡ xs → length ys ≡ length slice → take n (ys ++ drop (length ys) xs) ≡ ys
+refilled xs slice ys n fits lent same =
+    let kept : length ys ≡ length xs = same ∙ ap (λ (s : List Section). length s) lent in
+    rw (drop_all (length ys) xs (omega arith), append-nil ys) (take_all n ys (omega arith))
 
 abbrev written : Page → Result Page Fault
 written page = Ok page
@@ -45,7 +47,7 @@ written page = Ok page
 pub closed_ok : (ms line new_line : List Mark) (xs slice ys popped : List Section) (len n : ℕ) → slice ≡ xs → len ≡ length xs → 0 < length xs → length ys ≡ length slice → popped ≡ take (len - 1) (take len (ys ++ drop (length ys) xs)) → Leaves {A = Unit {0}} (writes_marks ms (page_of line (take (length slice - 1) slice) n)) (page_of line (take (length slice - 1) slice) n) (page_of new_line (take (length slice - 1) ys) n) (Ok tt) → writes_marks ms (closed (page_of line xs n)) ≡ Ok (page_of new_line popped n)
 closed_ok ms line new_line xs slice ys popped len n same fits some kept gone is =
     let lent : length slice ≡ length xs = ap (λ (s : List Section). length s) same in
-    let whole : take len (ys ++ drop (length ys) xs) ≡ ys = refilled xs ys len (sym fits) (kept ∙ lent) in
+    let whole = refilled xs slice ys len fits same kept in
     let left_over : take (length slice - 1) ys ≡ popped = ap (λ (k : ℕ). take (k - 1) ys) (lent ∙ sym fits) ∙ sym (gone ∙ ap (λ (s : List Section). take (len - 1) s) whole) in
     ap (writes_marks ms) (closed_page line xs n some)
     ∙ (ap (λ (s : List Section). writes_marks ms (page_of line (take (length s - 1) s) n)) (sym same)
@@ -59,8 +61,7 @@ unchanged r page next g (Ok b) same told is = absurd told
 -- where the mark found no room all is as it was
 pub closed_err : (ms line new_line : List Mark) (xs slice ys : List Section) (len n : ℕ) (g : Fault) (answer : Result (Unit {0}) Fault) → slice ≡ xs → len ≡ length xs → 0 < length xs → length ys ≡ length slice → (new_line ≡ line) × (ys ≡ slice) → IsErrAnd answer (λ f. f ≡ g) → Leaves {A = Unit {0}} (writes_marks ms (page_of line (take (length slice - 1) slice) n)) (page_of line (take (length slice - 1) slice) n) (page_of new_line (take (length slice - 1) ys) n) (Err g) → Leaves {A = Unit {0}} (writes_marks ms (closed (page_of line xs n))) (page_of line xs n) (page_of new_line (take len (ys ++ drop (length ys) xs)) n) answer
 closed_err ms line new_line xs slice ys len n g answer same fits some kept stays told is =
-    let lent : length slice ≡ length xs = ap (λ (s : List Section). length s) same in
-    let whole : take len (ys ++ drop (length ys) xs) ≡ ys = refilled xs ys len (sym fits) (kept ∙ lent) in
+    let whole = refilled xs slice ys len fits same kept in
     let as_before : page_of new_line (take len (ys ++ drop (length ys) xs)) n ≡ page_of line xs n = rw (whole, stays.1, same, stays.0) refl in
     let is_below : page_of line (take (length slice - 1) slice) n ≡ closed (page_of line xs n) = ap (λ (s : List Section). page_of line (take (length s - 1) s) n) same ∙ sym (closed_page line xs n some) in
     subst (λ (p : Page). Leaves {A = Unit {0}} (writes_marks ms p) (page_of line xs n) (page_of new_line (take len (ys ++ drop (length ys) xs)) n) answer) is_below (unchanged (writes_marks ms (page_of line (take (length slice - 1) slice) n)) (page_of line xs n) (page_of new_line (take len (ys ++ drop (length ys) xs)) n) g answer as_before told is.0)
@@ -109,15 +110,32 @@ pub none_closed : (page : Page) → page.sections ≡ [] → (closes_string page
 none_closed page is = (ap (closes_string_of page) is, ap (closes_tag_of page) is)
 
 pub no_tag : (page : Page) (x : Section) → page.sections ≡ x ∷ drop 1 page.sections → true ≡ is_string x → closes_tag page ≡ Err BadMode
-no_tag page x top is = ap (closes_tag_of page) top ∙ by x.kind x.marks is
-  where
-    by : (kind : SectionKind) (marks : List Mark) → true ≡ is_string (record { kind = kind; marks = marks }) → closes_tag_of page (record { kind = kind; marks = marks } ∷ drop 1 page.sections) ≡ Err BadMode
-    by string_section marks is = refl
-    by tag_section marks is = absurd (cc)
+no_tag page x top is =
+    let by : true ≡ is_string x → closes_tag_of page (x ∷ drop 1 page.sections) ≡ Err BadMode =
+    elim x.kind as (λ kind. true ≡ is_string (record { kind = kind; marks = x.marks }) → closes_tag_of page (record { kind = kind; marks = x.marks } ∷ drop 1 page.sections) ≡ Err BadMode) [ string_section ↦ λ is. refl | tag_section ↦ λ is. absurd (cc) ] in
+    ap (closes_tag_of page) top ∙ by is
+
+-- what is made of a text that fits
+abbrev if_fits : {A : Type 0} → Bool → Result A Fault → Result A Fault
+if_fits fits r = if fits then r else Err TooDeep
+
+kept_fits : {A : Type 0} (fits : Bool) (t text : List ℕ) (r : List ℕ → Result A Fault) → if_fits {A = List ℕ} fits (Ok t) ≡ Ok text → if_fits {A = A} fits (r t) ≡ r text
+kept_fits true t text r kept = ap r cc
+kept_fits false t text r kept = absurd (cc)
+
+refused_fits : {A : Type 0} (fits : Bool) (t : List ℕ) (r : Result A Fault) (f : Fault) → asks_for {A = A} r ≡ true → Gives {A = List ℕ} (Err f) (if_fits {A = List ℕ} fits (Ok t)) → Gives {A = A} (Err f) (if_fits {A = A} fits r)
+refused_fits true t r f asks (inl p) = inl (p.0, asks)
+refused_fits true t r f asks (inr e) = absurd (cc)
+refused_fits false t r f asks (inl p) = inl p
+refused_fits false t r f asks (inr e) = inr cc
+
+asks_fits : {A : Type 0} (fits : Bool) (r : Result A Fault) → asks_for {A = A} r ≡ true → asks_for {A = A} (if_fits {A = A} fits r) ≡ true
+asks_fits true r asks = asks
+asks_fits false r asks = refl
 
 -- a tag is closed by its text
 closing : List ℕ → Page → Bool → Result (Option (List ℕ) × Page) Fault
-closing t page fits = if fits then tagged t page else Err TooDeep
+closing t page fits = if_fits fits (tagged t page)
 
 by_text : (page : Page) (x : Section) (t : List ℕ) → page.sections ≡ x ∷ drop 1 page.sections → false ≡ is_string x → t ≡ clean (shown_text x.marks) → closes_tag page ≡ closing t (closed page) (fits_text t)
 unfolding closing
@@ -129,11 +147,7 @@ by_text page x t top is text = ap (closes_tag_of page) top ∙ by x.kind x.marks
 
 pub tag_closed : (page : Page) (x : Section) (t text : List ℕ) → page.sections ≡ x ∷ drop 1 page.sections → false ≡ is_string x → t ≡ clean (shown_text x.marks) → kept_text t t ≡ Ok text → closes_tag page ≡ tagged text (closed page)
 unfolding closing
-tag_closed page x t text top is cleaned kept = by_text page x t top is cleaned ∙ by (fits_text t) kept
-  where
-    by : (fits : Bool) → (if fits then Ok t else Err TooDeep) ≡ Ok text → closing t (closed page) fits ≡ tagged text (closed page)
-    by true kept = ap (λ s. tagged s (closed page)) cc
-    by false kept = absurd (cc)
+tag_closed page x t text top is cleaned kept = by_text page x t top is cleaned ∙ kept_fits (fits_text t) t text (λ s. tagged s (closed page)) kept
 
 -- ---- a tag that is not closed
 
@@ -148,38 +162,26 @@ asks_tagged t page = by (list_any is_string page.sections) (is_crowded (Tag t �
 -- where a tag is open, what is refused for its text is refused for the whole
 pub tag_refused : (page : Page) (x : Section) (t : List ℕ) (f : Fault) → page.sections ≡ x ∷ drop 1 page.sections → false ≡ is_string x → t ≡ clean (shown_text x.marks) → Gives {A = List ℕ} (Err f) (kept_text t t) → Gives {A = Option (List ℕ) × Page} (Err f) (closes_tag page)
 unfolding closing
-tag_refused page x t f top is cleaned refused = rw (by_text page x t top is cleaned) (by (fits_text t) refused)
-  where
-    by : (fits : Bool) → Gives {A = List ℕ} (Err f) (if fits then Ok t else Err TooDeep) → Gives {A = Option (List ℕ) × Page} (Err f) (closing t (closed page) fits)
-    by true (inl p) = inl (p.0, asks_tagged t (closed page))
-    by true (inr e) = absurd (cc)
-    by false (inl p) = inl p
-    by false (inr e) = inr cc
+tag_refused page x t f top is cleaned refused = rw (by_text page x t top is cleaned) (refused_fits (fits_text t) t (tagged t (closed page)) f (asks_tagged t (closed page)) refused)
 
 -- an open tag's text is made in memory
 pub tag_asks : (page : Page) (x : Section) → page.sections ≡ x ∷ drop 1 page.sections → false ≡ is_string x → asks_for (closes_tag page) ≡ true
 unfolding closing
-tag_asks page x top is = rw (by_text page x _ top is refl) (by (fits_text (clean (shown_text x.marks))))
-  where
-    by : (fits : Bool) → asks_for (closing (clean (shown_text x.marks)) (closed page) fits) ≡ true
-    by true = asks_tagged (clean (shown_text x.marks)) (closed page)
-    by false = refl
+tag_asks page x top is =
+    let t = clean (shown_text x.marks) in
+    rw (by_text page x t top is refl) (asks_fits (fits_text t) (tagged t (closed page)) (asks_tagged t (closed page)))
 
-pub hands_nothing : {A : Type 0} (r : Result (A × Page) Fault) (page : Page) (g : Fault) (answer : Result A Fault) → IsErrAnd answer (λ f. f ≡ g) → Gives {A = A × Page} (Err g) r → Hands r page page answer
-hands_nothing {A} r page g (Err f) told is = (subst (λ (e : Fault). Gives {A = A × Page} (Err e) r) (sym told) is, refl)
-hands_nothing r page g (Ok a) told is = absurd told
+pub hands_nothing : {A : Type 0} (r : Result (A × Page) Fault) (page next : Page) (g : Fault) (answer : Result A Fault) → next ≡ page → IsErrAnd answer (λ f. f ≡ g) → Gives {A = A × Page} (Err g) r → Hands r page next answer
+hands_nothing {A} r page next g (Err f) same told is = (subst (λ (e : Fault). Gives {A = A × Page} (Err e) r) (sym told) is, same)
+hands_nothing r page next g (Ok a) same told is = absurd told
 
 -- ---- a closed string
 
-abbrev keeping : {A : Type 0} → Bool → A → Result A Fault
-keeping fits a = if fits then Ok a else Err TooDeep
-
 pub no_string : (page : Page) (x : Section) → page.sections ≡ x ∷ drop 1 page.sections → false ≡ is_string x → closes_string page ≡ Err BadMode
-no_string page x top is = ap (closes_string_of page) top ∙ by x.kind x.marks is
-  where
-    by : (kind : SectionKind) (marks : List Mark) → false ≡ is_string (record { kind = kind; marks = marks }) → closes_string_of page (record { kind = kind; marks = marks } ∷ drop 1 page.sections) ≡ Err BadMode
-    by string_section marks is = absurd (cc)
-    by tag_section marks is = refl
+no_string page x top is =
+    let by : false ≡ is_string x → closes_string_of page (x ∷ drop 1 page.sections) ≡ Err BadMode =
+    elim x.kind as (λ kind. false ≡ is_string (record { kind = kind; marks = x.marks }) → closes_string_of page (record { kind = kind; marks = x.marks } ∷ drop 1 page.sections) ≡ Err BadMode) [ string_section ↦ λ is. absurd (cc) | tag_section ↦ λ is. refl ] in
+    ap (closes_string_of page) top ∙ by is
 
 by_raw_text : (page : Page) (x : Section) (t : List ℕ) → page.sections ≡ x ∷ drop 1 page.sections → true ≡ is_string x → t ≡ shown_text x.marks → closes_string page ≡ kept_text t (t, closed page)
 by_raw_text page x t top is text = ap (closes_string_of page) top ∙ by x.kind x.marks is text
@@ -188,27 +190,21 @@ by_raw_text page x t top is text = ap (closes_string_of page) top ∙ by x.kind 
     by string_section marks is text = rw text refl
     by tag_section marks is text = absurd (cc)
 
+handing : List ℕ → Page → Result (List ℕ × Page) Fault
+handing t page = Ok (t, page)
+
 pub string_closed : (page next : Page) (x : Section) (t text : List ℕ) → page.sections ≡ x ∷ drop 1 page.sections → true ≡ is_string x → t ≡ shown_text x.marks → kept_text t t ≡ Ok text → written (closed page) ≡ written next → closes_string page ≡ Ok (text, next)
-string_closed page next x t text top is shown kept left = by_raw_text page x t top is shown ∙ by (fits_text t) kept
-  where
-    by : (fits : Bool) → keeping {A = List ℕ} fits t ≡ Ok text → keeping {A = List ℕ × Page} fits (t, closed page) ≡ Ok (text, next)
-    by true kept = cc
-    by false kept = absurd (cc)
+unfolding handing
+string_closed page next x t text top is shown kept left =
+    let same : closed page ≡ next = cc in
+    by_raw_text page x t top is shown ∙ kept_fits {A = List ℕ × Page} (fits_text t) t text (λ s. Ok (s, closed page)) kept ∙ ap (handing text) same
 
 -- where a string is open, what is refused for its text is refused for the whole
 pub string_refused : (page : Page) (x : Section) (t : List ℕ) (f : Fault) → page.sections ≡ x ∷ drop 1 page.sections → true ≡ is_string x → t ≡ shown_text x.marks → Gives {A = List ℕ} (Err f) (kept_text t t) → Gives {A = List ℕ × Page} (Err f) (closes_string page)
-string_refused page x t f top is shown refused = rw (by_raw_text page x t top is shown) (by (fits_text t) refused)
-  where
-    by : (fits : Bool) → Gives {A = List ℕ} (Err f) (keeping {A = List ℕ} fits t) → Gives {A = List ℕ × Page} (Err f) (keeping {A = List ℕ × Page} fits (t, closed page))
-    by true (inl p) = inl (p.0, refl)
-    by true (inr e) = absurd (cc)
-    by false (inl p) = inl p
-    by false (inr e) = inr cc
+string_refused page x t f top is shown refused = rw (by_raw_text page x t top is shown) (refused_fits {A = List ℕ × Page} (fits_text t) t (Ok (t, closed page)) f refl refused)
 
 -- an open string's text is made in memory
 pub string_asks : (page : Page) (x : Section) → page.sections ≡ x ∷ drop 1 page.sections → true ≡ is_string x → asks_for (closes_string page) ≡ true
-string_asks page x top is = rw (by_raw_text page x _ top is refl) (by (fits_text (shown_text x.marks)))
-  where
-    by : (fits : Bool) → asks_for {A = List ℕ × Page} (keeping {A = List ℕ × Page} fits (shown_text x.marks, closed page)) ≡ true
-    by true = refl
-    by false = refl
+string_asks page x top is =
+    let t = shown_text x.marks in
+    rw (by_raw_text page x t top is refl) (asks_fits {A = List ℕ × Page} (fits_text t) (Ok (t, closed page)) refl)

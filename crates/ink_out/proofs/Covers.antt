@@ -3,7 +3,7 @@ use Rattle.std.proofs.Common.{◌≡◌, ℕ, ◌<◌, ◌≤◌, true, false, n
 use Rattle.std.proofs.lemmas.Bool.{cases_lt, or_cases, or_parts, or_from, or_left, or_right, not-false, not_from_true, false≢true, lt-ltb, le-ltb, le-leb, lt-leb}
 use Rattle.ink_model.specs.Shown.{entered, passes, covered}
 use Rattle.ink_model.specs.declared.mark.Mark.{Mark}
-use Rattle.ink_model.specs.declared.mark.Mark.TheVariants.{Text, Blank, Newline, Glue, Tag, Enter, Leave}
+use Rattle.ink_model.specs.declared.mark.Mark.TheVariants.{Text, Enter, Leave}
 use Rattle.ink_out.specs.Tracks.{since, enter_at, reach_of, reached}
 
 -- ---- fewer marks between, more is reached
@@ -26,10 +26,7 @@ covered_less b a (Leave n ∷ after) w h =
     let (p, r) = or_parts (passes n b) (covered (Leave n ∷ b) after) h in
     or_from (passes n a) (covered (Leave n ∷ a) after) (passes_less b a n w p) (covered_less (Leave n ∷ b) (Leave n ∷ a) after w r)
 covered_less b a (Enter k ∷ after) w h = covered_less (Enter k ∷ b) (Enter k ∷ a) after (within_enter b a k w) h
-covered_less b a (Blank t ∷ after) w h = covered_less (Blank t ∷ b) (Blank t ∷ a) after w h
-covered_less b a (Newline ∷ after) w h = covered_less (Newline ∷ b) (Newline ∷ a) after w h
-covered_less b a (Glue ∷ after) w h = covered_less (Glue ∷ b) (Glue ∷ a) after w h
-covered_less b a (Tag t ∷ after) w h = covered_less (Tag t ∷ b) (Tag t ∷ a) after w h
+covered_less b a (m ∷ after) w h = covered_less (m ∷ b) (m ∷ a) after w h
 
 pub uncovered : (a after : List Mark) → covered [] after ≡ false → covered a after ≡ false
 uncovered a after h = covered_less [] a after (λ n e. absurd (false≢true e)) h

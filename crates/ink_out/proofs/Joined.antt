@@ -23,35 +23,20 @@ texts_shown (kinds.Text t ∷ texts) before after all =
     ap (λ ms. text_before ms after) (reversed (kinds.Text t) texts before)
     ∙ texts_shown texts (kinds.Text t ∷ before) after all
     ∙ append_assoc (text_before before (kinds.Text t ∷ (texts ++ after))) t (texts_of texts)
-texts_shown (kinds.Blank t ∷ texts) before after all = absurd (cc)
-texts_shown (kinds.Newline ∷ texts) before after all = absurd (cc)
-texts_shown (kinds.Glue ∷ texts) before after all = absurd (cc)
-texts_shown (kinds.Tag t ∷ texts) before after all = absurd (cc)
-texts_shown (kinds.Enter n ∷ texts) before after all = absurd (cc)
-texts_shown (kinds.Leave n ∷ texts) before after all = absurd (cc)
+texts_shown (m ∷ texts) before after all = absurd (cc)
 
 -- behind texts a newline is shown
 newline_behind : (texts : List Mark) (first : List ℕ) (before : List Mark) → list_all is_text texts ≡ true → written (reverse texts ++ kinds.Text first ∷ before) kinds.Newline [] ≡ 10 ∷ []
 newline_behind [] first before all = refl
 newline_behind (kinds.Text t ∷ texts) first before all =
     ap (λ ms. written ms kinds.Newline []) (reversed (kinds.Text t) texts (kinds.Text first ∷ before)) ∙ newline_behind texts t (kinds.Text first ∷ before) all
-newline_behind (kinds.Blank t ∷ texts) first before all = absurd (cc)
-newline_behind (kinds.Newline ∷ texts) first before all = absurd (cc)
-newline_behind (kinds.Glue ∷ texts) first before all = absurd (cc)
-newline_behind (kinds.Tag t ∷ texts) first before all = absurd (cc)
-newline_behind (kinds.Enter n ∷ texts) first before all = absurd (cc)
-newline_behind (kinds.Leave n ∷ texts) first before all = absurd (cc)
+newline_behind (m ∷ texts) first before all = absurd (cc)
 
 -- behind some texts, at the end
 newline_shown_behind : (texts : List Mark) → texts ≢ [] → list_all is_text texts ≡ true → written (reverse texts) kinds.Newline [] ≡ 10 ∷ []
 newline_shown_behind [] some all = absurd (some refl)
 newline_shown_behind (kinds.Text t ∷ texts) some all = ap (λ ms. written ms kinds.Newline []) (reverse-append (kinds.Text t ∷ []) texts) ∙ newline_behind texts t [] all
-newline_shown_behind (kinds.Blank t ∷ texts) some all = absurd (cc)
-newline_shown_behind (kinds.Newline ∷ texts) some all = absurd (cc)
-newline_shown_behind (kinds.Glue ∷ texts) some all = absurd (cc)
-newline_shown_behind (kinds.Tag t ∷ texts) some all = absurd (cc)
-newline_shown_behind (kinds.Enter n ∷ texts) some all = absurd (cc)
-newline_shown_behind (kinds.Leave n ∷ texts) some all = absurd (cc)
+newline_shown_behind (m ∷ texts) some all = absurd (cc)
 
 -- a line of texts shows what they say, and a newline
 pub texts_line : (marks texts : List Mark) → marks ≡ texts ++ kinds.Newline ∷ [] → texts ≢ [] → list_all is_text texts ≡ true → shown_text marks ≡ texts_of texts ++ 10 ∷ []
@@ -72,13 +57,7 @@ one_left texts at m written all within is rest =
 pub not_said : (f : Form) (rest : List Mark) → ((w : Words) → f ≡ forms.Text w → ⊥) → ((t : List ℕ) → f ≡ forms.Part t → ⊥) → texts_of (mark_of f ∷ rest) ≡ texts_of rest
 not_said (forms.Text w) rest text part = absurd (text w refl)
 not_said (forms.Part p) rest text part = absurd (part p refl)
-not_said (forms.Blank t) rest text part = refl
-not_said (forms.BlankPart p) rest text part = refl
-not_said forms.Newline rest text part = refl
-not_said forms.Glue rest text part = refl
-not_said (forms.Tag t) rest text part = refl
-not_said (forms.Enter n) rest text part = refl
-not_said (forms.Leave n) rest text part = refl
+not_said f rest text part = refl
 
 -- when no text is left to be joined
 pub all_joined : (at : ℕ) (texts : List Mark) (line all : List ℕ) → length texts ≤ at → line ++ texts_of (drop at texts) ≡ all → line ≡ all

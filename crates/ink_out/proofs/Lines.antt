@@ -42,8 +42,7 @@ joined_spaced word (next ∷ words) = refl
 -- a blank in front of a line's pieces
 behind_blank : (before : Before) (ps : List (List ℕ)) → behind (gap before) ps ≡ behind before ([] ∷ ps)
 behind_blank Nothing ps = refl
-behind_blank Word ps = refl
-behind_blank Gap ps = refl
+behind_blank before ps = refl
 
 -- a word's byte in front of a line's pieces
 behind_byte : (before : Before) (c : ℕ) (ps : List (List ℕ)) → space before ++ c ∷ behind Word ps ≡ behind before (onto c ps)
@@ -81,9 +80,8 @@ joined_byte c line [] = refl
 joined_byte c line (next ∷ lines) = refl
 
 lines_byte : (before : Before) (c : ℕ) (line : List ℕ) (lines : List (List ℕ)) → space before ++ c ∷ joined 10 (line ∷ lines) ≡ joined 10 ((space before ++ c ∷ line) ∷ lines)
-lines_byte Nothing c line lines = joined_byte c line lines
-lines_byte Word c line lines = joined_byte c line lines
 lines_byte Gap c line lines = ap (λ cs. 32 ∷ cs) (joined_byte c line lines) ∙ joined_byte 32 (c ∷ line) lines
+lines_byte before c line lines = joined_byte c line lines
 
 lines_onto : (before : Before) (c : ℕ) (lines : List (List ℕ)) → (if is_blank c then lines_on (gap before) lines else space before ++ c ∷ lines_on Word lines) ≡ lines_on before (onto c lines)
 lines_onto before c [] =
@@ -256,8 +254,7 @@ white_boundary cs u some white = IsCharBoundary-after_ascii cs 0 u some (white_a
 -- ---- what was written
 
 pub all_held : (cleans : Bool) (before : Option Before) (bytes written : List ℕ) → HoldsBytes cleans before bytes written → bytes ≡ shown_as cleans written
-all_held true None bytes written h = absurd h
 all_held true (Some before) bytes written h =
     sym (append-nil bytes) ∙ h [] ∙ ap (cleaned_on Nothing) (append-nil written) ∙ sym (clean_is written)
 all_held false None bytes written h = h
-all_held false (Some before) bytes written h = absurd h
+all_held cleans before bytes written h = absurd h

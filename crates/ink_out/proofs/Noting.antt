@@ -12,7 +12,7 @@ use Rattle.ink_model.specs.Output.{writes_marks, writes_text, let_through, noted
 use Rattle.ink_model.specs.declared.limits.TheConstants.{MAX_MARKS}
 use Rattle.ink_model.specs.declared.fault.Fault.{Fault}
 use Rattle.ink_model.specs.declared.mark.Mark.{Mark}
-use Rattle.ink_model.specs.declared.mark.Mark.TheVariants.{Text, Blank, Newline, Glue, Tag, Enter, Leave}
+use Rattle.ink_model.specs.declared.mark.Mark.TheVariants.{Text, Blank}
 use Rattle.ink_out.specs.Writing.{page_of}
 
 -- ---- the section that is open
@@ -62,12 +62,7 @@ empty_text fresh text line sections n e fits = rw e (nothing_written line sectio
 pub let_through-false : (ms : List Mark) → let_through false ms ≡ ms
 let_through-false [] = refl
 let_through-false (Text t ∷ ms) = ap (λ (rest : List Mark). Text t ∷ rest) (let_through-false ms)
-let_through-false (Blank t ∷ ms) = ap (λ (rest : List Mark). Blank t ∷ rest) (let_through-false ms)
-let_through-false (Newline ∷ ms) = ap (λ (rest : List Mark). Newline ∷ rest) (let_through-false ms)
-let_through-false (Glue ∷ ms) = ap (λ (rest : List Mark). Glue ∷ rest) (let_through-false ms)
-let_through-false (Tag t ∷ ms) = ap (λ (rest : List Mark). Tag t ∷ rest) (let_through-false ms)
-let_through-false (Enter n ∷ ms) = ap (λ (rest : List Mark). Enter n ∷ rest) (let_through-false ms)
-let_through-false (Leave n ∷ ms) = ap (λ (rest : List Mark). Leave n ∷ rest) (let_through-false ms)
+let_through-false (m ∷ ms) = ap (λ (rest : List Mark). m ∷ rest) (let_through-false ms)
 
 -- ---- a text of one piece
 

@@ -1,11 +1,11 @@
 -- The shown newline that no Text or Tag follows, over the definitions alone.
 use Rattle.std.proofs.Common.{◌≡◌, ℕ, suc, ◌<◌, ◌≤◌, Bool, true, false, not, ◌||◌, ◌&&◌, cond, eqb, List, [], ◌∷◌, ◌++◌, length, drop, reverse, None, Some, refl, sym, ap, ◌∙◌, arith, inl, inr}
-use Rattle.std.proofs.lemmas.Bool.{cases_lt, cases_Bool, or_cases, or_parts, or_left, or_right, eqb-true, eq-eqb, false≢true, le-ltb, le-leb, lt-leb, both_ways}
-use Rattle.std.proofs.lemmas.List.{reverse-append, reverse-reverse, length-reverse, drop-append-le, drop_all}
+use Rattle.std.proofs.lemmas.Bool.{cases_lt, cases_Bool, or_cases, or_parts, or_left, or_right, eqb-true, eq-eqb, false≢true, le-leb, lt-leb, both_ways}
+use Rattle.std.proofs.lemmas.List.{reverse-append, length-reverse, drop-append-le, drop_all}
 use Rattle.std.proofs.Math.Bool.{or-false}
-use Rattle.ink_model.specs.Shown.{clear, some, ends, newline_shown, newlines_before, is_among, is_shown, open_before, open_newline, has_more, more_from}
+use Rattle.ink_model.specs.Shown.{clear, some, ends, newline_shown, newlines_before, is_among, open_before, has_more}
 use Rattle.ink_model.specs.declared.mark.Mark.{Mark}
-use Rattle.ink_model.specs.declared.mark.Mark.TheVariants.{Text, Blank, Newline, Glue, Tag, Enter, Leave}
+use Rattle.ink_model.specs.declared.mark.Mark.TheVariants.{Text, Newline, Tag}
 use Rattle.ink_out.specs.Tracks.{since}
 use Rattle.ink_out.specs.Stands.{more_at, is_past}
 use Rattle.ink_out.proofs.Covers.{since_more, since_here}
@@ -21,12 +21,7 @@ pub newlines_within : (before after : List Mark) (i : ℕ) → is_among i (newli
 newlines_within [] after i e = absurd (false≢true e)
 newlines_within (Newline ∷ before) after i e =
     shown_within (newline_shown before after) (length before) i (newlines_before before (Newline ∷ after)) (newlines_within before (Newline ∷ after) i) e
-newlines_within (Text t ∷ before) after i e = omega (arith, newlines_within before (Text t ∷ after) i e)
-newlines_within (Blank t ∷ before) after i e = omega (arith, newlines_within before (Blank t ∷ after) i e)
-newlines_within (Glue ∷ before) after i e = omega (arith, newlines_within before (Glue ∷ after) i e)
-newlines_within (Tag t ∷ before) after i e = omega (arith, newlines_within before (Tag t ∷ after) i e)
-newlines_within (Enter n ∷ before) after i e = omega (arith, newlines_within before (Enter n ∷ after) i e)
-newlines_within (Leave n ∷ before) after i e = omega (arith, newlines_within before (Leave n ∷ after) i e)
+newlines_within (m ∷ before) after i e = omega (arith, newlines_within before (m ∷ after) i e)
 
 head_among : (before after : List Mark) (k : ℕ) (ks : List ℕ) → newlines_before before after ≡ k ∷ ks → is_among k (newlines_before before after) ≡ true
 head_among before after k ks e = ap (is_among k) e ∙ or_left (eqb k k) (is_among k ks) (eq-eqb k k refl)
@@ -51,9 +46,7 @@ plain_behind m before after i b same e h = sym (over m before i same (newlines_w
 
 shown_clear : (x s e : Bool) → (x && (s && not e)) ≡ true → ((x && s) ≡ true) × (e ≡ false)
 shown_clear true true false h = (refl, refl)
-shown_clear true true true h = absurd (false≢true h)
-shown_clear true false e h = absurd (false≢true h)
-shown_clear false s e h = absurd (false≢true h)
+shown_clear x s e h = absurd (false≢true h)
 
 -- a shown newline that no Text or Tag follows is the last one shown, and it is the open one
 pub opens_there : (before after : List Mark) (i : ℕ) → is_among i (newlines_before before after) ≡ true → has_more (since before i) ≡ false → (ends before after ≡ true) × (open_before before after ≡ Some i)
@@ -77,10 +70,7 @@ opens_there (Newline ∷ before) after i e h =
           let found = there (rw s at e) in
           (or_right shows ended found.0, rw s found.1)
     ]
-opens_there (Blank t ∷ before) after i e h = opens_there before (Blank t ∷ after) i e (plain_behind (Blank t) before after i false (λ ms. refl) e h)
-opens_there (Glue ∷ before) after i e h = opens_there before (Glue ∷ after) i e (plain_behind Glue before after i false (λ ms. refl) e h)
-opens_there (Enter n ∷ before) after i e h = opens_there before (Enter n ∷ after) i e (plain_behind (Enter n) before after i false (λ ms. refl) e h)
-opens_there (Leave n ∷ before) after i e h = opens_there before (Leave n ∷ after) i e (plain_behind (Leave n) before after i false (λ ms. refl) e h)
+opens_there (m ∷ before) after i e h = opens_there before (m ∷ after) i e (plain_behind m before after i false (λ ms. refl) e h)
 
 -- ---- none is open
 
@@ -95,10 +85,7 @@ open_none (Newline ∷ before) after h =
       | inl s ↦ absurd (both_ways (clear before after && some before (Newline ∷ after)) c (shown_clear (clear before after) (some before (Newline ∷ after)) (ends before (Newline ∷ after)) s).0)
       | inr s ↦ rw s (open_none before (Newline ∷ after) e)
     ]
-open_none (Blank t ∷ before) after h = open_none before (Blank t ∷ after) h
-open_none (Glue ∷ before) after h = open_none before (Glue ∷ after) h
-open_none (Enter n ∷ before) after h = open_none before (Enter n ∷ after) h
-open_none (Leave n ∷ before) after h = open_none before (Leave n ∷ after) h
+open_none (m ∷ before) after h = open_none before (m ∷ after) h
 
 -- where a Text or Tag follows the last shown newline, none is
 pub open_followed : (before after : List Mark) (k : ℕ) (ks : List ℕ) → newlines_before before after ≡ k ∷ ks → has_more (since before k) ≡ true → open_before before after ≡ None
@@ -116,10 +103,7 @@ open_followed (Newline ∷ before) after k ks e h =
           let here = rw s at e in
           rw s (open_followed before (Newline ∷ after) k ks here (plain_behind Newline before after k true (λ ms. refl) (head_among before (Newline ∷ after) k ks here) h))
     ]
-open_followed (Blank t ∷ before) after k ks e h = open_followed before (Blank t ∷ after) k ks e (plain_behind (Blank t) before after k true (λ ms. refl) (head_among before (Blank t ∷ after) k ks e) h)
-open_followed (Glue ∷ before) after k ks e h = open_followed before (Glue ∷ after) k ks e (plain_behind Glue before after k true (λ ms. refl) (head_among before (Glue ∷ after) k ks e) h)
-open_followed (Enter n ∷ before) after k ks e h = open_followed before (Enter n ∷ after) k ks e (plain_behind (Enter n) before after k true (λ ms. refl) (head_among before (Enter n ∷ after) k ks e) h)
-open_followed (Leave n ∷ before) after k ks e h = open_followed before (Leave n ∷ after) k ks e (plain_behind (Leave n) before after k true (λ ms. refl) (head_among before (Leave n ∷ after) k ks e) h)
+open_followed (m ∷ before) after k ks e h = open_followed before (m ∷ after) k ks e (plain_behind m before after k true (λ ms. refl) (head_among before (m ∷ after) k ks e) h)
 
 -- ---- a Text or Tag from an index on
 
@@ -127,21 +111,13 @@ more_within : (before : List Mark) (i : ℕ) → length before ≤ i → is_past
 more_within [] i h = refl
 more_within (Text t ∷ before) i h = lt-leb i (length before) (omega arith)
 more_within (Tag t ∷ before) i h = lt-leb i (length before) (omega arith)
-more_within (Blank t ∷ before) i h = more_within before i (omega arith)
-more_within (Newline ∷ before) i h = more_within before i (omega arith)
-more_within (Glue ∷ before) i h = more_within before i (omega arith)
-more_within (Enter n ∷ before) i h = more_within before i (omega arith)
-more_within (Leave n ∷ before) i h = more_within before i (omega arith)
+more_within (m ∷ before) i h = more_within before i (omega arith)
 
 has_more-append : (ms ns : List Mark) → has_more (ms ++ ns) ≡ (has_more ms || has_more ns)
 has_more-append [] ns = refl
 has_more-append (Text t ∷ ms) ns = refl
 has_more-append (Tag t ∷ ms) ns = refl
-has_more-append (Blank t ∷ ms) ns = has_more-append ms ns
-has_more-append (Newline ∷ ms) ns = has_more-append ms ns
-has_more-append (Glue ∷ ms) ns = has_more-append ms ns
-has_more-append (Enter n ∷ ms) ns = has_more-append ms ns
-has_more-append (Leave n ∷ ms) ns = has_more-append ms ns
+has_more-append (m ∷ ms) ns = has_more-append ms ns
 
 last_mark : (m : Mark) (before : List Mark) (i : ℕ) → i ≤ length before → has_more (drop i (reverse (m ∷ before))) ≡ (has_more (drop i (reverse before)) || has_more (m ∷ []))
 last_mark m before i h =
@@ -174,46 +150,4 @@ pub more_is : (before : List Mark) (i : ℕ) → has_more (drop i (reverse befor
 more_is [] i = past_all [] i (omega arith)
 more_is (Text t ∷ before) i = marked_more (Text t) before i refl
 more_is (Tag t ∷ before) i = marked_more (Tag t) before i refl
-more_is (Blank t ∷ before) i = plain_more (Blank t) before i refl (more_is before i)
-more_is (Newline ∷ before) i = plain_more Newline before i refl (more_is before i)
-more_is (Glue ∷ before) i = plain_more Glue before i refl (more_is before i)
-more_is (Enter n ∷ before) i = plain_more (Enter n) before i refl (more_is before i)
-more_is (Leave n ∷ before) i = plain_more (Leave n) before i refl (more_is before i)
-
--- ---- from an index on, and behind an index
-
-plain_since : (m : Mark) (before : List Mark) (i : ℕ) → ((ms : List Mark) → has_more (m ∷ ms) ≡ has_more ms) → has_more (since before i) ≡ is_past (suc i) (more_at before) → has_more (since (m ∷ before) i) ≡ is_past (suc i) (more_at before)
-plain_since m before i same h =
-    elim (cases_lt i (length before)) [
-      | inl l ↦ over m before i same l ∙ h
-      | inr l ↦ rw (le-ltb i (length before) l) (sym (more_within before (suc i) (omega arith)))
-    ]
-
-marked_since : (m : Mark) (before : List Mark) (i : ℕ) → ((ms : List Mark) → has_more (m ∷ ms) ≡ true) → has_more (since (m ∷ before) i) ≡ is_past (suc i) (Some (length before))
-marked_since m before i more =
-    elim (cases_lt i (length before)) [
-      | inl l ↦ followed m before i more l ∙ sym (le-leb (suc i) (length before) (omega arith))
-      | inr l ↦ rw (le-ltb i (length before) l) refl
-    ]
-
-since_is : (before : List Mark) (i : ℕ) → has_more (since before i) ≡ is_past (suc i) (more_at before)
-since_is [] i = refl
-since_is (Text t ∷ before) i = marked_since (Text t) before i (λ ms. refl)
-since_is (Tag t ∷ before) i = marked_since (Tag t) before i (λ ms. refl)
-since_is (Blank t ∷ before) i = plain_since (Blank t) before i (λ ms. refl) (since_is before i)
-since_is (Newline ∷ before) i = plain_since Newline before i (λ ms. refl) (since_is before i)
-since_is (Glue ∷ before) i = plain_since Glue before i (λ ms. refl) (since_is before i)
-since_is (Enter n ∷ before) i = plain_since (Enter n) before i (λ ms. refl) (since_is before i)
-since_is (Leave n ∷ before) i = plain_since (Leave n) before i (λ ms. refl) (since_is before i)
-
-more_since : (ms : List Mark) (i : ℕ) → more_from ms (suc i) ≡ has_more (since (reverse ms) i)
-more_since ms i =
-    ap (λ ns. has_more (drop (suc i) ns)) (sym (reverse-reverse ms))
-    ∙ more_is (reverse ms) (suc i)
-    ∙ sym (since_is (reverse ms) i)
-
--- ---- for the layers above
-
--- a shown newline that no Text or Tag follows is the open one, so there is one of that kind
-pub is_open : (ms : List Mark) (i : ℕ) → is_shown ms i ≡ true → more_from ms (suc i) ≡ false → open_newline ms ≡ Some i
-is_open ms i shown more = (opens_there (reverse ms) [] i shown (sym (more_since ms i) ∙ more)).1
+more_is (m ∷ before) i = plain_more m before i refl (more_is before i)

@@ -1,13 +1,14 @@
 -- What is printed of a number or a truth value is one text, cut nowhere.
-use Rattle.std.proofs.Common.{◌≡◌, ℕ, suc, ◌<◌, ◌≤◌, ◌^◌, Bool, eqb, true, false, List, [], ◌∷◌, reverse, ℤ, pos, negsuc, length, refl, sym, ap, ◌∙◌, arith}
+use Rattle.std.proofs.Common.{◌≡◌, ℕ, suc, ◌<◌, ◌≤◌, Bool, eqb, true, false, List, [], ◌∷◌, reverse, ℤ, pos, negsuc, length, refl, sym, ap, ◌∙◌, arith, w32}
 use Rattle.std.specs.Fmt.{decimal, signed_decimal}
 use Rattle.std.specs.List.{list_any}
+use Rattle.std.specs.Prelude.{FitsSigned}
 use Rattle.std.proofs.lemmas.Bool.{ne_eqb, or_parts}
 use Rattle.std.proofs.lemmas.Fmt.{decimal_is_IsNumeral}
+use Rattle.std.proofs.lemmas.Int.{ints}
 use Rattle.std.proofs.lemmas.List.Sorted.{list_any-IsPermutation, IsPermutation-reverse}
 use Rattle.std.proofs.lemmas.Str.Parse.{digit_from_value}
 use Rattle.std.specs.Str.Parse.{AllDigits}
-use lib.Signed.{mag}
 use Rattle.ink_model.specs.Bytes.{is_blank, is_white, leading, trailing}
 use Rattle.ink_model.specs.Mark.{cut, piece}
 use Rattle.ink_model.specs.Value.{truth_text}
@@ -47,12 +48,12 @@ digits_whole : (ds : List ℕ) → AllDigits 10 ds → IsWhole ds
 digits_whole [] d = refl
 digits_whole (c ∷ cs) d = rw (digit_filled c (omega (arith, digit_from_value c d.0))) (digits_whole cs d.1)
 
-pub number_cut : (z : ℤ) → mag z < 2 ^ 63 → cut (signed_decimal z) ≡ Text (signed_decimal z) ∷ []
+pub number_cut : (z : ℤ) → FitsSigned w32 z → cut (signed_decimal z) ≡ Text (signed_decimal z) ∷ []
 number_cut (pos n) small =
-    let numeral = (decimal_is_IsNumeral n (omega arith)).0 in
+    let numeral = (decimal_is_IsNumeral n (omega (arith, ints))).0 in
     whole_text (decimal n) numeral.0 (digits_whole (decimal n) numeral.1)
 number_cut (negsuc n) small =
-    let numeral = (decimal_is_IsNumeral (suc n) (omega arith)).0 in
+    let numeral = (decimal_is_IsNumeral (suc n) (omega (arith, ints))).0 in
     whole_text (45 ∷ decimal (suc n)) (omega arith) (digits_whole (decimal (suc n)) numeral.1)
 
 -- ---- truth values

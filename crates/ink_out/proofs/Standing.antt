@@ -4,7 +4,7 @@ use Rattle.std.proofs.lemmas.Bool.{ne_eqb, or_from}
 use Rattle.std.proofs.lemmas.List.{reverse-append, take_more}
 use Rattle.ink_model.specs.Shown.{newline_shown, newlines_before, is_among}
 use Rattle.ink_model.specs.declared.mark.Mark.{Mark}
-use Rattle.ink_model.specs.declared.mark.Mark.TheVariants.{Text, Blank, Newline, Glue, Tag, Enter, Leave}
+use Rattle.ink_model.specs.declared.mark.Mark.TheVariants.{Newline}
 use Rattle.ink_out.specs.declared.cutting.Piece.{Piece}
 use Rattle.ink_out.specs.declared.cutting.Piece.TheVariants as pieces
 use Rattle.ink_out.specs.declared.enters.Enters.{Enters}
@@ -26,12 +26,7 @@ pub more_same : (f : Form) (before : List Mark) → ((w : Words) → f ≡ forms
 more_same (forms.Text w) before text part tag = absurd (text w refl)
 more_same (forms.Part p) before text part tag = absurd (part p refl)
 more_same (forms.Tag t) before text part tag = absurd (tag t refl)
-more_same (forms.Blank t) before text part tag = refl
-more_same (forms.BlankPart p) before text part tag = refl
-more_same forms.Newline before text part tag = refl
-more_same forms.Glue before text part tag = refl
-more_same (forms.Enter n) before text part tag = refl
-more_same (forms.Leave n) before text part tag = refl
+more_same f before text part tag = refl
 
 -- ---- the settled newlines
 
@@ -46,12 +41,7 @@ newlines_fall (Newline ∷ before) after =
     let rest = newlines_fall before (Newline ∷ after) in
     elim (newline_shown before after) as (λ b. Falling (suc (length before)) (cond b (length before ∷ newlines_before before (Newline ∷ after)) (newlines_before before (Newline ∷ after))))
     [ true ↦ (omega arith, rest) | false ↦ falling_less (length before) (suc (length before)) (newlines_before before (Newline ∷ after)) (omega arith) rest ]
-newlines_fall (Text t ∷ before) after = falling_less (length before) (suc (length before)) (newlines_before before (Text t ∷ after)) (omega arith) (newlines_fall before (Text t ∷ after))
-newlines_fall (Blank t ∷ before) after = falling_less (length before) (suc (length before)) (newlines_before before (Blank t ∷ after)) (omega arith) (newlines_fall before (Blank t ∷ after))
-newlines_fall (Glue ∷ before) after = falling_less (length before) (suc (length before)) (newlines_before before (Glue ∷ after)) (omega arith) (newlines_fall before (Glue ∷ after))
-newlines_fall (Tag t ∷ before) after = falling_less (length before) (suc (length before)) (newlines_before before (Tag t ∷ after)) (omega arith) (newlines_fall before (Tag t ∷ after))
-newlines_fall (Enter n ∷ before) after = falling_less (length before) (suc (length before)) (newlines_before before (Enter n ∷ after)) (omega arith) (newlines_fall before (Enter n ∷ after))
-newlines_fall (Leave n ∷ before) after = falling_less (length before) (suc (length before)) (newlines_before before (Leave n ∷ after)) (omega arith) (newlines_fall before (Leave n ∷ after))
+newlines_fall (m ∷ before) after = falling_less (length before) (suc (length before)) (newlines_before before (m ∷ after)) (omega arith) (newlines_fall before (m ∷ after))
 
 falling_rest : (n : ℕ) (ks rest : List ℕ) → Falling n (ks ++ rest) → Falling n rest
 falling_rest n [] rest f = f
@@ -90,10 +80,7 @@ among_here xs end i n some fits f at =
 
 pub knows_piece : (p : Piece) (enters : Enters) (before : List Mark) → Knows enters before → Knows enters (piece_mark p ∷ before)
 knows_piece (pieces.Text t) enters before k = record { starts = k.starts }
-knows_piece (pieces.Part p) enters before k = record { starts = k.starts }
-knows_piece (pieces.Blank t) enters before k = record { starts = k.starts }
-knows_piece (pieces.BlankPart p) enters before k = record { starts = k.starts }
-knows_piece pieces.Newline enters before k = record { starts = k.starts }
+knows_piece p enters before k = record { starts = k.starts }
 
 pub sees_more : (marks : List Mark) (settled next_settled : List ℕ) (state next : State) (enters noted : Enters) (m : Mark) → reverse next_settled ≡ settled_after m state.tracker.newline (reverse settled) → (Stands (reverse marks) (reverse settled) state → Stands (m ∷ reverse marks) (settled_after m state.tracker.newline (reverse settled)) next) → Knows noted (m ∷ reverse marks) → Sees marks settled state enters → Sees (marks ++ m ∷ []) next_settled next noted
 sees_more marks settled next_settled state next enters noted m same stands knows h =

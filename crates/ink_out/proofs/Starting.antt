@@ -4,12 +4,12 @@ use Rattle.std.proofs.Math.Seq.{drop-append_seam, take-append_seam}
 use Rattle.std.proofs.lemmas.List.{append-nil, append_assoc, length-append, length-reverse, nil_from_length, reverse-append, reverse-reverse, length-take-le, take-append-drop, take_more}
 use Rattle.ink_model.specs.Shown.{clear, ends, newlines_before, some}
 use Rattle.ink_model.specs.declared.mark.Mark.{Mark}
-use Rattle.ink_model.specs.declared.mark.Mark.TheVariants.{Text, Blank, Newline, Glue, Tag, Enter, Leave}
+use Rattle.ink_model.specs.declared.mark.Mark.TheVariants.{Text, Blank, Newline, Enter}
 use Rattle.ink_out.specs.declared.enters.Enters.{Enters}
 use Rattle.ink_out.specs.declared.enters.Start.{Start}
 use Rattle.ink_out.specs.declared.state.State.{State}
 use Rattle.ink_out.specs.declared.tracker.Hides.{Hides}
-use Rattle.ink_out.specs.declared.tracker.Hides.TheVariants.{Near, Any, Never}
+use Rattle.ink_out.specs.declared.tracker.Hides.TheVariants.{Near}
 use Rattle.ink_out.specs.declared.tracker.Tracker.{Tracker}
 use Rattle.ink_out.specs.declared.tracker.Waiting.{Waiting}
 use Rattle.ink_out.specs.Stands.{IsStateOf, Knows, Leads, Sees, Stands, started, starts_of}
@@ -18,12 +18,7 @@ use Rattle.ink_out.specs.Tracks.{Tracks, enter_at, hidden_by, settled_after, set
 pub started_at : (n : ℕ) (before : List Mark) → started n (starts_of before) ≡ enter_at n before
 started_at n [] = refl
 started_at n (Enter k ∷ before) = ap (λ rest. if eqb n k then Some (length before) else rest) (started_at n before)
-started_at n (Text t ∷ before) = started_at n before
-started_at n (Blank t ∷ before) = started_at n before
-started_at n (Newline ∷ before) = started_at n before
-started_at n (Glue ∷ before) = started_at n before
-started_at n (Tag t ∷ before) = started_at n before
-started_at n (Leave k ∷ before) = started_at n before
+started_at n (m ∷ before) = started_at n before
 
 -- ---- starts that are passed
 
@@ -33,12 +28,7 @@ leads_all (Enter k ∷ behind) before =
     let start : Start = record { number = k; at = length (behind ++ before) } in
     let (ahead, is) = leads_all behind before in
     (ahead ++ start ∷ [], reverse-append (start ∷ []) (starts_of (behind ++ before)) ∙ ap (λ xs. xs ++ start ∷ []) is ∙ append_assoc (reverse (starts_of before)) ahead (start ∷ []))
-leads_all (Text t ∷ behind) before = leads_all behind before
-leads_all (Blank t ∷ behind) before = leads_all behind before
-leads_all (Newline ∷ behind) before = leads_all behind before
-leads_all (Glue ∷ behind) before = leads_all behind before
-leads_all (Tag t ∷ behind) before = leads_all behind before
-leads_all (Leave k ∷ behind) before = leads_all behind before
+leads_all (m ∷ behind) before = leads_all behind before
 
 -- those of marks are those of each beginning of them, and of marks behind it
 pub leads_from : (enters : Enters) (marks : List Mark) (at : ℕ) → Knows enters (reverse marks) → Leads enters.starts.items (reverse (take at marks))
@@ -94,8 +84,7 @@ rest_by B C w v A D xs ys same h = sym (rest_same (waiting_at B w A) (waiting_at
 -- a text leaves what waits
 unhidden : (h : Hides) (t : List ℕ) → hidden_by h (Text t ∷ []) ≡ false
 unhidden Near t = refl
-unhidden Any t = refl
-unhidden Never t = refl
+unhidden h t = refl
 
 by_text : (before : List Mark) (w : Option Waiting) (t xs : List ℕ) → waiting_at before w (Text t ∷ []) ++ xs ≡ settled_by w xs
 by_text before None t xs = refl
@@ -109,14 +98,10 @@ none_waits B (Some w) A ys h = ap (λ b. (if b then w.at ∷ [] else []) ++ ys) 
 by_newline : (c x e : Bool) (at : ℕ) (news ws vs xs ys : List ℕ) → length ws ≡ one_if e → length vs ≡ one_if ((c && x) || e) → news ≡ ws ++ xs
     → (if c && (x && not e) then at ∷ news else news) ≡ vs ++ ys → ys ≡ xs
 unfolding one_if
-by_newline true true true at news ws vs xs ys one other is h = sym (rest_same ws vs xs ys (one ∙ sym other) (sym is ∙ h))
-by_newline true false true at news ws vs xs ys one other is h = sym (rest_same ws vs xs ys (one ∙ sym other) (sym is ∙ h))
-by_newline false x true at news ws vs xs ys one other is h = sym (rest_same ws vs xs ys (one ∙ sym other) (sym is ∙ h))
 by_newline true true false at news ws vs xs ys one other is h =
     let all : news ≡ xs = is ∙ ap (λ zs. zs ++ xs) (nil_from_length ws one) in
     sym (rest_same (at ∷ []) vs xs ys (sym other) (ap (λ zs. at ∷ zs) (sym all) ∙ h))
-by_newline true false false at news ws vs xs ys one other is h = sym (rest_same ws vs xs ys (one ∙ sym other) (sym is ∙ h))
-by_newline false x false at news ws vs xs ys one other is h = sym (rest_same ws vs xs ys (one ∙ sym other) (sym is ∙ h))
+by_newline c x e at news ws vs xs ys one other is h = sym (rest_same ws vs xs ys (one ∙ sym other) (sym is ∙ h))
 
 pub settled_back : (m : Mark) (before : List Mark) (s t : Tracker) (xs ys : List ℕ) → Tracks before s xs → Tracks (m ∷ before) t ys → ys ≡ settled_after m s.newline xs
 settled_back (Text u) before s t xs ys p q =
@@ -128,10 +113,7 @@ settled_back Newline before s t xs ys p q =
     (counted (Newline ∷ before) t.newline [] ∙ ap one_if (sym (q.ends [])))
     (p.newlines (Newline ∷ [])) (q.newlines [])
 settled_back (Blank u) before s t xs ys p q = rest_by before (Blank u ∷ before) s.newline t.newline (Blank u ∷ []) [] xs ys (sym (p.ends (Blank u ∷ [])) ∙ q.ends []) (sym (p.newlines (Blank u ∷ [])) ∙ q.newlines [])
-settled_back Glue before s t xs ys p q = rest_by before (Glue ∷ before) s.newline t.newline (Glue ∷ []) [] xs ys (sym (p.ends (Glue ∷ [])) ∙ q.ends []) (sym (p.newlines (Glue ∷ [])) ∙ q.newlines [])
-settled_back (Tag u) before s t xs ys p q = rest_by before (Tag u ∷ before) s.newline t.newline (Tag u ∷ []) [] xs ys (sym (p.ends (Tag u ∷ [])) ∙ q.ends []) (sym (p.newlines (Tag u ∷ [])) ∙ q.newlines [])
-settled_back (Enter n) before s t xs ys p q = rest_by before (Enter n ∷ before) s.newline t.newline (Enter n ∷ []) [] xs ys (sym (p.ends (Enter n ∷ [])) ∙ q.ends []) (sym (p.newlines (Enter n ∷ [])) ∙ q.newlines [])
-settled_back (Leave n) before s t xs ys p q = rest_by before (Leave n ∷ before) s.newline t.newline (Leave n ∷ []) [] xs ys (sym (p.ends (Leave n ∷ [])) ∙ q.ends []) (sym (p.newlines (Leave n ∷ [])) ∙ q.newlines [])
+settled_back m before s t xs ys p q = rest_by before (m ∷ before) s.newline t.newline (m ∷ []) [] xs ys (sym (p.ends (m ∷ [])) ∙ q.ends []) (sym (p.newlines (m ∷ [])) ∙ q.newlines [])
 
 -- ---- the last mark is taken back
 

@@ -5,7 +5,7 @@ use Rattle.std.proofs.lemmas.Bool.{cases_Bool, or_parts, or_right, not-true, fal
 use Rattle.std.proofs.Math.Bool.{and-true}
 use Rattle.ink_model.specs.Shown.{glued, broken, glues, covered, some, clear, ends, newlines_before, has_more}
 use Rattle.ink_model.specs.declared.mark.Mark.{Mark}
-use Rattle.ink_model.specs.declared.mark.Mark.TheVariants.{Text, Blank, Newline, Glue, Tag, Enter, Leave}
+use Rattle.ink_model.specs.declared.mark.Mark.TheVariants.{Text, Blank, Newline, Glue, Tag, Leave}
 use Rattle.ink_out.specs.declared.tracker.Hides.{Hides}
 use Rattle.ink_out.specs.declared.tracker.Hides.TheVariants.{Near, Any, Never}
 use Rattle.ink_out.specs.declared.tracker.Waiting.{Waiting}
@@ -18,22 +18,17 @@ use Rattle.ink_out.proofs.Covers.{uncovered, since_more, since_here, passes_reac
 -- ---- tests
 
 hidden_behind : (c s e : Bool) → (c ≡ true → s ≡ true → e ≡ true) → (c && (s && not e)) ≡ false
-hidden_behind true true true h = refl
 hidden_behind true true false h = absurd (false≢true (h refl refl))
-hidden_behind true false e h = refl
-hidden_behind false s e h = refl
+hidden_behind c s e h = refl
 
 same_behind : (c s e : Bool) → (c ≡ true → s ≡ true → e ≡ true) → ((c && s) || e) ≡ e
-same_behind true true true h = refl
 same_behind true true false h = absurd (false≢true (h refl refl))
-same_behind true false e h = refl
-same_behind false s e h = refl
+same_behind c s e h = refl
 
 -- nothing that follows hides it yet
 pub hidden_now : (h : Hides) → hidden_by h [] ≡ false
 hidden_now Near = refl
-hidden_now Any = refl
-hidden_now Never = refl
+hidden_now h = refl
 
 -- ---- a newline while one waits
 
@@ -108,8 +103,9 @@ value_of : (o : Option Waiting) → is_some o ≡ true → (w : Waiting) × (o �
 value_of None h = absurd (false≢true h)
 value_of (Some w) h = (w, refl)
 
-newline_waits : (before : List Mark) (s : Tracker) (settled : List ℕ) (w : Waiting) → s.newline ≡ Some w → Tracks before s settled → Tracks (Newline ∷ before) s settled
-newline_waits before s settled w is t =
+pub newline_more : (before : List Mark) (s : Tracker) (settled : List ℕ) → is_some s.newline ≡ true → Tracks before s settled → Tracks (Newline ∷ before) s settled
+newline_more before s settled h t =
+    let (w, is) = value_of s.newline h in
     let fits : FitsNewline before s w = subst (λ o. Fits before s o) is t.fits in
     let within = fits.within in
     let over : (after : List Mark) → waits (Newline ∷ before) w after ≡ waits before w (Newline ∷ after) = λ after. waits_over Newline plain_newline before after w within in
@@ -132,17 +128,11 @@ newline_waits before s settled w is t =
       some = λ after. t.some (Newline ∷ after) ∙ ap (λ b. s.text || b) (sym (stays_over Newline plain_newline before after s s.blank t.first));
     }
 
-pub newline_more : (before : List Mark) (s : Tracker) (settled : List ℕ) → is_some s.newline ≡ true → Tracks before s settled → Tracks (Newline ∷ before) s settled
-newline_more before s settled h t =
-    let (w, is) = value_of s.newline h in
-    newline_waits before s settled w is t
-
 -- ---- a newline that may wait
 
 pub bare : (x y : Bool) (e : Bool) → e ≡ false → (x && (y && not e)) ≡ (x && y)
 bare true true e h = rw h refl
-bare true false e h = refl
-bare false y e h = refl
+bare x y e h = refl
 
 pub or_nothing : (x e : Bool) → e ≡ false → (x || e) ≡ x
 or_nothing true e h = refl
@@ -157,16 +147,12 @@ joins_of_glues [] h = refl
 joins_of_glues (Text t ∷ after) h = refl
 joins_of_glues (Tag t ∷ after) h = refl
 joins_of_glues (Glue ∷ after) h = h
-joins_of_glues (Blank t ∷ after) h = joins_of_glues after h
-joins_of_glues (Newline ∷ after) h = joins_of_glues after h
-joins_of_glues (Enter k ∷ after) h = joins_of_glues after h
-joins_of_glues (Leave n ∷ after) h = joins_of_glues after h
+joins_of_glues (m ∷ after) h = joins_of_glues after h
 
 -- where nothing covers, the same holds of the marks behind the first blank
 near_shown : (x c d : Bool) → (c ≡ false → d ≡ false) → (not (x || c) && not (d || false)) ≡ not (x || c)
-near_shown true c d h = refl
-near_shown false true d h = refl
 near_shown false false d h = rw (h refl) refl
+near_shown x c d h = refl
 
 any_shown : (x c d j : Bool) → (c ≡ false → d ≡ false) → (j ≡ false → x ≡ false) → (not (x || c) && not (d || j)) ≡ not (j || c)
 any_shown x true d true h k = elim x as (λ y. (not (y || true) && not (d || true)) ≡ false) [ true ↦ refl | false ↦ refl ]
@@ -192,11 +178,9 @@ next_shown false false (Some b) hides before after h =
     subst (λ k. (not (glues after || covered [] after) && stays before (Some b) (Newline ∷ after)) ≡ not (hidden_by k after || covered [] after)) e (first_shown b before after)
 
 next_any : (g t : Bool) (o : Option First) (hides : Hides) → (if g then None else (if t then Some Near else hides_behind o)) ≡ Some hides → hides ≡ Any → (t ≡ false) × IsBroken o
-next_any true t o hides h a = cc
-next_any false true o hides h a = cc
-next_any false false None hides h a = cc
 next_any false false (Some b) hides h a =
     (refl, elim (cases_Bool b.broken) [ inl e ↦ e | inr e ↦ let k : Some (cond b.broken Any Near) ≡ Some Any = cc in let l = rw e at k in cc ])
+next_any g t o hides h a = cc
 
 pub newline_next : (before : List Mark) (s : Tracker) (settled : List ℕ) (hides : Hides) → s.newline ≡ None → hides_next s ≡ Some hides → Tracks before s settled → Tracks (Newline ∷ before) record s { broken = true; newline = Some record { at = length before; hides = hides; tagged = false } } settled
 newline_next before s settled hides is h t =
@@ -269,8 +253,7 @@ blank_more before text s settled h t =
 
 left_hidden : (n : Option ℕ) (after : List Mark) (h : Hides) → hidden_by h (Leave n ∷ after) ≡ hidden_by h after
 left_hidden n after Near = refl
-left_hidden n after Any = refl
-left_hidden n after Never = refl
+left_hidden n after h = refl
 
 left_waiting : (n : Option ℕ) (before after : List Mark) (s : Tracker) (o : Option Waiting) → Fits before s o → (waiting before o (Leave n ∷ after) ≡ waiting (Leave n ∷ before) (newline_left o (reach_of n before)) after) × (waiting_at before o (Leave n ∷ after) ≡ waiting_at (Leave n ∷ before) (newline_left o (reach_of n before)) after)
 left_waiting n before after s None f = (refl, refl)
@@ -333,8 +316,7 @@ left before n reach s settled e t =
 -- where nothing waits the end leaves all as it is
 left_quiet : (before : List Mark) (n : Option ℕ) (text glue broken : Bool) (newline : Option Waiting) (blank : Option First) (settled : List ℕ) → (is_some newline || is_some blank) ≡ false → Tracks before record { text = text; glue = glue; broken = broken; newline = newline; blank = blank } settled → Tracks (Leave n ∷ before) record { text = text; glue = glue; broken = broken; newline = newline; blank = blank } settled
 left_quiet before n text glue broken None None settled h t = left before n (reach_of n before) record { text = text; glue = glue; broken = broken; newline = None; blank = None } settled refl t
-left_quiet before n text glue broken None (Some b) settled h t = cc
-left_quiet before n text glue broken (Some w) blank settled h t = cc
+left_quiet before n text glue broken newline blank settled h t = cc
 
 pub left_as_is : (before : List Mark) (n : Option ℕ) (s : Tracker) (settled : List ℕ) → (is_some s.newline || is_some s.blank) ≡ false → Tracks before s settled → Tracks (Leave n ∷ before) s settled
 left_as_is before n s settled h t = left_quiet before n s.text s.glue s.broken s.newline s.blank settled h t

@@ -12,7 +12,7 @@ use Rattle.ink_out.specs.Undo.{GoesBack, Held, Keeps, open_in, open_marks, outpu
 use Rattle.ink_out.specs.Writing.{page_of}
 use Rattle.ink_out.specs.declared.state.State.{State}
 use Rattle.ink_out.specs.declared.undo.OutputPair.{OutputPair}
-use Rattle.ink_out.specs.declared.undo.OutputPair.TheVariants.{Wrote, Began, Closed, Numbered, Line, Sections}
+use Rattle.ink_out.specs.declared.undo.OutputPair.TheVariants.{Wrote, Began, Closed, Sections}
 use Rattle.ink_out.proofs.Noting.{last_is, last_set}
 use Rattle.ink_trail.proofs.Ending.{but_last-snoc}
 use Rattle.ink_trail.specs.Undo.{KeepsTrail, TrailView, TrailsOrKeeps, Undo, but_last, spare, spare_of, trail_of, with_pair}
@@ -26,25 +26,15 @@ noted_nowhere pair n (Some noted) none = absurd (cc)
 -- ---- what is open
 
 pub open_with : (ms : List Mark) (page : Page) → open_marks (with_open ms page) ≡ ms
-open_with ms page = by page.line page.sections page.next_enter
-  where
-    by : (line : List Mark) (sections : List Section) (n : ℕ) → open_marks (with_open_in ms line sections n) ≡ ms
-    by line [] n = refl
-    by line (x ∷ rest) n = refl
+open_with ms page = elim page.sections as (λ xs. open_marks (with_open_in ms page.line xs page.next_enter) ≡ ms) [ [] ↦ refl | x ∷ rest ↦ refl ]
 
 pub with_with : (ms ns : List Mark) (page : Page) → with_open ms (with_open ns page) ≡ with_open ms page
-with_with ms ns page = by page.line page.sections page.next_enter
-  where
-    by : (line : List Mark) (sections : List Section) (n : ℕ) → with_open ms (with_open_in ns line sections n) ≡ with_open_in ms line sections n
-    by line [] n = refl
-    by line (x ∷ rest) n = refl
+with_with ms ns page =
+    elim page.sections as (λ xs. with_open ms (with_open_in ns page.line xs page.next_enter) ≡ with_open_in ms page.line xs page.next_enter) [ [] ↦ refl | x ∷ rest ↦ refl ]
 
 pub with_same : (page : Page) → with_open (open_marks page) page ≡ page
-with_same page = by page.line page.sections page.next_enter
-  where
-    by : (line : List Mark) (sections : List Section) (n : ℕ) → with_open_in (open_in line sections) line sections n ≡ record { line = line; sections = sections; next_enter = n }
-    by line [] n = refl
-    by line (x ∷ rest) n = refl
+with_same page =
+    elim page.sections as (λ xs. with_open_in (open_in page.line xs) page.line xs page.next_enter ≡ record { line = page.line; sections = xs; next_enter = page.next_enter }) [ [] ↦ refl | x ∷ rest ↦ refl ]
 
 -- a mark that was written
 pub wrote_back : (s : State) (ms : List Mark) (m : Mark) (page : Page) → output_back (Wrote s) (with_open (ms ++ m ∷ []) page) ≡ with_open ms page
@@ -53,11 +43,8 @@ wrote_back s ms m page =
     ∙ with_with ms (ms ++ m ∷ []) page
 
 pub noted_with : (ms : List Mark) (page : Page) → noted ms page ≡ with_open (open_marks page ++ ms) page
-noted_with ms page = by page.line page.sections page.next_enter
-  where
-    by : (line : List Mark) (sections : List Section) (n : ℕ) → noted ms (record { line = line; sections = sections; next_enter = n }) ≡ with_open_in (open_in line sections ++ ms) line sections n
-    by line [] n = refl
-    by line (x ∷ rest) n = refl
+noted_with ms page =
+    elim page.sections as (λ xs. noted ms (record { line = page.line; sections = xs; next_enter = page.next_enter }) ≡ with_open_in (open_in page.line xs ++ ms) page.line xs page.next_enter) [ [] ↦ refl | x ∷ rest ↦ refl ]
 
 abbrev okay : Page → Result Page Fault
 okay page = Ok page
@@ -117,12 +104,8 @@ held_less room ms ns page less h = by page.line page.sections page.next_enter h
     by line (x ∷ rest) n k = (k.0, k.1)
 
 more_of : (e : OutputPair) (r s : ℕ) → r ≤ s → room_of e r ≤ room_of e s
-more_of (Wrote t) r s more = more
-more_of Began r s more = more
-more_of (Closed x) r s more = more
-more_of (Numbered n) r s more = more
-more_of (Line ms n) r s more = more
 more_of (Sections xs) r s more = omega arith
+more_of e r s more = more
 
 pub goes-now : (room : ℕ) (es : List OutputPair) (page : Page) → GoesBack room es page → Held room page
 goes-now room [] page h = h

@@ -50,17 +50,8 @@ pub pile_over : (m : Mark) (before after : List Mark) (w w' : Option Waiting) (p
 pile_over m before after w w' ps s same f =
     pile_same before (m ∷ after) (m ∷ before) after w w' (length before) ps (λ p l. held_over m before after w w' p s same l) f
 
-pub smooth_blank : (t : List ℕ) (before : List Mark) → Smooth (kinds.Blank t) before
-smooth_blank t before = record { covered = λ b after. refl; glue = λ at after l. refl }
-
 pub smooth_newline : (before : List Mark) → Smooth kinds.Newline before
 smooth_newline before = record { covered = λ b after. refl; glue = λ at after l. refl }
-
-pub smooth_tag : (t : List ℕ) (before : List Mark) → Smooth (kinds.Tag t) before
-smooth_tag t before = record { covered = λ b after. refl; glue = λ at after l. refl }
-
-pub smooth_enter : (n : ℕ) (before : List Mark) → Smooth (kinds.Enter n) before
-smooth_enter n before = record { covered = λ b after. refl; glue = λ at after l. refl }
 
 pub smooth_glue : (before : List Mark) → Smooth kinds.Glue before
 smooth_glue before = record {
@@ -121,11 +112,7 @@ glue_within : (before : List Mark) → glue_at before ≤ length before
 glue_within [] = omega arith
 glue_within (kinds.Text t ∷ before) = omega arith
 glue_within (kinds.Glue ∷ before) = omega arith
-glue_within (kinds.Blank t ∷ before) = omega (arith, glue_within before)
-glue_within (kinds.Newline ∷ before) = omega (arith, glue_within before)
-glue_within (kinds.Tag t ∷ before) = omega (arith, glue_within before)
-glue_within (kinds.Enter n ∷ before) = omega (arith, glue_within before)
-glue_within (kinds.Leave n ∷ before) = omega (arith, glue_within before)
+glue_within (m ∷ before) = omega (arith, glue_within before)
 
 -- a Blank is shown as its piece says
 blank_here : (before after : List Mark) (w : Option Waiting) (r : Bool) (text : Bor (List ℕ)) → r ≡ broken before → held_text (kinds.Blank text.now ∷ before) w (Blank (length before) r text) after ≡ written before (kinds.Blank text.now) after
@@ -205,12 +192,6 @@ record Quiet (after : List Mark) : Type 0 where
   glues : glues after ≡ false
   joins : glued after ≡ false
 
-quiet_end : Quiet []
-quiet_end = record { covered = λ b. refl; glues = refl; joins = refl }
-
-quiet_text : (t : List ℕ) (after : List Mark) → Quiet (kinds.Text t ∷ after)
-quiet_text t after = record { covered = λ b. refl; glues = refl; joins = refl }
-
 unhidden : (h : Hides) (after : List Mark) → Quiet after → hidden_by h after ≡ false
 unhidden Near after q = q.glues
 unhidden Any after q = q.joins
@@ -219,20 +200,14 @@ unhidden Never after q = refl
 quiet_waits : (before after : List Mark) (w : Waiting) → Quiet after → waits before w after ≡ true
 quiet_waits before after w q = rw (unhidden w.hides after q, q.covered (since before w.at)) refl
 
-among_one : (at k : ℕ) → is_among at (k ∷ []) ≡ eqb at k
-among_one at k = or_nothing (eqb at k) false refl
-
 quiet_newline : (before after : List Mark) (o : Option Waiting) (at : ℕ) → Quiet after → is_among at (waiting_at before o after) ≡ is_at at o
 quiet_newline before after None at q = refl
-quiet_newline before after (Some w) at q = ap (λ b. is_among at (cond b (w.at ∷ []) [])) (quiet_waits before after w q) ∙ among_one at w.at
-
-turned_cond : (b : Bool) (cs : List ℕ) → cond (not b) cs [] ≡ cond b [] cs
-turned_cond true cs = refl
-turned_cond false cs = refl
+quiet_newline before after (Some w) at q = ap (λ b. is_among at (cond b (w.at ∷ []) [])) (quiet_waits before after w q) ∙ or_nothing (eqb at w.at) false refl
 
 quiet_held : (before after : List Mark) (o : Option Waiting) (p : Held) → Quiet after → held_text before o p after ≡ now_text o (glue_at before) p
 quiet_held before after o (Blank at r text) q =
-    rw (q.covered (since before at), q.joins) (turned_cond (r && nat_lt at (glue_at before)) text.now)
+    rw (q.covered (since before at), q.joins)
+    (elim (r && nat_lt at (glue_at before)) as (λ b. cond (not b) text.now [] ≡ cond b [] text.now) [ true ↦ refl | false ↦ refl ])
 quiet_held before after o (Newline at) q = ap (λ b. cond b (10 ∷ []) []) (quiet_newline before after o at q)
 
 quiet_pile : (before after : List Mark) (o : Option Waiting) (ps : List Held) → Quiet after → pile_text before o ps after ≡ pile_now o (glue_at before) ps
@@ -284,7 +259,7 @@ walk_blank before w next at text here tracks k =
     let piles : (after : List Mark) → pile_text before w.tracker.newline w.held (m ∷ after) ++ written before m after ≡ pile_text (m ∷ before) next.newline (Blank (length before) w.tracker.broken text ∷ w.held) after =
     λ after. rw (
       blank_here before after next.newline w.tracker.broken text k.tracks.breaks,
-      sym (pile_over m before after w.tracker.newline next.newline w.held (smooth_blank text.now before)
+      sym (pile_over m before after w.tracker.newline next.newline w.held record { covered = λ b after. refl; glue = λ at after l. refl }
           (λ at l. ap (is_among at) (same_waiting m before after w.tracker next k.settled refl k.tracks t')) k.falls),
     ) refl in
     rw here (walk_held m before w next (Blank (length before) w.tracker.broken text) refl refl record { same = k.knows.same; count = k.knows.count } k.settled t' (λ after. refl) piles k)
@@ -358,7 +333,7 @@ walk_text before w shown next text holds tracks k =
       text = λ after.
           ap (λ cs. cs ++ text)
           (k.text (kinds.Text text ∷ after)
-          ∙ ap (λ cs. k.written ++ cs) (quiet_pile before (kinds.Text text ∷ after) w.tracker.newline w.held (quiet_text text after) ∙ ap (λ g. pile_now w.tracker.newline g w.held) (sym k.glue)))
+          ∙ ap (λ cs. k.written ++ cs) (quiet_pile before (kinds.Text text ∷ after) w.tracker.newline w.held record { covered = λ b. refl; glues = refl; joins = refl } ∙ ap (λ g. pile_now w.tracker.newline g w.held) (sym k.glue)))
           ∙ sym (append-nil written);
     }
 
@@ -366,5 +341,5 @@ walk_text before w shown next text holds tracks k =
 pub walk_end : {cleans : Bool} {starts : List Start} → (before : List Mark) (w : Walk) (k : Walks cleans starts before w) → k.written ++ pile_now w.tracker.newline w.glue w.held ≡ text_before before []
 walk_end before w k =
     ap (λ g. k.written ++ pile_now w.tracker.newline g w.held) k.glue
-    ∙ ap (λ cs. k.written ++ cs) (sym (quiet_pile before [] w.tracker.newline w.held quiet_end))
+    ∙ ap (λ cs. k.written ++ cs) (sym (quiet_pile before [] w.tracker.newline w.held record { covered = λ b. refl; glues = refl; joins = refl }))
     ∙ sym (k.text [])

@@ -9,14 +9,14 @@ use Rattle.ink_model.specs.declared.fault.Fault.TheVariants.{BadMode, BadPop, Ou
 use Rattle.ink_model.specs.declared.frame.FrameKind.{FrameKind}
 use Rattle.ink_model.specs.declared.limits.TheConstants.{MAX_FRAMES, MAX_THREADS}
 use Rattle.ink_trail.proofs.Undoing.{none-stood, spare-notes, spare-trails, stood-kept, stood-none, stood-notes, stood-trails}
-use Rattle.ink_trail.specs.Undo.{KeepsTrail, Notes, Trails, undone}
+use Rattle.ink_trail.specs.Undo.{KeepsTrail, Notes, TrailView, Trails, spare, undone}
 use Rattle.ink_stack.specs.Cells.{number_back, ungone, unpopped, unpushed}
 use Rattle.ink_stack.specs.Running.{RunningView, threads_in}
 use Rattle.ink_stack.specs.Threads.{ThreadsView}
 use Rattle.ink_stack.specs.Undo.{HasGone, HasMode, threads_back, threads_spare, threads_stood}
 use Rattle.ink_stack.specs.Words.{Changes, Grows}
 use Rattle.ink_stack.specs.declared.undo.ThreadsPair.{ThreadsPair}
-use Rattle.ink_stack.specs.declared.undo.ThreadsPair.TheVariants.{Placed, Gone, Evaluating, Numbered, Fresh, Temp, FramePushed, FramePopped, ThreadPushed, ThreadPopped, Replaced}
+use Rattle.ink_stack.specs.declared.undo.ThreadsPair.TheVariants.{Placed, Gone, Evaluating, Numbered, ThreadPushed, ThreadPopped}
 
 -- a list without its last item, seen from its end
 pub popped-drop : {X : Type 0} (xs rest : List X) (o : Option X) (n m : ℕ) → xs ≡ rest ++ option_to_list o → MatchOption o ((n ≡ 0) × (m ≡ 0)) (λ x. m + 1 ≡ n) → n ≡ length xs
@@ -51,18 +51,8 @@ module _ {P : Type 0} where
 
   -- what was noted last
   pub gone-is : (es : List (ThreadsPair P)) → HasGone es → (p : Option P) × (q : Option P) × (rest : List (ThreadsPair P)) × (es ≡ Gone p q ∷ rest)
-  gone-is [] h = absurd h
   gone-is (Gone p q ∷ es) h = (p, q, es, refl)
-  gone-is (Placed _ ∷ es) h = absurd h
-  gone-is (Evaluating _ ∷ es) h = absurd h
-  gone-is (Numbered _ ∷ es) h = absurd h
-  gone-is (Fresh _ ∷ es) h = absurd h
-  gone-is (Temp _ _ _ ∷ es) h = absurd h
-  gone-is (FramePushed ∷ es) h = absurd h
-  gone-is (FramePopped _ ∷ es) h = absurd h
-  gone-is (ThreadPushed ∷ es) h = absurd h
-  gone-is (ThreadPopped _ ∷ es) h = absurd h
-  gone-is (Replaced _ _ ∷ es) h = absurd h
+  gone-is es h = absurd h
 
   -- that flow went was noted last
   pub gone-at : (ps : List (ThreadsPair P)) (d : ThreadsPair P) (p q : Option P) → 0 < length ps → get_or ps (length ps - 1) d ≡ Gone p q → HasGone (reverse ps)
@@ -77,29 +67,8 @@ module _ {P : Type 0} where
   gone-noted p es ts h = rw (gone-is es h).3 refl
 
   pub mode-is : (es : List (ThreadsPair P)) → HasMode es → (p : Option P) × (q : Option P) × (b : Bool) × (rest : List (ThreadsPair P)) × (es ≡ Gone p q ∷ Evaluating b ∷ rest)
-  mode-is [] h = absurd h
-  mode-is (Gone p q ∷ []) h = absurd h
-  mode-is (Gone p q ∷ (Evaluating b ∷ es)) h = (p, q, b, es, refl)
-  mode-is (Gone p q ∷ (Placed _ ∷ es)) h = absurd h
-  mode-is (Gone p q ∷ (Numbered _ ∷ es)) h = absurd h
-  mode-is (Gone p q ∷ (Fresh _ ∷ es)) h = absurd h
-  mode-is (Gone p q ∷ (Temp _ _ _ ∷ es)) h = absurd h
-  mode-is (Gone p q ∷ (FramePushed ∷ es)) h = absurd h
-  mode-is (Gone p q ∷ (FramePopped _ ∷ es)) h = absurd h
-  mode-is (Gone p q ∷ (ThreadPushed ∷ es)) h = absurd h
-  mode-is (Gone p q ∷ (ThreadPopped _ ∷ es)) h = absurd h
-  mode-is (Gone p q ∷ (Replaced _ _ ∷ es)) h = absurd h
-  mode-is (Gone p q ∷ (Gone _ _ ∷ es)) h = absurd h
-  mode-is (Placed _ ∷ es) h = absurd h
-  mode-is (Evaluating _ ∷ es) h = absurd h
-  mode-is (Numbered _ ∷ es) h = absurd h
-  mode-is (Fresh _ ∷ es) h = absurd h
-  mode-is (Temp _ _ _ ∷ es) h = absurd h
-  mode-is (FramePushed ∷ es) h = absurd h
-  mode-is (FramePopped _ ∷ es) h = absurd h
-  mode-is (ThreadPushed ∷ es) h = absurd h
-  mode-is (ThreadPopped _ ∷ es) h = absurd h
-  mode-is (Replaced _ _ ∷ es) h = absurd h
+  mode-is (Gone p q ∷ Evaluating b ∷ es) h = (p, q, b, es, refl)
+  mode-is es h = absurd h
 
   -- the mode was noted before that
   pub mode-at : (ps : List (ThreadsPair P)) (d : ThreadsPair P) (b : Bool) → 2 ≤ length ps → HasGone (reverse ps) → get_or ps (length ps - 2) d ≡ Evaluating b → HasMode (reverse ps)
@@ -156,6 +125,23 @@ module _ {P : Type 0} where
 
   -- ---- what a mark keeps
 
+  -- nothing has changed
+  pub as-it-was : (was is : ThreadsOf P) (t : TrailView (ThreadsPair P)) → is ≡ was → (is ≡ was) × KeepsTrail t t
+  as-it-was was is t same = (same, (refl, omega arith))
+
+  -- but for room
+  pub but-for-room : (was is : ThreadsOf P) (old new : TrailView (ThreadsPair P)) → is ≡ was → KeepsTrail old new → (is ≡ was) × KeepsTrail old new
+  but-for-room was is old new same kept = (same, kept)
+
+  pub few-of : (n : ℕ) (v : ThreadsView P) → spare v.trail < n → threads_spare v < n
+  unfolding threads_spare
+  few-of n v few = few
+
+  -- changes that can be noted
+  pub room-of : (n : ℕ) (v w : ThreadsView P) → v ≡ w → n ≤ threads_spare w → n ≤ spare v.trail
+  unfolding threads_spare
+  room-of n v w is room = subst (λ x. n ≤ threads_spare x) (sym is) room
+
   pub stood-of : (n : ℕ) (old new : ThreadsView P) → Trails threads_back n old.threads old.trail new.threads new.trail → threads_stood new ≡ threads_stood old
   unfolding threads_stood
   stood-of n old new p = stood-trails threads_back p
@@ -188,40 +174,30 @@ module _ {P : Type 0} where
 
 -- ---- what a call did, by its result
 
-kept_by : {S : Type 0} (U : Type 0) (r : Result S Fault) (old new : S) (f : Fault) → Changes {U = U} r old new (Err f) → new ≡ old
-kept_by U (Ok s) old new f h = absurd h
-kept_by U (Err g) old new f h = h.1
-
 -- an error changes nothing
 pub changed-kept : {S U : Type 0} (r : Result S Fault) (old new : S) (x : Result U Fault) (f : Fault) → x ≡ Err f → Changes r old new x → new ≡ old
-changed-kept {U = U} r old new x f is h = kept_by U r old new f (subst (λ y. Changes r old new y) is h)
-
-grown_by : {S : Type 0} (U : Type 0) (r : Result S Fault) (old new : S) (f : Fault) → Grows {U = U} r old new (Err f) → new ≡ old
-grown_by U (Ok s) old new f h = h.1
-grown_by U (Err g) old new f h = h.1
+changed-kept (Ok s) old new (Err e) f is h = absurd h
+changed-kept (Err g) old new (Err e) f is h = h.1
+changed-kept r old new (Ok u) f is h = absurd (cc)
 
 pub grown-kept : {S U : Type 0} (r : Result S Fault) (old new : S) (x : Result U Fault) (f : Fault) → x ≡ Err f → Grows r old new x → new ≡ old
-grown-kept {U = U} r old new x f is h = grown_by U r old new f (subst (λ y. Grows r old new y) is h)
-
-refused_by : {S U : Type 0} (r : Result S Fault) (old mid new : S) (u : U) → new ≡ old → Grows r old mid (Ok u) → Grows {U = U} r old new (Err OutOfMemory)
-refused_by (Ok s) old mid new u same h = (refl, same)
-refused_by (Err g) old mid new u same h = absurd h
+grown-kept (Ok s) old new (Err e) f is h = h.1
+grown-kept (Err g) old new (Err e) f is h = h.1
+grown-kept r old new (Ok u) f is h = absurd (cc)
 
 -- what was done is taken back for want of memory
 pub grown-refused : {S U : Type 0} (r : Result S Fault) (old mid new : S) (x : Result U Fault) (u : U) → x ≡ Ok u → new ≡ old → Grows r old mid x → Grows {U = U} r old new (Err OutOfMemory)
-grown-refused r old mid new x u is same h = refused_by r old mid new u same (subst (λ y. Grows r old mid y) is h)
-
-ok_by : {S U V : Type 0} (r : Result S Fault) (old new : S) (u : U) (v : V) → Changes r old new (Ok u) → Changes r old new (Ok v)
-ok_by (Ok s) old new u v h = h
-ok_by (Err g) old new u v h = absurd h
+grown-refused (Ok s) old mid new (Ok v) u is same h = (refl, same)
+grown-refused (Err g) old mid new (Ok v) u is same h = absurd h
+grown-refused r old mid new (Err e) u is same h = absurd (cc)
 
 -- the same where another value is handed out
 pub changed-ok : {S U V : Type 0} (r : Result S Fault) (old new : S) (x : Result U Fault) (u : U) (v : V) → x ≡ Ok u → Changes r old new x → Changes r old new (Ok v)
-changed-ok r old new x u v is h = ok_by r old new u v (subst (λ y. Changes r old new y) is h)
-
-err_by : {S : Type 0} (U V : Type 0) (r : Result S Fault) (old new : S) (f : Fault) → Changes {U = U} r old new (Err f) → Changes {U = V} r old new (Err f)
-err_by U V (Ok s) old new f h = absurd h
-err_by U V (Err g) old new f h = h
+changed-ok (Ok s) old new (Ok w) u v is h = h
+changed-ok (Err g) old new (Ok w) u v is h = absurd h
+changed-ok r old new (Err e) u v is h = absurd (cc)
 
 pub changed-err : {S U : Type 0} (V : Type 0) (r : Result S Fault) (old new : S) (x : Result U Fault) (f : Fault) → x ≡ Err f → Changes r old new x → Changes {U = V} r old new (Err f)
-changed-err {U = U} V r old new x f is h = err_by U V r old new f (subst (λ y. Changes r old new y) is h)
+changed-err V (Ok s) old new (Err e) f is h = absurd h
+changed-err V (Err g) old new (Err e) f is h = (cc (h.0), h.1)
+changed-err V r old new (Ok u) f is h = absurd (cc)

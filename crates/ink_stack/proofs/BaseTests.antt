@@ -1,6 +1,8 @@
 -- The bottom frame alone is the base, as it is tested.
 use Rattle.std.proofs.Common.{◌≡◌, ◌∙◌, sym, ap, refl, List, [], ◌∷◌, ◌++◌, reverse, Bool, true, false, not, ◌&&◌}
+use Rattle.std.proofs.Math.Bool.{and_comm, and-true}
 use Rattle.std.proofs.lemmas.List.{reverse-append}
+use Rattle.std.proofs.lemmas.List.Folds.{list_all-append}
 use Rattle.std.specs.List.{list_all}
 use Rattle.ink_model.specs.Bases.{BaseFirst}
 use Rattle.ink_model.specs.Frames.{FrameOf}
@@ -8,25 +10,17 @@ use Rattle.ink_model.specs.declared.frame.FrameKind.{FrameKind}
 use Rattle.ink_model.specs.declared.frame.FrameKind.TheVariants.{Base, Function, Tunnel}
 use Rattle.ink_stack.specs.Saving.{base_first, is_call}
 
-all_after : {A : Type 0} (test : A → Bool) (xs ys : List A) → list_all test (xs ++ ys) ≡ (list_all test xs && list_all test ys)
-all_after test [] ys = refl
-all_after test (x ∷ xs) ys = by (test x) (all_after test xs ys)
-  where
-    by : (b : Bool) → list_all test (xs ++ ys) ≡ (list_all test xs && list_all test ys) → (b && list_all test (xs ++ ys)) ≡ ((b && list_all test xs) && list_all test ys)
-    by true e = e
-    by false e = refl
-
 all_reversed : {A : Type 0} (test : A → Bool) (xs : List A) → list_all test (reverse xs) ≡ list_all test xs
 all_reversed test [] = refl
 all_reversed test (x ∷ xs) =
-    ap (list_all test) (reverse-append (x ∷ []) xs) ∙ all_after test (reverse xs) (x ∷ []) ∙ ap (λ b. b && (test x && true)) (all_reversed test xs)
-    ∙ by (test x) (list_all test xs)
-  where
-    by : (a b : Bool) → (b && (a && true)) ≡ (a && b)
-    by true true = refl
-    by true false = refl
-    by false true = refl
-    by false false = refl
+    ap (list_all test) (reverse-append (x ∷ []) xs) ∙ list_all-append test (reverse xs) (x ∷ []) ∙ ap (λ b. b && (test x && true)) (all_reversed test xs)
+    ∙ and_comm (list_all test xs) (test x && true) ∙ ap (λ b. b && list_all test xs) (and-true (test x))
+
+-- two that come first change places
+swapped : (a b r : Bool) → (a && (b && r)) ≡ (b && (a && r))
+swapped true b r = refl
+swapped false true r = refl
+swapped false false r = refl
 
 module _ {P : Type 0} where
   abbrev calls : FrameOf P → Bool
@@ -38,36 +32,15 @@ module _ {P : Type 0} where
   based k (f ∷ fs) = is_call k && based f.kind fs
 
   based_last : (k : FrameKind) (fs : List (FrameOf P)) (b : FrameOf P) → based k (fs ++ b ∷ []) ≡ (not (is_call b.kind) && (is_call k && list_all calls fs))
-  based_last k [] b = by (is_call k) (not (is_call b.kind))
-    where
-      by : (a b : Bool) → (a && b) ≡ (b && (a && true))
-      by true true = refl
-      by true false = refl
-      by false true = refl
-      by false false = refl
-  based_last k (f ∷ fs) b = ap (λ x. is_call k && x) (based_last f.kind fs b) ∙ by (is_call k) (not (is_call b.kind)) (calls f && list_all calls fs)
-    where
-      by : (a b r : Bool) → (a && (b && r)) ≡ (b && (a && r))
-      by true true r = refl
-      by true false r = refl
-      by false true r = refl
-      by false false r = refl
+  based_last k [] b = and_comm (is_call k) (not (is_call b.kind)) ∙ ap (λ x. not (is_call b.kind) && x) (sym (and-true (is_call k)))
+  based_last k (f ∷ fs) b = ap (λ x. is_call k && x) (based_last f.kind fs b) ∙ swapped (is_call k) (not (is_call b.kind)) (calls f && list_all calls fs)
 
   pub base_is : (bs : List (FrameOf P)) (t : FrameOf P) → base_first (bs ++ t ∷ []) ≡ based t.kind (reverse bs)
-  base_is [] t = by (not (is_call t.kind))
-    where
-      by : (a : Bool) → (a && true) ≡ a
-      by true = refl
-      by false = refl
+  base_is [] t = and-true (not (is_call t.kind))
   base_is (b ∷ bs) t =
-      ap (λ x. not (is_call b.kind) && x) (all_after calls bs (t ∷ []) ∙ by (list_all calls bs) (calls t) ∙ ap (λ x. calls t && x) (sym (all_reversed calls bs)))
+      ap (λ x. not (is_call b.kind) && x)
+      (list_all-append calls bs (t ∷ []) ∙ swapped (list_all calls bs) (calls t) true ∙ ap (λ x. calls t && x) (and-true (list_all calls bs) ∙ sym (all_reversed calls bs)))
       ∙ sym (ap (based t.kind) (reverse-append (b ∷ []) bs) ∙ based_last t.kind (reverse bs) b)
-    where
-      by : (a b : Bool) → (a && (b && true)) ≡ (b && a)
-      by true true = refl
-      by true false = refl
-      by false true = refl
-      by false false = refl
 
 pub based_to : {P : Type 0} (k : FrameKind) (fs : List (FrameOf P)) → based k fs ≡ true → BaseFirst k fs
 based_to Base [] e = refl

@@ -1,8 +1,10 @@
 -- The base stays the bottom frame alone, and threads stay within their limit.
-use Rattle.std.proofs.Common.{◌≡◌, ◌≢◌, ℕ, List, [], ◌∷◌, ◌++◌, true, false, Result, Ok, Err, OnOk, OnErr, ap, if◌then◌else◌, map, nat_eq, refl, reverse, subst, sym}
+use Rattle.std.proofs.Common.{◌≡◌, ◌≢◌, ◌∙◌, ℕ, List, [], ◌∷◌, ◌++◌, true, false, Result, Ok, Err, OnOk, OnErr, ap, if◌then◌else◌, map, nat_eq, refl, reverse, subst, sym}
 use Rattle.std.proofs.lemmas.List.{reverse-append}
 use Rattle.ink_model.specs.Bases.{BaseFirst}
 use Rattle.ink_model.specs.Frames.{FrameOf, ThreadOf, ThreadsOf, is_function, unnumbered_frame}
+use Rattle.ink_model.specs.Rows.{name_order, with_row}
+use Rattle.ink_model.specs.Store.{Values}
 use Rattle.ink_model.specs.Threads.{stale, stale_run, top_result, with_row_in}
 use Rattle.ink_model.specs.declared.fault.Fault.{Fault}
 use Rattle.ink_model.specs.declared.frame.FrameKind.{FrameKind}
@@ -48,18 +50,11 @@ module _ {P : Type 0} where
   base_unnumbered k [] h = h
   base_unnumbered k (f ∷ fs) h = (h.0, base_unnumbered f.kind fs h.1)
 
-  -- a temporary has nothing to do with a frame's kind, freshness and depth
-  pub kind_along : {U E : Type 0} (r : Result U E) (name : List ℕ) (v : Value) (f g : FrameOf P) → OnOk r (g ≡ with_row_in name v f) → OnErr r (g ≡ f) → g.kind ≡ f.kind
-  kind_along (Ok u) name v f g made kept = ap (λ h. h.kind) made
-  kind_along (Err e) name v f g made kept = ap (λ h. h.kind) kept
-
-  pub fresh_along : {U E : Type 0} (r : Result U E) (name : List ℕ) (v : Value) (f g : FrameOf P) → OnOk r (g ≡ with_row_in name v f) → OnErr r (g ≡ f) → g.fresh ≡ f.fresh
-  fresh_along (Ok u) name v f g made kept = ap (λ h. h.fresh) made
-  fresh_along (Err e) name v f g made kept = ap (λ h. h.fresh) kept
-
-  pub depth_along : {U E : Type 0} (r : Result U E) (name : List ℕ) (v : Value) (f g : FrameOf P) → OnOk r (g ≡ with_row_in name v f) → OnErr r (g ≡ f) → g.depth ≡ f.depth
-  depth_along (Ok u) name v f g made kept = ap (λ h. h.depth) made
-  depth_along (Err e) name v f g made kept = ap (λ h. h.depth) kept
+  -- a temporary has nothing to do with all else of a frame
+  pub same_along : {U E A : Type 0} (get : FrameOf P → A) → ((f : FrameOf P) (rows : Values) → get (record f { temps = rows }) ≡ get f)
+      → (r : Result U E) (name : List ℕ) (v : Value) (f g : FrameOf P) → OnOk r (g ≡ with_row_in name v f) → OnErr r (g ≡ f) → get g ≡ get f
+  same_along get same (Ok u) name v f g made kept = ap get made ∙ same f (with_row name_order name v f.temps)
+  same_along get same (Err e) name v f g made kept = ap get kept
 
   -- what becomes of the top thread becomes of the threads
   pub top_changes : {U : Type 0} (r : Result (ThreadOf P) Fault) (ts : ThreadsOf P) (new : ThreadOf P) (x : Result U Fault) → Changes r ts.thread new x

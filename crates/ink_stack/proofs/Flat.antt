@@ -2,7 +2,7 @@
 use Rattle.std.proofs.Common.{◌≡◌, ◌∙◌, ◌<◌, ◌≤◌, ◌+◌, ◌-◌, ℕ, zero, suc, List, [], ◌∷◌, ◌++◌, ap, arith, get_or, if◌then◌else◌, length, map, refl, reverse, set, subst, sym, replicate, Bool, true, false, nat_lt, Option, Some, None, inl, inr}
 use Rattle.std.proofs.lemmas.Bool.{cases_lt}
 use Rattle.std.proofs.lemmas.Bool.Decides.{nat_tests}
-use Rattle.std.proofs.lemmas.List.{get_or-set_same, length-append, length-replicate, length-reverse, reverse-append, set-get_or}
+use Rattle.std.proofs.lemmas.List.{get_or-set_same, get_or_default, get_or_past, length-append, length-replicate, length-reverse, reverse-append, set-get_or}
 use Rattle.ink_model.specs.Frames.{FrameOf, unnumbered_frame}
 use Rattle.ink_model.specs.Store.{Values}
 use Rattle.ink_model.specs.declared.value.Value.{Value}
@@ -66,27 +66,15 @@ module _ {P : Type 0} where
   framed_bare (y ∷ hs) (t ∷ ts) x h = ap (λ fs. frame_with y t ∷ fs) (framed_bare hs ts x (omega arith))
 
 pub rows_got : (ts : List Values) (i : ℕ) (rows : Values) → true ≡ nat_lt i (length ts) → rows ≡ get_or ts i rows → get_or ts i [] ≡ rows
-rows_got [] i rows h e = let below : i < 0 = grind (arith, nat_tests, h) in absurd (omega (arith, below))
-rows_got (t ∷ ts) zero rows h e = sym e
-rows_got (t ∷ ts) (suc i) rows h e = let below : i + 1 < length ts + 1 = grind (arith, nat_tests, h) in rows_got ts i rows (grind (arith, nat_tests, below)) e
-
-pub same_rows : (ts : List Values) (i : ℕ) (d : Values) → i < length ts → get_or ts i [] ≡ get_or ts i d
-same_rows [] i d h = absurd (omega arith)
-same_rows (t ∷ ts) zero d h = refl
-same_rows (t ∷ ts) (suc i) d h = same_rows ts i d (omega arith)
+rows_got ts i rows h e = get_or_default ts i [] rows (grind (arith, nat_tests, h)) ∙ sym e
 
 pub rows_past : (ts : List Values) (i : ℕ) → false ≡ nat_lt i (length ts) → get_or ts i [] ≡ []
-rows_past [] i h = refl
-rows_past (t ∷ ts) zero h = let past : length ts + 1 ≤ 0 = grind (arith, nat_tests, h) in absurd (omega (arith, past))
-rows_past (t ∷ ts) (suc i) h = let past : length ts + 1 ≤ i + 1 = grind (arith, nat_tests, h) in rows_past ts i (grind (arith, nat_tests, past))
+rows_past ts i h = get_or_past ts i [] (grind (arith, nat_tests, h))
 
 module _ {P : Type 0} where
   pub temps_at : (hs : List (Header P)) (ts : List Values) (i : ℕ) (d : FrameOf P) → i < length hs → (get_or (framed hs ts) i d).temps ≡ get_or ts i []
   temps_at [] ts i d h = absurd (omega arith)
-  temps_at (x ∷ hs) [] zero d h = refl
-  temps_at (x ∷ hs) [] (suc i) d h = temps_at hs [] i d (omega arith)
-  temps_at (x ∷ hs) (t ∷ ts) zero d h = refl
-  temps_at (x ∷ hs) (t ∷ ts) (suc i) d h = temps_at hs ts i d (omega arith)
+  temps_at (x ∷ hs) ts i d h = ap (λ f. f.temps) (framed_at (x ∷ hs) ts i d x h)
 
 -- what is put back where nothing is
 nothing_back : (i : ℕ) (was : Option Value) → temps_back i was [] ≡ []
@@ -205,7 +193,7 @@ module _ {P : Type 0} where
   pub temps_were : (hs : List (Header P)) (ts filled : List Values) (n i : ℕ) (e : Values) (d : FrameOf P) → filled ≡ ts ++ replicate n [] → i < length filled → length filled ≤ length hs
       → get_or filled i e ≡ (get_or (framed hs ts) i d).temps
   temps_were hs ts filled n i e d is inside few =
-      sym (same_rows filled i e inside) ∙ sym (temps_at hs filled i d (omega arith)) ∙ ap (λ fs. (get_or fs i d).temps) (ap (framed hs) is ∙ temps_filled hs ts n)
+      sym (get_or_default filled i [] e inside) ∙ sym (temps_at hs filled i d (omega arith)) ∙ ap (λ fs. (get_or fs i d).temps) (ap (framed hs) is ∙ temps_filled hs ts n)
 
   pub temps_restored : (hs : List (Header P)) (ts filled : List Values) (n i k : ℕ) (rows : Values) (was : Option Value) (d : FrameOf P) → filled ≡ ts ++ replicate n [] → i < length filled
       → length filled ≤ length hs → temps_back k was rows ≡ (get_or (framed hs ts) i d).temps → temp_back k was (get_or (framed hs (set filled i rows)) i d) ≡ get_or (framed hs ts) i d

@@ -1,5 +1,5 @@
 -- A change of the frame of a number.
-use Rattle.std.proofs.Common.{◌≡◌, ◌∙◌, ◌<◌, ◌≤◌, ◌+◌, ◌-◌, ℕ, List, [], ◌∷◌, ◌++◌, true, false, Option, ap, arith, drop, get_or, if◌then◌else◌, length, length-set, nat_eq, refl, reverse, set, subst, suc, sym, take}
+use Rattle.std.proofs.Common.{◌≡◌, ◌≢◌, ◌∙◌, ◌<◌, ◌≤◌, ◌+◌, ◌-◌, ℕ, List, [], ◌∷◌, ◌++◌, true, false, Option, ap, arith, drop, get_or, if◌then◌else◌, length, length-set, nat_eq, refl, reverse, set, subst, suc, sym, take}
 use Rattle.std.proofs.lemmas.List.{get_or-set_same, length-reverse, set-get_or, set-set}
 use Rattle.ink_model.specs.Bases.{BaseFirst}
 use Rattle.ink_model.specs.Frames.{FrameOf, ThreadOf}
@@ -8,18 +8,15 @@ use Rattle.ink_model.specs.declared.frame.FrameKind.{FrameKind}
 use Rattle.ink_stack.specs.Cells.{Within, with_frame}
 use Rattle.ink_stack.specs.Frames.{Room, is_bare, with_temps}
 use Rattle.ink_stack.proofs.Bases.{base_same}
-use Rattle.ink_stack.proofs.Numbers.{changed_is, other_number, other_number_above, same_number, split_at, split_set}
+use Rattle.ink_stack.proofs.Numbers.{changed_is, other_number, same_number, split_at, split_set, unlike}
 
 module _ {P : Type 0} where
   -- ---- frames by their number
 
-  changed_past : (change : FrameOf P → FrameOf P) (n : ℕ) (fs : List (FrameOf P)) → length fs < n → changed change n fs ≡ fs
-  changed_past change n [] h = refl
-  changed_past change n (f ∷ fs) h = rw (other_number_above n (length fs + 1) (omega arith)) (ap (λ gs. f ∷ gs) (changed_past change n fs (omega arith)))
-
-  changed_zero : (change : FrameOf P → FrameOf P) (fs : List (FrameOf P)) → changed change 0 fs ≡ fs
-  changed_zero change [] = refl
-  changed_zero change (f ∷ fs) = rw (other_number 0 (length fs + 1) (omega arith)) (ap (λ gs. f ∷ gs) (changed_zero change fs))
+  changed_none : (change : FrameOf P → FrameOf P) (n : ℕ) (fs : List (FrameOf P)) → ((k : ℕ) → k < length fs → n ≢ k + 1) → changed change n fs ≡ fs
+  changed_none change n [] h = refl
+  changed_none change n (f ∷ fs) h =
+      rw (unlike n (length fs + 1) (h (length fs) (omega arith))) (ap (λ gs. f ∷ gs) (changed_none change n fs (λ k less. h k (omega arith))))
 
   pub length-changed : (change : FrameOf P → FrameOf P) (n : ℕ) (fs : List (FrameOf P)) → length (changed change n fs) ≡ length fs
   length-changed change n [] = refl
@@ -53,13 +50,11 @@ module _ {P : Type 0} where
       ∙ ap (λ gs. record { frame = f; below = reverse gs; previous = previous })
       (set-set fs (n - 1) g (back g) ∙ ap (λ h. set fs (n - 1) h) is ∙ set-get_or fs (n - 1) d)
 
-  pub framed_past : (change : FrameOf P → FrameOf P) (n : ℕ) (t : ThreadOf P) → frame_count t < n → t ≡ with_frame change n t
-  framed_past change n t h =
-      rw (other_number_above n (length t.below + 1) h) (ap (λ fs. record t { below = fs }) (sym (changed_past change n t.below (omega arith))))
-
-  pub framed_zero : (change : FrameOf P → FrameOf P) (n : ℕ) (t : ThreadOf P) → n ≡ 0 → t ≡ with_frame change n t
-  framed_zero change n t is =
-      rw (is, other_number 0 (length t.below + 1) (omega arith)) (ap (λ fs. record t { below = fs }) (sym (changed_zero change t.below)))
+  -- a number that no frame has
+  pub framed_none : (change : FrameOf P → FrameOf P) (n : ℕ) (t : ThreadOf P) → ((k : ℕ) → k < frame_count t → n ≢ k + 1) → t ≡ with_frame change n t
+  framed_none change n t h =
+      rw (unlike n (length t.below + 1) (h (length t.below) (omega arith)))
+      (ap (λ fs. record t { below = fs }) (sym (changed_none change n t.below (λ k less. h k (omega arith)))))
 
   -- ---- the base
 

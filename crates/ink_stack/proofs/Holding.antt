@@ -12,7 +12,7 @@ use Rattle.ink_stack.specs.Frames.{FitsIn, MoreRoom, Room}
 use Rattle.ink_stack.specs.Running.{RunningView, threads_in}
 use Rattle.ink_stack.specs.Undo.{HasGone, HasMode, Held, More, Rooms, StaysHeld, rooms_of, threads_back}
 use Rattle.ink_stack.specs.declared.undo.ThreadsPair.{ThreadsPair}
-use Rattle.ink_stack.specs.declared.undo.ThreadsPair.TheVariants.{Placed, Gone, Evaluating, Numbered, Fresh, Temp, FramePushed, FramePopped, ThreadPushed, ThreadPopped, Replaced}
+use Rattle.ink_stack.specs.declared.undo.ThreadsPair.TheVariants.{Gone, Evaluating, ThreadPopped, Replaced}
 
 pub room-refl : (r : Room) → MoreRoom r r
 room-refl r = record { frames = omega arith; temps = omega arith }
@@ -37,7 +37,7 @@ module _ {P : Type 0} where
   }
 
   -- the frames below stay, and the top one's kind
-  pub within-same : (room : Room) (t s : ThreadOf P) → s.below ≡ t.below → s.frame.kind ≡ t.frame.kind → Within room t → Within room s
+  within-same : (room : Room) (t s : ThreadOf P) → s.below ≡ t.below → s.frame.kind ≡ t.frame.kind → Within room t → Within room s
   within-same room t s below kind h = record {
     few = omega (arith, h.few, ap length below);
     fit = subst (λ fs. FitsIn room fs) (sym below) h.fit;
@@ -52,17 +52,9 @@ module _ {P : Type 0} where
   }
 
   rooms-more : (e : ThreadsPair P) (r s : Rooms) → More r s → More (rooms_of e r) (rooms_of e s)
-  rooms-more (Placed p) r s h = h
-  rooms-more (Gone p q) r s h = h
-  rooms-more (Evaluating b) r s h = h
-  rooms-more (Numbered n) r s h = h
-  rooms-more (Fresh n) r s h = h
-  rooms-more (Temp n i o) r s h = h
-  rooms-more FramePushed r s h = h
-  rooms-more (FramePopped f) r s h = h
-  rooms-more ThreadPushed r s h = h
   rooms-more (ThreadPopped t) r s h = record { frames = room-refl t.room; threads = h.threads }
   rooms-more (Replaced t below) r s h = record { frames = room-refl t.room; threads = omega arith }
+  rooms-more e r s h = h
 
   pub stays-roomy : (r s : Rooms) (es : List (ThreadsPair P)) (ts : ThreadsOf P) → More r s → StaysHeld r es ts → StaysHeld s es ts
   stays-roomy r s es ts more h = stays-more threads_back rooms_of Held More held-more rooms-more r s es ts more h
@@ -76,18 +68,60 @@ module _ {P : Type 0} where
   held-with e n was is u r s same held more h =
       stays-with threads_back rooms_of Held e n was is u s same held (stays-roomy r (rooms_of e s) (trail_of u) was more h)
 
-  -- the same where the threads below stay, and all rooms
-  pub held-top : (e : ThreadsPair P) (n : ℕ) (t s : ThreadOf P) (below : List (ThreadOf P)) (u : Option (Undo (ThreadsPair P))) (r : Rooms)
-      → threads_back e (record { thread = s; below = below }) ≡ record { thread = t; below = below } → Within r.frames s → More r (rooms_of e r)
-      → StaysHeld r (trail_of u) (record { thread = t; below = below }) → StaysHeld r (trail_of (with_pair e n u)) (record { thread = s; below = below })
-  held-top e n t s below u r same within more h =
-      let now = held-now r (trail_of u) (record { thread = t; below = below }) h in
-      held-with e n (record { thread = t; below = below }) (record { thread = s; below = below }) u r r same (record { thread = within; few = now.few; fit = now.fit }) more h
-
   -- without a mark
   pub held-unmarked : (u : Option (Undo (ThreadsPair P))) (r : Rooms) (ts : ThreadsOf P) → is_some u ≡ false → Held r ts → StaysHeld r (trail_of u) ts
   held-unmarked None r ts none h = h
   held-unmarked (Some u) r ts none h = absurd (cc)
+
+  -- ---- the threads below stay, and their room
+
+  -- of a thread that runs, where so many below it fit without memory
+  abbrev pub rooms_at : RunningView P → ℕ → Rooms
+  rooms_at v m = record { frames = v.room; threads = m }
+
+  -- a change of it is put back
+  pub running-back : (w v : RunningView P) (items : List (ThreadOf P)) (m : ℕ) → w ≡ v → (threads_in w items ≡ threads_in v items) × More (rooms_at v m) (rooms_at w m)
+  running-back w v items m is = (ap (λ x. threads_in x items) is, record { frames = room-same v.room w.room (ap (λ x. x.room) is); threads = omega arith })
+
+  still : (es : List (ThreadsPair P)) (v w : RunningView P) (items : List (ThreadOf P)) (m : ℕ) → Within w.room w.thread → StaysHeld (rooms_at v m) es (threads_in v items)
+      → Held (rooms_at w m) (threads_in w items)
+  still es v w items m within h =
+      let now = held-now (rooms_at v m) es (threads_in v items) h in
+      record { thread = within; few = now.few; fit = now.fit }
+
+  -- without a mark
+  pub held-moved : (u : Option (Undo (ThreadsPair P))) (v w : RunningView P) (items : List (ThreadOf P)) (m : ℕ) → is_some u ≡ false → Within w.room w.thread
+      → StaysHeld (rooms_at v m) (trail_of u) (threads_in v items) → StaysHeld (rooms_at w m) (trail_of u) (threads_in w items)
+  held-moved u v w items m none within h = held-unmarked u (rooms_at w m) (threads_in w items) none (still (trail_of u) v w items m within h)
+
+  -- with a pair more
+  pub held-noted : (e : ThreadsPair P) (n : ℕ) (u : Option (Undo (ThreadsPair P))) (v w : RunningView P) (items : List (ThreadOf P)) (m : ℕ)
+      → threads_back e (threads_in w items) ≡ threads_in v items → Within w.room w.thread → More (rooms_at v m) (rooms_of e (rooms_at w m))
+      → StaysHeld (rooms_at v m) (trail_of u) (threads_in v items) → StaysHeld (rooms_at w m) (trail_of (with_pair e n u)) (threads_in w items)
+  held-noted e n u v w items m same within more h =
+      held-with e n (threads_in v items) (threads_in w items) u (rooms_at v m) (rooms_at w m) same (still (trail_of u) v w items m within h) more h
+
+  -- ---- the frames below the top one stay, too, and so does the kind of that
+
+  as_before : (t s : ThreadOf P) (below : List (ThreadOf P)) (r : Rooms) → s.below ≡ t.below → s.frame.kind ≡ t.frame.kind → Held r (record { thread = t; below = below })
+      → Held r (record { thread = s; below = below })
+  as_before t s below r same kind held = record { thread = within-same r.frames t s same kind held.thread; few = held.few; fit = held.fit }
+
+  -- without a mark
+  pub held-same : (t s : ThreadOf P) (below : List (ThreadOf P)) (u : Option (Undo (ThreadsPair P))) (r : Rooms) → is_some u ≡ false
+      → s.below ≡ t.below → s.frame.kind ≡ t.frame.kind → StaysHeld r (trail_of u) (record { thread = t; below = below })
+      → StaysHeld r (trail_of u) (record { thread = s; below = below })
+  held-same t s below u r none under kind h =
+      held-unmarked u r (record { thread = s; below = below }) none (as_before t s below r under kind (held-now r (trail_of u) (record { thread = t; below = below }) h))
+
+  -- with a pair more
+  pub held-set : (e : ThreadsPair P) (n : ℕ) (t s : ThreadOf P) (below : List (ThreadOf P)) (u : Option (Undo (ThreadsPair P))) (r : Rooms)
+      → threads_back e (record { thread = s; below = below }) ≡ record { thread = t; below = below } → s.below ≡ t.below → s.frame.kind ≡ t.frame.kind → More r (rooms_of e r)
+      → StaysHeld r (trail_of u) (record { thread = t; below = below }) → StaysHeld r (trail_of (with_pair e n u)) (record { thread = s; below = below })
+  held-set e n t s below u r same under kind more h =
+      held-with e n _ _ u r r same (as_before t s below r under kind (held-now r (trail_of u) (record { thread = t; below = below }) h)) more h
+
+  -- ---- other threads below
 
   -- the thread below comes on top
   pub held-next : (r : Rooms) (t v : RunningView P) (next : ThreadOf P) (rest items : List (ThreadOf P)) (room : ℕ) → items ≡ rest ++ next ∷ [] → Within v.room v.thread
@@ -107,10 +141,6 @@ module _ {P : Type 0} where
       (subst (λ w. StaysHeld s (trail_of u) w) (sym same) (stays-roomy r s (trail_of u) ts more h))
 
   -- ---- what is put back already
-
-  as_before : (t s : ThreadOf P) (below : List (ThreadOf P)) (r : Rooms) → s.below ≡ t.below → s.frame.kind ≡ t.frame.kind → Held r (record { thread = t; below = below })
-      → Held r (record { thread = s; below = below })
-  as_before t s below r same kind held = record { thread = within-same r.frames t s same kind held.thread; few = held.few; fit = held.fit }
 
   -- flow goes further
   pub held-further : (n : ℕ) (p : Option P) (u : Option (Undo (ThreadsPair P))) (ts : ThreadsOf P) (r : Rooms) → HasGone (trail_of u) → StaysHeld r (trail_of u) ts

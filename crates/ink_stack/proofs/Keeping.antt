@@ -1,9 +1,10 @@
 -- What a thread keeps in mind of the frames below its top one, as frames come and go. In a list the nearest is the last.
-use Rattle.std.proofs.Common.{◌≡◌, ◌∙◌, ◌≤◌, ℕ, List, [], ◌∷◌, ◌++◌, Bool, true, false, not, ◌&&◌, Option, Some, None, IfSome, IsSomeAnd, ap, is_some, reverse, subst, sym}
-use Rattle.std.proofs.lemmas.List.{reverse-append}
+use Rattle.std.proofs.Common.{◌≡◌, ◌∙◌, ◌<◌, ◌≤◌, ℕ, List, [], ◌∷◌, ◌++◌, Bool, true, false, not, ◌&&◌, Option, Some, None, IfSome, IsSomeAnd, ap, arith, is_some, length, reverse, subst, sym}
+use Rattle.std.proofs.lemmas.List.{length-append, reverse-append}
 use Rattle.ink_model.specs.Bases.{BaseFirst}
 use Rattle.ink_model.specs.Frames.{FrameOf, is_function}
 use Rattle.ink_model.specs.declared.frame.FrameKind.{FrameKind}
+use Rattle.ink_model.specs.declared.limits.TheConstants.{MAX_FRAMES}
 use Rattle.ink_stack.specs.Quiet.{Covers, IsQuiet, is_unnumbered}
 use Rattle.ink_stack.proofs.Bases.{base_popped, base_same}
 use Rattle.ink_stack.proofs.Quietness.{quiet_weaker}
@@ -38,17 +39,31 @@ module _ {P : Type 0} where
   whole : (f : FrameOf P) (rest items : List (FrameOf P)) → items ≡ rest ++ f ∷ [] → reverse items ≡ f ∷ reverse rest
   whole f rest items is = ap reverse is ∙ reverse-append rest (f ∷ [])
 
-  pub quiet_fewer : (f : FrameOf P) (rest items : List (FrameOf P)) (old new : Option ℕ) → items ≡ rest ++ f ∷ [] → IfSome old (λ n. IsQuiet n (reverse items))
+  quiet_fewer : (f : FrameOf P) (rest items : List (FrameOf P)) (old new : Option ℕ) → items ≡ rest ++ f ∷ [] → IfSome old (λ n. IsQuiet n (reverse items))
       → IfSome new (λ n. (is_function f.kind ≡ true) × (old ≡ Some n)) → IfSome new (λ n. IsQuiet n (reverse rest))
   quiet_fewer f rest items old None is h k = tt
   quiet_fewer f rest items old (Some n) is h k =
       let all : IsQuiet n (reverse items) = subst (λ q. IfSome q (λ m. IsQuiet m (reverse items))) k.1 h in
       (subst (λ fs. IsQuiet n fs) (whole f rest items is) all k.0).1
 
-  pub unnumbered_fewer : (f : FrameOf P) (rest items : List (FrameOf P)) (n : Bool) → items ≡ rest ++ f ∷ [] → (n ≡ false → is_unnumbered (reverse items) ≡ true)
+  unnumbered_fewer : (f : FrameOf P) (rest items : List (FrameOf P)) (n : Bool) → items ≡ rest ++ f ∷ [] → (n ≡ false → is_unnumbered (reverse items) ≡ true)
       → n ≡ false → is_unnumbered (reverse rest) ≡ true
   unnumbered_fewer f rest items n is h e =
       second (is_some f.enter) (is_unnumbered (reverse rest)) (sym (ap is_unnumbered (whole f rest items is)) ∙ h e)
 
-  pub base_fewer : (j k : FrameKind) (f : FrameOf P) (rest items : List (FrameOf P)) → j ≡ f.kind → items ≡ rest ++ f ∷ [] → BaseFirst k (reverse items) → BaseFirst j (reverse rest)
+  base_fewer : (j k : FrameKind) (f : FrameOf P) (rest items : List (FrameOf P)) → j ≡ f.kind → items ≡ rest ++ f ∷ [] → BaseFirst k (reverse items) → BaseFirst j (reverse rest)
   base_fewer j k f rest items kind is h = base_same f.kind j (reverse rest) kind (base_popped k rest f (subst (λ fs. BaseFirst k (reverse fs)) is h))
+
+  -- what is kept in mind of frames below one of a kind
+  abbrev Kept : Option ℕ → FrameKind → Bool → List (FrameOf P) → Type 0
+  Kept quiet kind numbered items =
+      (length items < MAX_FRAMES) × IfSome quiet (λ n. IsQuiet n (reverse items)) × BaseFirst kind (reverse items) × (numbered ≡ false → is_unnumbered (reverse items) ≡ true)
+
+  pub kept_fewer : (j k : FrameKind) (f : FrameOf P) (rest items : List (FrameOf P)) (old new : Option ℕ) (n : Bool) → j ≡ f.kind → items ≡ rest ++ f ∷ []
+      → IfSome new (λ m. (is_function f.kind ≡ true) × (old ≡ Some m)) → Kept old k n items → Kept new j n rest
+  kept_fewer j k f rest items old new n kind is quiet h = (
+    omega (arith, ap length is ∙ length-append rest (f ∷ []), h.0),
+    quiet_fewer f rest items old new is h.1 quiet,
+    base_fewer j k f rest items kind is h.2,
+    unnumbered_fewer f rest items n is h.3,
+  )

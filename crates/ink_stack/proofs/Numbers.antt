@@ -1,5 +1,5 @@
 -- Frames by their number, over a list whose last item is the top one.
-use Rattle.std.proofs.Common.{◌≡◌, ◌∙◌, ◌<◌, ◌≤◌, ◌+◌, ◌-◌, ℕ, List, [], ◌∷◌, ◌++◌, true, false, Option, Some, None, option_and_then, Result, Ok, Err, IfSome, OnOk, OnErr, add-one, ap, append_assoc, arith, drop, get_or, length, length-append, nat_eq, refl, reverse, set, subst, sym, take}
+use Rattle.std.proofs.Common.{◌≡◌, ◌≢◌, ◌∙◌, ◌<◌, ◌≤◌, ◌+◌, ◌-◌, ℕ, List, [], ◌∷◌, ◌++◌, true, false, Option, Some, None, option_and_then, Result, Ok, Err, IfSome, OnOk, OnErr, add-one, ap, append_assoc, arith, drop, get_or, length, length-append, nat_eq, refl, reverse, set, subst, sym, take}
 use Rattle.std.proofs.lemmas.Bool.Decides.{nat_tests}
 use Rattle.std.proofs.lemmas.List.{drop_more, get_or-set_same, length-reverse, length-take-le, reverse-append, set-get_or, set_split, take-append-drop}
 use Rattle.std.proofs.lemmas.Result.{on_err_weaker, on_ok_weaker}
@@ -15,8 +15,8 @@ same_number n = grind (arith, nat_tests)
 pub other_number : (m n : ℕ) → m < n → nat_eq m n ≡ false
 other_number m n h = grind (arith, nat_tests)
 
-pub other_number_above : (m n : ℕ) → n < m → nat_eq m n ≡ false
-other_number_above m n h = grind (arith, nat_tests)
+pub unlike : (m n : ℕ) → m ≢ n → nat_eq m n ≡ false
+unlike m n h = grind (arith, nat_tests)
 
 reverse_around : {X : Type 0} (before after : List X) (x : X) → reverse (before ++ x ∷ after) ≡ reverse after ++ x ∷ reverse before
 reverse_around before after x =
@@ -66,14 +66,10 @@ module _ {P : Type 0} where
       ∙ sym (ap (changed change n) (split_at fs (n - 1) d inside)
       ∙ changed_around change (reverse (drop (n - 1 + 1) fs)) (get_or fs (n - 1) d) (reverse (take (n - 1) fs)) n is)
 
-  -- numbers that no frame has
-  pub none_numbered : (fs : List (FrameOf P)) (n : ℕ) → length fs < n → frame_numbered n fs ≡ None
+  -- a number that no frame has
+  pub none_numbered : (fs : List (FrameOf P)) (n : ℕ) → ((k : ℕ) → k < length fs → n ≢ k + 1) → frame_numbered n fs ≡ None
   none_numbered [] n h = refl
-  none_numbered (f ∷ fs) n h = rw (other_number_above n (length fs + 1) (omega arith)) (none_numbered fs n (omega arith))
-
-  pub none_zero : (fs : List (FrameOf P)) → frame_numbered 0 fs ≡ None
-  none_zero [] = refl
-  none_zero (f ∷ fs) = rw (other_number 0 (length fs + 1) (omega arith)) (none_zero fs)
+  none_numbered (f ∷ fs) n h = rw (unlike n (length fs + 1) (h (length fs) (omega arith))) (none_numbered fs n (λ k less. h k (omega arith)))
 
   -- freshness where a frame of the same kind stands in the place of another
   quiet_around : (n : ℕ) (above : List (FrameOf P)) (f g : FrameOf P) (below : List (FrameOf P)) → g.kind ≡ f.kind → g.fresh ≡ f.fresh → g.depth ≡ f.depth

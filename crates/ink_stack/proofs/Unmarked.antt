@@ -1,37 +1,31 @@
 -- What holds of the threads where no mark stands.
-use Rattle.std.proofs.Common.{◌≡◌, ◌≤◌, ◌+◌, ℕ, List, Option, None, Result, Ok, Err, false, is_some, refl}
-use Rattle.ink_model.specs.Frames.{ThreadOf, ThreadsOf}
+use Rattle.std.proofs.Common.{◌≡◌, ◌≤◌, ◌+◌, ℕ, Result, Ok, Err, arith, false, is_some, refl}
+use Rattle.ink_model.specs.Frames.{ThreadsOf}
 use Rattle.ink_model.specs.declared.fault.Fault.{Fault}
-use Rattle.ink_trail.proofs.Undoing.{spare-or-kept, stood-none, stood-or-kept, trails-unmarked}
-use Rattle.ink_trail.specs.Undo.{KeepsTrail, TrailView, TrailsOrKeeps, Undo, trail_of}
+use Rattle.ink_trail.proofs.Undoing.{spare-or-kept, stood-or-kept, trails-unmarked}
+use Rattle.ink_trail.specs.Undo.{TrailView, Trails, TrailsOrKeeps}
 use Rattle.ink_stack.specs.Threads.{ThreadsView}
-use Rattle.ink_stack.specs.Undo.{Rooms, StaysHeld, threads_back, threads_spare, threads_stood}
+use Rattle.ink_stack.specs.Undo.{threads_back, threads_spare, threads_stood}
 use Rattle.ink_stack.specs.Words.{Changes, Grows}
 use Rattle.ink_stack.specs.declared.undo.ThreadsPair.{ThreadsPair}
 use Rattle.ink_stack.proofs.Backs.{changed-kept, grown-kept}
-use Rattle.ink_stack.proofs.Holding.{held-now, held-unmarked, within-same}
 
 module _ {P : Type 0} where
-  -- the frames below the top one stay, and so does the kind of that
-  pub held-same : (t s : ThreadOf P) (below : List (ThreadOf P)) (u : Option (Undo (ThreadsPair P))) (r : Rooms) → is_some u ≡ false
-      → s.below ≡ t.below → s.frame.kind ≡ t.frame.kind → StaysHeld r (trail_of u) (record { thread = t; below = below })
-      → StaysHeld r (trail_of u) (record { thread = s; below = below })
-  held-same t s below u r none under kind h =
-      let now = held-now r (trail_of u) (record { thread = t; below = below }) h in
-      held-unmarked u r (record { thread = s; below = below }) none
-      (record { thread = within-same r.frames t s under kind now.thread; few = now.few; fit = now.fit })
+  -- without a mark nothing is noted
+  pub free : (n : ℕ) (was is : ThreadsOf P) (t : TrailView (ThreadsPair P)) → is_some t.undo ≡ false → Trails threads_back n was t is t
+  free n was is t none = trails-unmarked threads_back n was is t t none (refl, omega arith)
 
   -- a call that may be refused memory, by its result
-  pub trails-grown : {U : Type 0} (n : ℕ) (r : Result (ThreadsOf P) Fault) (was is : ThreadsOf P) (x : Result U Fault) (old new : TrailView (ThreadsPair P))
-      → is_some old.undo ≡ false → KeepsTrail old new → Grows r was is x → TrailsOrKeeps threads_back n was old is new x
-  trails-grown n r was is (Ok u) old new none kept h = trails-unmarked threads_back n was is old new none kept
-  trails-grown n r was is (Err f) old new none kept h = (grown-kept r was is (Err f) f refl h, kept)
+  pub trails-grown : {U : Type 0} (n : ℕ) (r : Result (ThreadsOf P) Fault) (was is : ThreadsOf P) (x : Result U Fault) (t : TrailView (ThreadsPair P))
+      → is_some t.undo ≡ false → Grows r was is x → TrailsOrKeeps threads_back n was t is t x
+  trails-grown n r was is (Ok u) t none h = free n was is t none
+  trails-grown n r was is (Err f) t none h = (grown-kept r was is (Err f) f refl h, (refl, omega arith))
 
   -- and one that is not
-  pub trails-changed : {U : Type 0} (n : ℕ) (r : Result (ThreadsOf P) Fault) (was is : ThreadsOf P) (x : Result U Fault) (old new : TrailView (ThreadsPair P))
-      → is_some old.undo ≡ false → KeepsTrail old new → Changes r was is x → TrailsOrKeeps threads_back n was old is new x
-  trails-changed n r was is (Ok u) old new none kept h = trails-unmarked threads_back n was is old new none kept
-  trails-changed n r was is (Err f) old new none kept h = (changed-kept r was is (Err f) f refl h, kept)
+  pub trails-changed : {U : Type 0} (n : ℕ) (r : Result (ThreadsOf P) Fault) (was is : ThreadsOf P) (x : Result U Fault) (t : TrailView (ThreadsPair P))
+      → is_some t.undo ≡ false → Changes r was is x → TrailsOrKeeps threads_back n was t is t x
+  trails-changed n r was is (Ok u) t none h = free n was is t none
+  trails-changed n r was is (Err f) t none h = (changed-kept r was is (Err f) f refl h, (refl, omega arith))
 
   -- a call that leaves a trail, or changes nothing where it fails
   pub stood-or : {A F : Type 0} (r : Result A F) (n : ℕ) (old new : ThreadsView P) → TrailsOrKeeps threads_back n old.threads old.trail new.threads new.trail r
@@ -43,8 +37,3 @@ module _ {P : Type 0} where
       → threads_spare old ≤ threads_spare new + n
   unfolding threads_spare
   spare-or r n old new h = spare-or-kept threads_back r n old.threads new.threads old.trail new.trail h
-
-  -- the mark has ended
-  pub none-stands : (v : ThreadsView P) → v.trail.undo ≡ None → threads_stood v ≡ None
-  unfolding threads_stood
-  none-stands v none = stood-none threads_back v.trail v.threads none

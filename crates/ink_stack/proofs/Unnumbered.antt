@@ -1,8 +1,7 @@
 -- Frames of which none has the number of its Enter.
-use Rattle.std.proofs.Common.{◌≡◌, ◌∙◌, ◌<◌, ◌≤◌, ◌+◌, ◌-◌, ℕ, List, [], ◌∷◌, ◌++◌, Bool, true, false, not, ◌&&◌, is_some, Option, Some, None, Result, OnOk, OnErr, Ok, Err, ap, arith, drop, get_or, if◌then◌else◌, length, map, nat_eq, refl, reverse, set, sym, take}
+use Rattle.std.proofs.Common.{◌≡◌, ◌∙◌, ◌<◌, ◌≤◌, ◌+◌, ◌-◌, ℕ, List, [], ◌∷◌, ◌++◌, Bool, true, false, not, ◌&&◌, is_some, Option, Some, None, ap, arith, drop, get_or, if◌then◌else◌, length, map, nat_eq, refl, reverse, set, sym, take}
 use Rattle.ink_model.specs.Frames.{FrameOf, is_function, unnumbered_frame}
-use Rattle.ink_model.specs.Threads.{stale, stale_run, with_row_in}
-use Rattle.ink_model.specs.declared.value.Value.{Value}
+use Rattle.ink_model.specs.Threads.{stale, stale_run}
 use Rattle.ink_stack.specs.Quiet.{is_unnumbered}
 use Rattle.ink_stack.proofs.Numbers.{split_at, split_set}
 
@@ -49,10 +48,6 @@ module _ {P : Type 0} where
       ∙ unnumbered_around (reverse (drop (n - 1 + 1) fs)) (get_or fs (n - 1) d) g (reverse (take (n - 1) fs)) same
       ∙ sym (ap is_unnumbered (split_at fs (n - 1) d inside))
 
-  -- a text and a temporary have nothing to do with a frame's number
+  -- a text has nothing to do with a frame's number
   pub number_stale : (d : ℕ) (f g : FrameOf P) → g ≡ stale d f → g.enter ≡ f.enter
   number_stale d f g is = ap (λ h. h.enter) is ∙ stale_number d f
-
-  pub number_along : {U E : Type 0} (r : Result U E) (name : List ℕ) (v : Value) (f g : FrameOf P) → OnOk r (g ≡ with_row_in name v f) → OnErr r (g ≡ f) → g.enter ≡ f.enter
-  number_along (Ok u) name v f g made kept = ap (λ h. h.enter) made
-  number_along (Err e) name v f g made kept = ap (λ h. h.enter) kept

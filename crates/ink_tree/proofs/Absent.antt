@@ -1,19 +1,9 @@
 -- What a search over a story's places finds, and that nothing stands where it finds nothing.
-use Rattle.std.proofs.Common.{◌≡◌, true, is_some, ◌≢◌, ℕ, zero, suc, ◌+◌, ◌<◌, List, [], ◌∷◌, ◌++◌, map, length, slice_get, Option, Some, None, option_and_then, Ordering, Less, Equal, Greater, nat_cmp, refl, ap, sym, subst, ◌∙◌, arith}
-use Rattle.std.proofs.lemmas.Option.{slice_get-get_or, slice_get_within, unwrap_or-slice_get}
-use Rattle.std.specs.Option.{unwrap_or}
-use Rattle.std.specs.Cmp.Lexicographic.{slice_cmp}
+use Rattle.std.proofs.Common.{◌≡◌, true, is_some, ◌≢◌, ℕ, zero, suc, ◌+◌, ◌<◌, List, [], ◌∷◌, ◌++◌, map, length, slice_get, Option, Some, None, option_and_then, Ordering, Less, Equal, Greater, nat_cmp, refl, ap, subst, ◌∙◌, arith, unwrap_or}
 use Rattle.std.specs.List.{AllByRecursion}
-use Rattle.std.specs.Ordering.{match_ordering}
-use Rattle.ink_json.specs.Order.{keys_rise}
-use Rattle.ink_model.specs.Places.{places, places_from, places_by_key}
-use Rattle.ink_model.specs.Tree.{StoryTree, leaf, container, Trees, no_trees, tree, Keyed, no_keys, key, nth, by_key, down, at}
-use Rattle.ink_model.specs.declared.place.Part.{Part}
-use Rattle.ink_model.specs.declared.place.Part.TheVariants.{Index, Name}
-use Rattle.ink_tree.specs.Nodes.{Finds, IsNode, node_place}
-use Rattle.ink_tree.specs.declared.spot.NodeId.{NodeId}
+use Rattle.ink_tree.proofs.Common.{slice_get_within, slice_cmp, match_ordering, keys_rise, places, places_from, places_by_key, StoryTree, leaf, container, Trees, no_trees, tree, Keyed, no_keys, key, nth, by_key, down, at, Part, Index, Name, Finds, IsNode, node_place, NodeId}
 use Rattle.ink_tree.proofs.Nodes.{node_stands}
-use Rattle.ink_tree.proofs.Rising.{name_same, one_number}
+use Rattle.ink_tree.proofs.Rising.{name_same, one_number, stands_at}
 
 -- ---- a place that is not listed
 
@@ -82,10 +72,6 @@ nowhere s p h = absent p s (lacks p (places s) (λ i q e is. h i (slice_get_with
 pub stands : (s : StoryTree) (p : List Part) (n : NodeId) → keys_rise s ≡ true → Finds s p (Some n) → is_some (at s p) ≡ true
 stands s p n rising h = subst (λ q. is_some (at s q) ≡ true) h.1 (node_stands s n rising)
 
--- the place of a node
-pub got_place : (s : StoryTree) (k : NodeId) → IsNode s k → slice_get (places s) k.number ≡ Some (node_place s k)
-got_place s k h = slice_get-get_or (places s) k.number [] h ∙ ap (λ p. Some p) (sym (unwrap_or-slice_get (places s) k.number []))
-
 -- nodes of one place have one number
 pub one_node : (s : StoryTree) (m n : NodeId) → keys_rise s ≡ true → IsNode s m → IsNode s n → node_place s m ≡ node_place s n → m.number ≡ n.number
-one_node s m n rising a b same = one_number s m.number n.number (node_place s n) rising (got_place s m a ∙ ap (λ p. Some p) same) (got_place s n b)
+one_node s m n rising a b same = one_number s m.number n.number (node_place s n) rising (stands_at (places s) m.number a ∙ ap Some same) (stands_at (places s) n.number b)

@@ -1,40 +1,37 @@
 -- What a content by itself says of what is found at a place.
 use Rattle.std.proofs.Common.{◌≡◌, ◌∙◌, ap, sym, refl, ℕ, List, [], ◌∷◌, ◌++◌, Option, Some, None, option_map, option_and_then, arith}
-use Rattle.std.proofs.lemmas.Option.{none-some, same_Some}
-use Rattle.ink_model.specs.Entered.{flags_at}
-use Rattle.ink_model.specs.Tree.{StoryTree, leaf, container, Keyed, no_keys, key, by_key, down, at, width}
+use Rattle.ink_tree.proofs.Common.{none-some, same_Some, flags_at, StoryTree, leaf, container, Keyed, no_keys, key, by_key, down, at, width, Trees, Part, Name, name_in, reaches_in, kept_flags, kept_keys, kept_leaf, kept_name, kept_reaches, kept_width, leaf_in}
+use Rattle.ink_model.specs.declared.content.Leaf.{Leaf as Single}
 use Rattle.ink_model.specs.View.{count_keys, own_content}
 use Rattle.ink_model.specs.declared.content.Content.{Content}
-use Rattle.ink_model.specs.declared.place.Part.{Part}
-use Rattle.ink_model.specs.declared.place.Part.TheVariants.{Name}
-use Rattle.ink_tree.specs.Contents.{name_in, reaches_in}
-use Rattle.ink_tree.specs.Kept.{kept_flags, kept_keys, kept_leaf, kept_name, kept_reaches, kept_width, leaf_in}
 use Rattle.ink_tree.proofs.Further.{below}
 
-pub leaf_seen : (o : Option StoryTree) (c : Content) → Some c ≡ option_map own_content o → kept_leaf c ≡ leaf_in o
-leaf_seen None c is = absurd (none-some c (sym is))
-leaf_seen (Some (leaf l)) c is = ap kept_leaf (same_Some c _ is)
-leaf_seen (Some (container name flags content named)) c is = ap kept_leaf (same_Some c _ is)
+-- what a content by itself says is what is found there, where it is so of a leaf and of a container
+module _ (o : Option StoryTree) (c : Content) (is : Some c ≡ option_map own_content o) where
+  seen : {A : Type 0} (f : Content → A) (g : Option StoryTree → A) → ((l : Single) → f (own_content (leaf l)) ≡ g (Some (leaf l)))
+      → ((own : Option (List ℕ)) (flags : ℕ) (content : Trees) (named : Keyed) → f (own_content (container own flags content named)) ≡ g (Some (container own flags content named)))
+      → f c ≡ g o
+  seen {A} f g of_leaf of_container = by o is
+    where
+      by : (p : Option StoryTree) → Some c ≡ option_map own_content p → f c ≡ g p
+      by None e = absurd (none-some c (sym e))
+      by (Some (leaf l)) e = ap f (same_Some c _ e) ∙ of_leaf l
+      by (Some (container own flags content named)) e = ap f (same_Some c _ e) ∙ of_container own flags content named
 
-pub width_seen : (o : Option StoryTree) (c : Content) → Some c ≡ option_map own_content o → kept_width c ≡ width o
-width_seen None c is = absurd (none-some c (sym is))
-width_seen (Some (leaf l)) c is = ap kept_width (same_Some c _ is)
-width_seen (Some (container name flags content named)) c is = ap kept_width (same_Some c _ is)
+  pub leaf_seen : kept_leaf c ≡ leaf_in o
+  leaf_seen = seen kept_leaf leaf_in (λ l. refl) (λ own flags content named. refl)
 
-pub flags_seen : (o : Option StoryTree) (c : Content) → Some c ≡ option_map own_content o → kept_flags c ≡ flags_at o
-flags_seen None c is = absurd (none-some c (sym is))
-flags_seen (Some (leaf l)) c is = ap kept_flags (same_Some c _ is)
-flags_seen (Some (container name flags content named)) c is = ap kept_flags (same_Some c _ is)
+  pub width_seen : kept_width c ≡ width o
+  width_seen = seen kept_width width (λ l. refl) (λ own flags content named. refl)
 
-pub name_seen : (o : Option StoryTree) (c : Content) → Some c ≡ option_map own_content o → kept_name c ≡ name_in o
-name_seen None c is = absurd (none-some c (sym is))
-name_seen (Some (leaf l)) c is = ap kept_name (same_Some c _ is)
-name_seen (Some (container name flags content named)) c is = ap kept_name (same_Some c _ is)
+  pub flags_seen : kept_flags c ≡ flags_at o
+  flags_seen = seen kept_flags flags_at (λ l. refl) (λ own flags content named. refl)
 
-pub reaches_seen : (o : Option StoryTree) (c : Content) (i : ℕ) → Some c ≡ option_map own_content o → kept_reaches c i ≡ reaches_in o i
-reaches_seen None c i is = absurd (none-some c (sym is))
-reaches_seen (Some (leaf l)) c i is = ap (λ d. kept_reaches d i) (same_Some c _ is)
-reaches_seen (Some (container name flags content named)) c i is = ap (λ d. kept_reaches d i) (same_Some c _ is)
+  pub name_seen : kept_name c ≡ name_in o
+  name_seen = seen kept_name name_in (λ l. refl) (λ own flags content named. refl)
+
+  pub reaches_seen : (i : ℕ) → kept_reaches c i ≡ reaches_in o i
+  reaches_seen i = seen (λ d. kept_reaches d i) (λ p. reaches_in p i) (λ l. refl) (λ own flags content named. refl)
 
 -- ---- a container without keys
 

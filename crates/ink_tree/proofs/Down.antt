@@ -1,20 +1,10 @@
 -- Contents one part down, and the numbers of those that stand there.
-use Rattle.std.proofs.Common.{◌≡◌, ◌∙◌, ap, sym, refl, ℕ, ◌+◌, ◌<◌, ◌≤◌, List, [], ◌∷◌, ◌++◌, length, take, drop, get_or, true, Option, Some, None, is_some, option_map, option_and_then, arith}
-use Rattle.std.proofs.lemmas.List.{length-append, take_more, take-append-drop}
-use Rattle.ink_json.specs.Order.{key_part, keys_rise}
+use Rattle.std.proofs.Common.{◌≡◌, ◌∙◌, ap, sym, refl, ℕ, ◌+◌, ◌<◌, ◌≤◌, List, [], ◌∷◌, ◌++◌, length, take, drop, get_or, true, Option, Some, None, is_some, option_map, option_and_then, arith, false, nat_lt}
+use Rattle.ink_tree.proofs.Common.{nat_tests, length-append, take_more, take-append-drop, key_part, keys_rise, Node, places, StoryTree, at, width, Part, Index, LeadsTo, Keeps, node_place, Finds, IsNode, NodeId}
 use Rattle.ink_json.specs.declared.key.Key.{Key}
-use Rattle.ink_json.specs.Node.{Node}
-use Rattle.ink_model.specs.Places.{places}
-use Rattle.ink_model.specs.Tree.{StoryTree, at, width}
-use Rattle.ink_model.specs.declared.place.Part.{Part}
-use Rattle.ink_model.specs.declared.place.Part.TheVariants.{Index}
-use Rattle.ink_tree.specs.Gaps.{LeadsTo}
-use Rattle.ink_tree.specs.Kept.{Keeps}
-use Rattle.ink_tree.specs.Nodes.{node_place, Finds, IsNode}
-use Rattle.ink_tree.specs.declared.spot.NodeId.{NodeId}
 use Rattle.ink_tree.proofs.Absent.{one_node}
 use Rattle.ink_tree.proofs.Kept.{led_by, led_by_none}
-use Rattle.ink_tree.proofs.Standing.{at_append, index_within}
+use Rattle.ink_tree.proofs.Standing.{at_append, index_there}
 
 -- ---- parts
 
@@ -65,12 +55,13 @@ module _ (s : StoryTree) (q : List Part) (m : ℕ) (k : Key) (leads : LeadsTo s 
 
 -- ---- where nothing stands
 
-none_or : (o : Option StoryTree) → (is_some o ≡ true → ⊥) → o ≡ None
+none_or : (o : Option StoryTree) → is_some o ≡ false → o ≡ None
 none_or None h = refl
-none_or (Some t) h = absurd (h refl)
+none_or (Some t) h = absurd cc
 
 pub past_width : (s : StoryTree) (p : List Part) (i : ℕ) → width (at s p) ≤ i → at s (p ++ Index i ∷ []) ≡ None
-past_width s p i past = none_or (at s (p ++ Index i ∷ [])) (λ some. let below = index_within s p i some in absurd (omega arith))
+past_width s p i past =
+    let no : nat_lt i (width (at s p)) ≡ false = grind (arith, nat_tests) in none_or (at s (p ++ Index i ∷ [])) (index_there s p i ∙ no)
 
 pub none_beyond : (s : StoryTree) (p q : List Part) → at s p ≡ None → at s (p ++ q) ≡ None
 none_beyond s p q none = at_append p q s ∙ ap (option_and_then (λ t. at t q)) none

@@ -1,11 +1,6 @@
 -- The containers that a landing enters, one further up.
 use Rattle.std.proofs.Common.{◌≡◌, ◌∙◌, ap, sym, refl, List, [], ◌∷◌, ◌++◌, map, reverse, true, false, true≢false, Option, Some, None, is_some, append_assoc}
-use Rattle.std.proofs.lemmas.List.{map-append}
-use Rattle.ink_model.specs.Entered.{entered_above, entered_around, entered_places}
-use Rattle.ink_model.specs.Tree.{StoryTree, at}
-use Rattle.ink_model.specs.declared.place.Part.{Part}
-use Rattle.ink_tree.specs.Nodes.{node_place, IsNode, AreNodes}
-use Rattle.ink_tree.specs.declared.spot.NodeId.{NodeId}
+use Rattle.ink_tree.proofs.Common.{map-append, entered_above, entered_around, entered_places, StoryTree, at, Part, node_place, IsNode, AreNodes, NodeId}
 
 abbrev Places : Type 0
 Places = List (List Part)

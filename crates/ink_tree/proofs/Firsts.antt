@@ -1,16 +1,8 @@
 -- Names that lead to the first container of the name.
 use Rattle.std.proofs.Common.{◌≡◌, ◌∙◌, ap, sym, refl, ℕ, zero, suc, ◌+◌, ◌<◌, ◌≤◌, List, [], ◌∷◌, ◌++◌, inl, inr, rules, Bool, true, false, true≢false, bytes_eq, cond, if◌then◌else◌, Option, Some, None, is_some, option_and_then, arith}
-use Rattle.std.proofs.lemmas.Bool.{cases_Bool, cond-true, cond-false}
-use Rattle.std.proofs.lemmas.Option.{none-some, same_Some}
 use Rattle.std.proofs.lemmas.Slice.Eq.{bytes_eq-Decides}
 use Rattle.std.specs.Map.{update}
-use Rattle.ink_model.specs.Path.{listed_index}
-use Rattle.ink_model.specs.Place.{is_named, named_index}
-use Rattle.ink_model.specs.Tree.{StoryTree, leaf, container, Trees, no_trees, tree, nth, down, at, width, count}
-use Rattle.ink_model.specs.declared.place.Part.{Part}
-use Rattle.ink_model.specs.declared.place.Part.TheVariants.{Index}
-use Rattle.ink_tree.specs.Contents.{name_in}
-use Rattle.ink_tree.specs.Names.{AreNamed, first_of, given}
+use Rattle.ink_tree.proofs.Common.{cases_Bool, cond-true, cond-false, none-some, same_Some, listed_index, is_named, named_index, StoryTree, leaf, container, Trees, no_trees, tree, nth, down, at, width, count, Part, Index, name_in, first_of, given}
 use Rattle.ink_tree.proofs.Further.{below}
 use Rattle.ink_tree.proofs.Standing.{index_stands}
 
@@ -46,9 +38,6 @@ name_put_back f g own name i first there after =
           let also : bytes_eq name own ≡ false = search (rules, bytes_eq-Decides, other) in
           cond-false (bytes_eq own name) (Some first) (g name) other ∙ after name ∙ cond-false (bytes_eq own name) (Some i) (f name) other ∙ first_alone (f name) ∙ sym (rw also refl)
     ]
-
-pub none_named : (s : StoryTree) → AreNamed s []
-none_named s = λ i l e. absurd (none-some l e)
 
 -- ---- a list, from an index on
 
@@ -113,11 +102,9 @@ module _ (s : StoryTree) (p : List Part) (name : List ℕ) (i : ℕ) (h : i < wi
       one_on name i (at s p) t (below s p (Index i) (at s p) refl ∙ there)
       ∙ ap (λ n. cond (is_named name n) (Some i) (named_from name (i + 1) (at s p))) (sym (is ∙ ap name_in there))
 
-  pub from_named : is_named name own ≡ true → Some i ≡ named_from name i (at s p)
-  from_named b = sym (from_next ∙ ap (λ b. cond b (Some i) (named_from name (i + 1) (at s p))) b)
-
-  pub from_other : is_named name own ≡ false → named_from name (i + 1) (at s p) ≡ named_from name i (at s p)
-  from_other b = sym (from_next ∙ ap (λ b. cond b (Some i) (named_from name (i + 1) (at s p))) b)
+  -- by whether it is that name
+  pub from_here : (b : Bool) → is_named name own ≡ b → cond b (Some i) (named_from name (i + 1) (at s p)) ≡ named_from name i (at s p)
+  from_here b h = sym (from_next ∙ ap (λ b. cond b (Some i) (named_from name (i + 1) (at s p))) h)
 
   chosen : (b : Bool) (first last : Option ℕ) → first_of first (cond b (Some i) last) ≡ first_of (first_of first (cond b (Some i) None)) last
   chosen true None last = refl

@@ -1,12 +1,9 @@
 -- What stands one index further than content, and the way down to the first content.
 use Rattle.std.proofs.Common.{◌≡◌, List, [], ◌∷◌, ◌++◌, Option, Some, None, option_and_then, refl, sym, ◌∙◌, ap}
-use Rattle.std.proofs.lemmas.List.{append-nil}
-use Rattle.ink_model.specs.Place.{first_content_at, entered}
-use Rattle.ink_model.specs.Tree.{StoryTree, at, down}
-use Rattle.ink_model.specs.declared.place.Part.{Part}
+use Rattle.ink_tree.proofs.Common.{append-nil, first_content_at, entered, StoryTree, at, down, Part}
 use Rattle.ink_tree.proofs.Standing.{at_append}
 
-found_there : (d : Option StoryTree) → option_and_then (λ u. at u []) d ≡ d
+pub found_there : (d : Option StoryTree) → option_and_then (λ u. at u []) d ≡ d
 found_there None = refl
 found_there (Some t) = refl
 

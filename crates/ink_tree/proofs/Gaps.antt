@@ -1,20 +1,9 @@
 -- Which numbers the content at a part in a container may have.
-use Rattle.std.proofs.Common.{◌≡◌, ◌∙◌, ap, sym, refl, inl, inr, ℕ, ◌+◌, ◌<◌, ◌≤◌, List, [], ◌∷◌, ◌++◌, length, true, false, true≢false, ◌&&◌, nat_le, nat_lt, None, Less, Ordering, Equal, Greater, arith}
-use Rattle.std.proofs.lemmas.Bool.{and_parts, cases_lt}
-use Rattle.std.proofs.lemmas.Bool.Decides.{nat_tests}
-use Rattle.std.proofs.lemmas.Cmp.{ranked, tied_itself}
-use Rattle.std.proofs.lemmas.List.{length-append}
-use Rattle.ink_json.specs.Order.{keys_rise, part_order, place_order}
-use Rattle.ink_model.specs.Entered.{is_around}
-use Rattle.ink_model.specs.Tree.{StoryTree, at}
-use Rattle.ink_model.specs.declared.place.Part.{Part}
-use Rattle.ink_tree.specs.Gaps.{NoneBefore, NoneFrom}
-use Rattle.ink_tree.specs.Kept.{Spans}
-use Rattle.ink_tree.specs.Nodes.{node_place, IsNode}
-use Rattle.ink_tree.specs.declared.spot.NodeId.{NodeId}
+use Rattle.std.proofs.Common.{◌≡◌, ◌∙◌, ap, sym, refl, inl, inr, ℕ, ◌+◌, ◌<◌, ◌≤◌, List, [], ◌∷◌, ◌++◌, length, true, false, true≢false, ◌&&◌, nat_le, nat_lt, None, Less, Equal, arith}
+use Rattle.ink_tree.proofs.Common.{and_parts, cases_lt, false_from_ne_true, nat_tests, ranked, tied_itself, length-append, keys_rise, part_order, place_order, is_around, StoryTree, at, Part, NoneBefore, NoneFrom, Spans, node_place, IsNode, NodeId}
 use Rattle.ink_tree.proofs.Absent as absent
 use Rattle.ink_tree.proofs.Down.{last_same}
-use Rattle.ink_tree.proofs.Prefixes.{around_above, around_below, below_around, not_around}
+use Rattle.ink_tree.proofs.Prefixes.{around_above, around_below, below_around}
 use Rattle.ink_tree.proofs.Rising.{numbered_in_order, part_total}
 
 -- ---- places one part down
@@ -28,17 +17,13 @@ comes_later [] x y h = rw h refl
 comes_later (z ∷ p) x y h = rw (tied_itself part_total z) (comes_later p x y h)
 
 other_part : (x y : Part) → part_order x y ≡ Less → x ≡ y → ⊥
-other_part x y h e = equal_less (part_order x y) (ap (part_order x) (sym e) ∙ tied_itself part_total x) h where
-  equal_less : (o : Ordering) → o ≡ Equal → o ≡ Less → ⊥
-  equal_less Less a b = cc
-  equal_less Equal a b = cc
-  equal_less Greater a b = cc
+other_part x y h e = let less_tied : Less ≡ Equal = sym h ∙ ap (part_order x) (sym e) ∙ tied_itself part_total x in cc
 
 -- no place is around one beside it
 beside : (p : List Part) (x y : Part) → part_order x y ≡ Less → is_around (p ++ x ∷ []) (p ++ y ∷ []) ≡ false
 beside p x y h =
     around_above (p ++ x ∷ []) p y (λ e. other_part x y h (last_same p p x y e).1)
-    ∙ not_around (p ++ x ∷ []) p
+    ∙ false_from_ne_true (is_around (p ++ x ∷ []) p)
     (λ h.
     let under = below_around (p ++ x ∷ []) p h in
     omega (arith, ap length under.1, length-append (p ++ x ∷ []) under.0, length-append p (x ∷ [])))

@@ -1,26 +1,9 @@
 -- What is kept of contents, and what is read of it.
-use Rattle.std.proofs.Common.{◌≡◌, ◌∙◌, ap, sym, refl, subst, ℕ, zero, suc, ◌+◌, ◌<◌, ◌≤◌, List, [], ◌∷◌, ◌++◌, length, reverse, Bool, true, false, cond, Option, Some, None, option_map, option_and_then, nat_le, nat_lt, ◌&&◌, slice_get, get_or, append_assoc, arith, inl, inr}
-use Rattle.std.proofs.lemmas.Bool.Decides.{nat_tests}
-use Rattle.std.proofs.lemmas.List.{append-nil, length-append, length-reverse}
-use Rattle.std.proofs.lemmas.Bool.{cases_lt}
-use Rattle.std.proofs.lemmas.Option.{cond_some, none-some, same_Some, slice_get_past, slice_get_read}
-use Rattle.std.specs.Option.{unwrap_or}
-use Rattle.ink_json.specs.Node.{Node}
-use Rattle.ink_model.specs.Entered.{is_around, listed_if, passed_at, passed_places}
-use Rattle.ink_model.specs.Path.{is_container}
-use Rattle.ink_model.specs.Place.{entered, first_content_at, landed, next_place, next_upwards}
-use Rattle.ink_model.specs.Places.{places}
-use Rattle.ink_model.specs.Tree.{StoryTree, leaf, container, no_trees, tree, at, down, width}
-use Rattle.ink_model.specs.declared.place.Part.{Part}
-use Rattle.ink_model.specs.declared.place.Part.TheVariants.{Index, Name}
-use Rattle.ink_tree.specs.Kept.{AreLinked, IsLinked, Keeps, KeepsAll, KeepsAt, Spans, first_inside, way_to}
-use Rattle.ink_tree.specs.Nodes.{Finds, IsNode, MayBeNode, index_part, node_place, place_of}
-use Rattle.ink_tree.specs.Walks.{GoesIn}
-use Rattle.ink_tree.specs.declared.link.Link.{Link}
-use Rattle.ink_tree.specs.declared.spot.NodeId.{NodeId}
+use Rattle.std.proofs.Common.{◌≡◌, ◌∙◌, ap, sym, refl, subst, ℕ, zero, suc, ◌+◌, ◌<◌, ◌≤◌, List, [], ◌∷◌, ◌++◌, length, reverse, Bool, true, false, cond, Option, Some, None, option_map, option_and_then, nat_le, nat_lt, ◌&&◌, slice_get, get_or, append_assoc, arith, inl, inr, unwrap_or}
+use Rattle.ink_tree.proofs.Common.{nat_tests, append-nil, length-append, length-reverse, cases_lt, cond_some, none-some, same_Some, slice_get_past, slice_get_read, Node, is_around, listed_if, passed_at, passed_places, is_container, entered, first_content_at, landed, next_place, next_upwards, places, StoryTree, leaf, container, no_trees, tree, at, down, width, Part, Index, Name, AreLinked, Keeps, KeepsAll, KeepsAt, Spans, first_inside, way_to, Finds, IsNode, MayBeNode, index_part, node_place, place_of, GoesIn, NodeId}
 use Rattle.ink_tree.specs.declared.spot.Spot.{Spot}
 use Rattle.ink_tree.proofs.Further.{below}
-use Rattle.ink_tree.proofs.Next.{landed_in, landed_on, next_at_root, next_at_name, next_inside, next_outside}
+use Rattle.ink_tree.proofs.Next.{landed_in, landed_on, next_inside, next_outside}
 use Rattle.ink_tree.proofs.Standing.{index_stands, root_place, there}
 
 -- ---- nodes by number
@@ -63,24 +46,26 @@ no_first false n p is e = grind (arith, nat_tests, is)
 none_first : (s : StoryTree) (p : List Part) → None ≡ first_inside s p → width (at s p) ≤ 0
 none_first s p e = no_first (nat_lt 0 (width (at s p))) (width (at s p)) (p ++ Index 0 ∷ []) refl e
 
-way_in : (o : Option StoryTree) → 0 < width o → first_content_at o ≡ Index 0 ∷ first_content_at (option_and_then (down (Index 0)) o)
-way_in None h = absurd (omega arith)
-way_in (Some (leaf l)) h = absurd (omega arith)
-way_in (Some (container name flags no_trees named)) h = absurd (omega arith)
-way_in (Some (container name flags (tree t ts) named)) h = refl
+-- into a container with content by index the way goes on at the first, and nowhere else
+inward : (p : List Part) (o : Option StoryTree) → 0 < width o → (first_content_at o ≡ Index 0 ∷ first_content_at (option_and_then (down (Index 0)) o))
+    × (passed_at p o ≡ p ∷ passed_at (p ++ Index 0 ∷ []) (option_and_then (down (Index 0)) o))
+inward p None h = absurd (omega arith)
+inward p (Some (leaf l)) h = absurd (omega arith)
+inward p (Some (container name flags no_trees named)) h = absurd (omega arith)
+inward p (Some (container name flags (tree t ts) named)) h = (refl, refl)
 
-no_way_in : (o : Option StoryTree) → width o ≤ 0 → first_content_at o ≡ []
-no_way_in None h = refl
-no_way_in (Some (leaf l)) h = refl
-no_way_in (Some (container name flags no_trees named)) h = refl
-no_way_in (Some (container name flags (tree t ts) named)) h = absurd (omega arith)
+no_way_in : (p : List Part) (o : Option StoryTree) → width o ≤ 0 → (first_content_at o ≡ []) × (passed_at p o ≡ listed_if (is_container o) p [])
+no_way_in p None h = (refl, refl)
+no_way_in p (Some (leaf l)) h = (refl, refl)
+no_way_in p (Some (container name flags no_trees named)) h = (refl, refl)
+no_way_in p (Some (container name flags (tree t ts) named)) h = absurd (omega arith)
 
 module _ (s : StoryTree) (p q : List Part) (is : Some q ≡ first_inside s p) where
   -- the way on is one part shorter
   pub shorter : first_content_at (at s p) ≡ Index 0 ∷ first_content_at (at s q)
   shorter =
       let (some, same) = first_at s p q is in
-      way_in (at s p) some ∙ ap (λ o. Index 0 ∷ first_content_at o) (below s p (Index 0) (at s p) refl ∙ ap (at s) same)
+      (inward p (at s p) some).0 ∙ ap (λ o. Index 0 ∷ first_content_at o) (below s p (Index 0) (at s p) refl ∙ ap (at s) same)
 
   pub same_way : entered s q ≡ entered s p
   unfolding entered
@@ -94,32 +79,20 @@ module _ (s : StoryTree) (p q : List Part) (is : Some q ≡ first_inside s p) wh
 module _ (s : StoryTree) (p : List Part) (none : None ≡ first_inside s p) where
   pub is_there : p ≡ entered s p
   unfolding entered
-  is_there = sym (append-nil p) ∙ ap (λ w. p ++ w) (sym (no_way_in (at s p) (none_first s p none)))
+  is_there = sym (append-nil p) ∙ ap (λ w. p ++ w) (sym (no_way_in p (at s p) (none_first s p none)).0)
 
   pub lands_there : p ≡ landed s p
   lands_there = landed_on s p (none_first s p none)
 
 -- ---- containers on the way
 
-passed_here : (p : List Part) (o : Option StoryTree) → width o ≤ 0 → passed_at p o ≡ listed_if (is_container o) p []
-passed_here p None h = refl
-passed_here p (Some (leaf l)) h = refl
-passed_here p (Some (container name flags no_trees named)) h = refl
-passed_here p (Some (container name flags (tree t ts) named)) h = absurd (omega arith)
-
-passed_on : (p : List Part) (o : Option StoryTree) → 0 < width o → passed_at p o ≡ p ∷ passed_at (p ++ Index 0 ∷ []) (option_and_then (down (Index 0)) o)
-passed_on p None h = absurd (omega arith)
-passed_on p (Some (leaf l)) h = absurd (omega arith)
-passed_on p (Some (container name flags no_trees named)) h = absurd (omega arith)
-passed_on p (Some (container name flags (tree t ts) named)) h = refl
-
 pub goes_in : (s : StoryTree) (p : List Part) (r : Option NodeId) → option_map (node_place s) r ≡ first_inside s p → GoesIn s p r
 unfolding passed_places
-goes_in s p None e = (sym (is_there s p e), passed_here p (at s p) (none_first s p e))
+goes_in s p None e = (sym (is_there s p e), (no_way_in p (at s p) (none_first s p e)).1)
 goes_in s p (Some n) e =
     let (some, same) = first_at s p (node_place s n) e in (
       sym (same_way s p (node_place s n) e),
-      passed_on p (at s p) some ∙ ap (λ o. p ∷ passed_at (p ++ Index 0 ∷ []) o) (below s p (Index 0) (at s p) refl)
+      (inward p (at s p) some).1 ∙ ap (λ o. p ∷ passed_at (p ++ Index 0 ∷ []) o) (below s p (Index 0) (at s p) refl)
           ∙ ap (λ q. p ∷ passed_at q (at s q)) same,
     )
 
@@ -136,29 +109,15 @@ pub next_found : (s : StoryTree) (up q : List Part) (i : ℕ) (r : Option NodeId
 next_found s up q i r same below f =
     there s (up ++ Index (i + 1) ∷ []) r (subst (λ o. Finds s (o ++ Index (i + 1) ∷ []) r) same f) (index_stands s up (i + 1) below) ∙ next_inside s up i below
 
-pub none_after_name : (s : StoryTree) (p up : List Part) (x : Part) (n : List ℕ) → p ≡ up ++ x ∷ [] → x ≡ Name n → None ≡ next_place s p
-unfolding next_place
-none_after_name s p up x n e is = sym (next_at_name s p up n (e ∙ ap (λ y. up ++ y ∷ []) is))
-
-pub none_after_root : (s : StoryTree) (p : List Part) → length p ≡ 0 → None ≡ next_place s p
-unfolding next_place
-none_after_root s p e = sym (next_at_root s p e)
-
 -- ---- one more
 
-got_more : (ls : List Link) (l m : Link) (i : ℕ) → slice_get (ls ++ l ∷ []) i ≡ Some m → (P : ℕ → Link → Type 0)
-    → (slice_get ls i ≡ Some m → P i m) → (P (length ls) l) → P i m
-got_more [] l m zero e P before here = subst (P 0) (same_Some l m e) here
-got_more [] l m (suc i) e P before here = absurd (none-some m e)
-got_more (k ∷ ls) l m zero e P before here = before e
-got_more (k ∷ ls) l m (suc i) e P before here = got_more ls l m i e (λ j x. P (suc j) x) before here
-
-pub linked_more : (s : StoryTree) (ls new : List Link) (l : Link) → AreLinked s ls → IsLinked s (node_place s (record { number = length ls })) l → new ≡ ls ++ l ∷ [] → AreLinked s new
-linked_more s ls new l all here is = λ i m e.
-    got_more ls l m i (ap (λ xs. slice_get xs i) (sym is) ∙ e) (λ j x. IsLinked s (node_place s (record { number = j })) x) (all i m) here
-
-pub one_more : (ls new : List Link) (l : Link) → new ≡ ls ++ l ∷ [] → length new ≡ length ls + 1
-one_more ls new l is = ap length is ∙ length-append ls (l ∷ [])
+-- what is so of all in a list, and of one more at its end
+pub all_more : {A : Type 0} (xs : List A) (x : A) (P : ℕ → A → Type 0) → ((i : ℕ) (y : A) → slice_get xs i ≡ Some y → P i y) → P (length xs) x
+    → (i : ℕ) (y : A) → slice_get (xs ++ x ∷ []) i ≡ Some y → P i y
+all_more [] x P all here zero y e = subst (P 0) (same_Some x y e) here
+all_more [] x P all here (suc i) y e = absurd (none-some y e)
+all_more (k ∷ xs) x P all here zero y e = all 0 y e
+all_more (k ∷ xs) x P all here (suc i) y e = all_more xs x (λ j. P (suc j)) (λ j. all (suc j)) here i y e
 
 pub none_linked : (s : StoryTree) → AreLinked s []
 none_linked s = λ i l e. absurd (none-some l e)
@@ -188,10 +147,6 @@ module _ (s : StoryTree) where
     ],
     elim (cases_lt n.number (length (places s))) [ inl within ↦ within | inr past ↦ absurd (root_not_after p n e (nowhere s n past)) ],
   )
-
--- what is linked at a number
-pub linked_at : (s : StoryTree) (ls : List Link) (i : ℕ) (l : Link) → AreLinked s ls → Some l ≡ slice_get ls i → IsLinked s (node_place s (record { number = i })) l
-linked_at s ls i l all is = all i l (sym is)
 
 -- ---- what is kept of a node
 

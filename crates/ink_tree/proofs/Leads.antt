@@ -1,11 +1,6 @@
 -- Where components lead that stand in a text, one after another.
-use Rattle.std.proofs.Common.{◌≡◌, ◌≢◌, ◌⊎◌, ◌∙◌, ℕ, List, [], ◌∷◌, Bool, cond, Option, Some, None, inl, inr, refl, sym, ap, option_map}
-use Rattle.std.specs.Option.{option_and_then}
-use Rattle.std.proofs.lemmas.Option.{none-some, same_Some}
-use Rattle.ink_model.specs.Path.{component, components, ends_in_index, read_path, stepped, target, walked}
-use Rattle.ink_model.specs.Tree.{StoryTree}
-use Rattle.ink_model.specs.declared.place.Part.{Part}
-use Rattle.ink_model.specs.declared.place.Part.TheVariants.{Index, Name}
+use Rattle.std.proofs.Common.{◌≡◌, ◌≢◌, ◌⊎◌, ◌∙◌, ℕ, List, [], ◌∷◌, Bool, cond, Option, Some, None, inl, inr, refl, sym, ap, option_map, option_and_then}
+use Rattle.ink_tree.proofs.Common.{none-some, same_Some, component, components, ends_in_index, read_path, stepped, target, walked, StoryTree, Part, Index, Name}
 use Rattle.ink_model.specs.declared.place.Path.{Path}
 use Rattle.ink_path.specs.Components.{path_of}
 use Rattle.ink_tree.specs.Leads.{LastLeads, Leads, LeadsBy}

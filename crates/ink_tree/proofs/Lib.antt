@@ -1,4 +1,4 @@
-pub mod Listed
+pub mod Common
 pub mod Nodes
 pub mod Standing
 pub mod Stepping

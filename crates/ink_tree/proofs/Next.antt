@@ -1,36 +1,8 @@
 -- The next place, by the last part of a place.
 use Rattle.std.proofs.Common.{◌≡◌, ◌∙◌, ℕ, ◌+◌, ◌<◌, ◌≤◌, ap, refl, List, [], ◌∷◌, ◌++◌, length, reverse, arith, sym, Some, None, true, false, nat_lt}
-use Rattle.std.proofs.lemmas.List.{reverse-append, reverse-reverse}
-use Rattle.std.proofs.lemmas.Bool.Decides.{nat_tests}
 use Rattle.std.proofs.lemmas.Grind.{reverse_onto}
-use Rattle.ink_model.specs.Tree.{StoryTree, at, width}
-use Rattle.ink_model.specs.Place.{next_upwards, next_place, landed, start_place}
-use Rattle.ink_model.specs.declared.place.Part.{Part}
-use Rattle.ink_model.specs.declared.place.Part.TheVariants.{Index, Name}
-use Rattle.ink_tree.specs.Nodes.{node_place}
+use Rattle.ink_tree.proofs.Common.{reverse-append, reverse-reverse, nat_tests, StoryTree, at, width, next_upwards, next_place, landed, start_place, Part, Index, Name, node_place}
 use Rattle.ink_tree.proofs.Standing.{root_place}
-
-module _ (s : StoryTree) (rest up : List Part) where
-  upwards : (p : Part) → rest ≡ up ++ p ∷ [] → next_upwards s (reverse rest) ≡ next_upwards s (p ∷ reverse up)
-  upwards p e = ap (λ xs. next_upwards s (reverse xs)) e ∙ ap (next_upwards s) (reverse-append up (p ∷ []))
-
-  pub next_at_name : (n : List ℕ) → rest ≡ up ++ Name n ∷ [] → next_upwards s (reverse rest) ≡ None
-  next_at_name n e = upwards (Name n) e
-
-  pub next_at_sibling : (i : ℕ) → rest ≡ up ++ Index i ∷ [] → i + 1 < width (at s up)
-      → next_upwards s (reverse rest) ≡ Some (up ++ Index (i + 1) ∷ [])
-  next_at_sibling i e below =
-      let h : nat_lt (i + 1) (width (at s up)) ≡ true = grind (arith, nat_tests) in
-      upwards (Index i) e
-      ∙ rw (reverse-reverse up, h) (ap Some (reverse_onto (reverse up) (Index (i + 1)) [] ∙ ap (λ xs. xs ++ Index (i + 1) ∷ []) (reverse-reverse up)))
-
-  pub next_above : (i : ℕ) → rest ≡ up ++ Index i ∷ [] → width (at s up) ≤ i + 1
-      → next_upwards s (reverse rest) ≡ next_upwards s (reverse up)
-  next_above i e past = let h : nat_lt (i + 1) (width (at s up)) ≡ false = grind (arith, nat_tests) in upwards (Index i) e ∙ rw (reverse-reverse up, h) refl
-
-pub next_at_root : (s : StoryTree) (rest : List Part) → length rest ≡ 0 → next_upwards s (reverse rest) ≡ None
-next_at_root s [] h = refl
-next_at_root s (p ∷ ps) h = absurd (omega arith)
 
 -- ---- landing
 
@@ -49,11 +21,27 @@ starts s p e = e ∙ ap (λ q. landed s (q ++ [])) (root_place s)
 
 -- ---- the place after a place of a container
 
+upwards : (s : StoryTree) (up : List Part) (p : Part) → next_upwards s (reverse (up ++ p ∷ [])) ≡ next_upwards s (p ∷ reverse up)
+upwards s up p = ap (next_upwards s) (reverse-append up (p ∷ []))
+
+pub none_after_name : (s : StoryTree) (p up : List Part) (x : Part) (n : List ℕ) → p ≡ up ++ x ∷ [] → x ≡ Name n → None ≡ next_place s p
+unfolding next_place
+none_after_name s p up x n e is = sym (ap (λ q. next_upwards s (reverse q)) (e ∙ ap (λ y. up ++ y ∷ []) is) ∙ upwards s up (Name n))
+
+pub none_after_root : (s : StoryTree) (p : List Part) → length p ≡ 0 → None ≡ next_place s p
+unfolding next_place
+none_after_root s [] h = refl
+none_after_root s (p ∷ ps) h = absurd (omega arith)
+
 module _ (s : StoryTree) (up : List Part) (i : ℕ) where
   pub next_inside : i + 1 < width (at s up) → Some (up ++ Index (i + 1) ∷ []) ≡ next_place s (up ++ Index i ∷ [])
   unfolding next_place
-  next_inside below = sym (next_at_sibling s (up ++ Index i ∷ []) up i refl below)
+  next_inside below =
+      let h : nat_lt (i + 1) (width (at s up)) ≡ true = grind (arith, nat_tests) in
+      sym (upwards s up (Index i)
+      ∙ rw (reverse-reverse up, h) (ap Some (reverse_onto (reverse up) (Index (i + 1)) [] ∙ ap (λ xs. xs ++ Index (i + 1) ∷ []) (reverse-reverse up))))
 
   pub next_outside : width (at s up) ≤ i + 1 → next_place s up ≡ next_place s (up ++ Index i ∷ [])
   unfolding next_place
-  next_outside past = sym (next_above s (up ++ Index i ∷ []) up i refl past)
+  next_outside past =
+      let h : nat_lt (i + 1) (width (at s up)) ≡ false = grind (arith, nat_tests) in sym (upwards s up (Index i) ∙ rw (reverse-reverse up, h) refl)

@@ -1,17 +1,7 @@
 -- Where keys rise, every node of a story is content that stands at its place.
 use Rattle.std.proofs.Common.{◌≡◌, ◌∙◌, ap, sym, refl, ℕ, zero, suc, ◌+◌, List, [], ◌∷◌, ◌++◌, map, true, true≢false, ◌&&◌, Option, Some, None, is_some, option_and_then, unwrap_or, slice_get, Ordering, Less, Equal, Greater, nat_cmp, arith}
-use Rattle.std.proofs.lemmas.Cmp.{nat_list_cmp_total, tied_itself}
-use Rattle.std.specs.Cmp.Lexicographic.{slice_cmp}
 use Rattle.std.specs.FinMap.{nat_cmp-IsAntisymmetric, slice_cmp-IsAntisymmetric}
-use Rattle.std.specs.Ordering.{is_lt, match_ordering}
-use Rattle.std.proofs.lemmas.Bool.{and_parts}
-use Rattle.ink_json.specs.Order.{keys_rise, keys_rise_in, keys_rise_by_key, is_below}
-use Rattle.ink_model.specs.Places.{places, places_from, places_by_key}
-use Rattle.ink_model.specs.Tree.{StoryTree, leaf, container, Trees, no_trees, tree, Keyed, no_keys, key, nth, by_key, down, at}
-use Rattle.ink_model.specs.declared.place.Part.{Part}
-use Rattle.ink_model.specs.declared.place.Part.TheVariants.{Index, Name}
-use Rattle.ink_tree.specs.Nodes.{node_place}
-use Rattle.ink_tree.specs.declared.spot.NodeId.{NodeId}
+use Rattle.ink_tree.proofs.Common.{nat_list_cmp_total, tied_itself, slice_cmp, is_lt, match_ordering, and_parts, keys_rise, keys_rise_in, keys_rise_by_key, is_below, places, places_from, places_by_key, StoryTree, leaf, container, Trees, no_trees, tree, Keyed, no_keys, key, nth, by_key, down, at, Part, Index, Name, node_place, NodeId}
 
 -- ---- keys that rise are apart
 

@@ -1,26 +1,13 @@
 -- What is kept of the contents of a story is what stands at their places.
 use Rattle.std.proofs.Common.{◌≡◌, ◌∙◌, inl, inr, ap, sym, refl, subst, ℕ, zero, suc, ◌+◌, ◌<◌, ◌≤◌, List, [], ◌∷◌, ◌++◌, length, map, true, false, true≢false, ◌&&◌, nat_le, nat_lt, Option, Some, None, is_some, option_and_then, option_map, slice_get, unwrap_or, append_assoc, arith}
-use Rattle.std.proofs.lemmas.Bool.{cases_lt, and_parts}
-use Rattle.std.proofs.lemmas.Bool.Decides.{nat_tests}
-use Rattle.std.proofs.lemmas.List.{append-nil, length-append, length-map}
-use Rattle.std.proofs.lemmas.Option.{none-some, same_Some, slice_get_within}
+use Rattle.ink_tree.proofs.Common.{cases_lt, and_parts, false_from_ne_true, nat_tests, append-nil, length-append, length-map, none-some, same_Some, slice_get_within, keys_rise, keys_rise_in, keys_rise_by_key, is_below, Node, places, places_from, places_by_key, StoryTree, leaf, container, Trees, no_trees, tree, Keyed, no_keys, key, nth, by_key, at, count, is_around, Part, Index, Name, Keeps, KeepsAll, KeepsAt, Spans, way_to, node_place, IsNode, NodeId}
 use Rattle.ink_json.specs.Listing.{nodes_of, nodes_from, nodes_by_key, own_node, story_nodes}
-use Rattle.ink_json.specs.Order.{keys_rise, keys_rise_in, keys_rise_by_key, is_below}
-use Rattle.ink_json.specs.Node.{Node}
-use Rattle.ink_model.specs.Places.{places, places_from, places_by_key}
-use Rattle.ink_model.specs.Tree.{StoryTree, leaf, container, Trees, no_trees, tree, Keyed, no_keys, key, nth, by_key, at, count}
-use Rattle.ink_model.specs.Entered.{is_around}
 use Rattle.ink_model.specs.View.{own_content}
-use Rattle.ink_model.specs.declared.place.Part.{Part}
-use Rattle.ink_model.specs.declared.place.Part.TheVariants.{Index, Name}
-use Rattle.ink_tree.specs.Kept.{Keeps, KeepsAll, KeepsAt, Spans, way_to}
-use Rattle.ink_tree.specs.Numbers.{node_place, IsNode}
-use Rattle.ink_tree.specs.declared.spot.NodeId.{NodeId}
-use Rattle.ink_tree.proofs.Absent.{absent, got_place, lacks}
+use Rattle.ink_tree.proofs.Absent.{absent, lacks}
 use Rattle.ink_tree.proofs.Further.{below}
 use Rattle.ink_tree.proofs.Kept.{some_place}
-use Rattle.ink_tree.proofs.Prefixes.{around_below, below_around, not_around}
-use Rattle.ink_tree.proofs.Rising.{one_number}
+use Rattle.ink_tree.proofs.Prefixes.{around_below, below_around}
+use Rattle.ink_tree.proofs.Rising.{one_number, stands_at}
 use Rattle.ink_tree.proofs.Standing.{at_append}
 use Rattle.ink_tree.proofs.Nodes.{at_its_key, further, node_stands}
 
@@ -116,9 +103,6 @@ module _ (s : StoryTree) where
   keeps n p t k is stands inside way own =
       subst (λ q. Keeps s q k) (sym (placed n p is)) (inside, way, ap Some own ∙ sym (ap (option_map own_content) stands))
 
-  one_further : (h : ℕ) (p : List Part) (x : Part) → node_place s (record { number = h }) ≡ p → way_to s h (Some x) ≡ p ++ x ∷ []
-  one_further h p x is = ap (λ q. q ++ x ∷ []) is
-
   -- ---- how far a content reaches
 
   sits_at : (n m : ℕ) (p : List Part) (qs : List (List Part)) → Sits n p qs → n ≤ m → m < n + length qs → (r : List Part) × (slice_get (places s) m ≡ Some (p ++ r))
@@ -138,7 +122,7 @@ module _ (s : StoryTree) where
   module _ (whole : keys_rise s ≡ true) (n : ℕ) (p : List Part) (t : StoryTree) (stands : at s p ≡ Some t) (sits : Sits n p (places t)) where
     outside : (q : NodeId) → IsNode s q → ((j : ℕ) → j < length (places t) → q.number ≡ n + j → ⊥) → is_around p (node_place s q) ≡ false
     outside q node out =
-        not_around p (node_place s q)
+        false_from_ne_true (is_around p (node_place s q))
         (λ h.
         let under = below_around p (node_place s q) h in
         let r = under.0 in
@@ -148,7 +132,7 @@ module _ (s : StoryTree) where
         absent r t
         (lacks r (places t)
         (λ j x got same. out j (slice_get_within (places t) j x got)
-        (one_number s q.number (n + j) (p ++ r) whole (got_place s q node ∙ ap (λ o. Some o) under.1)
+        (one_number s q.number (n + j) (p ++ r) whole (stands_at (places s) q.number node ∙ ap (λ o. Some o) under.1)
         (sits_got n j (n + j) p (places t) x refl sits got ∙ ap (λ y. Some (p ++ y)) same)))) in
         true≢false (sym there ∙ ap is_some none))
 
@@ -208,7 +192,7 @@ module _ (s : StoryTree) where
           let first = nodes_of n h (Some (Index i)) t in
           let m = n + length first in
           each_append n m first (nodes_from m h (i + 1) ts) refl
-          (hold n h (Some (Index i)) (p ++ Index i ∷ []) t inside (one_further h p (Index i) here) (each i 0 (omega arith))
+          (hold n h (Some (Index i)) (p ++ Index i ∷ []) t inside (ap (λ q. q ++ Index i ∷ []) here) (each i 0 (omega arith))
           (sits_under n p (Index i) (places t) (sits_front n p (map (λ q. Index i ∷ q) (places t)) (places_from (i + 1) ts) sits)) two.0)
           (hold_from m h (i + 1) p ts inside here (λ k j e. each k (suc j) (omega (arith, e)))
           (sits_back n m p (map (λ q. Index i ∷ q) (places t)) (places_from (i + 1) ts)
@@ -224,7 +208,7 @@ module _ (s : StoryTree) where
           let first = nodes_of n h (Some (Name k)) t in
           let m = n + length first in
           each_append n m first (nodes_by_key m h ks) refl
-          (hold n h (Some (Name k)) (p ++ Name k ∷ []) t inside (one_further h p (Name k) here) (each k (ap is_some (at_its_key k t ks)) ∙ at_its_key k t ks)
+          (hold n h (Some (Name k)) (p ++ Name k ∷ []) t inside (ap (λ q. q ++ Name k ∷ []) here) (each k (ap is_some (at_its_key k t ks)) ∙ at_its_key k t ks)
           (sits_under n p (Name k) (places t) (sits_front n p (map (λ q. Name k ∷ q) (places t)) (places_by_key ks) sits)) two.0)
           (hold_by_key m h p ks inside here (λ o some. let on = further o k t ks apart.0 some in each o (ap is_some on ∙ some) ∙ on)
           (sits_back n m p (map (λ q. Name k ∷ q) (places t)) (places_by_key ks)

@@ -1,15 +1,10 @@
 -- Places around others.
 use Rattle.std.proofs.Common.{◌≡◌, ap, refl, sym, ◌∙◌, List, [], ◌∷◌, ◌++◌, Bool, true, false, ◌&&◌, is_eq, arith}
-use Rattle.std.proofs.lemmas.Bool.Decides.{nat_tests}
 use Rattle.std.proofs.lemmas.Map.Text.{is_eq-slice_cmp}
 use Rattle.std.proofs.lemmas.Slice.Eq.{bytes_eq-Decides}
-use Rattle.std.proofs.lemmas.Bool.{and_parts, false_from_ne_true}
 use Rattle.std.proofs.Math.Bool.{and-false}
-use Rattle.ink_model.specs.Entered.{is_around}
+use Rattle.ink_tree.proofs.Common.{append-nil, nat_tests, and_parts, is_around, Part, Index, Name, nat_list_cmp_total, tied_itself}
 use Rattle.ink_model.specs.Value.{same_part}
-use Rattle.ink_model.specs.declared.place.Part.{Part}
-use Rattle.ink_model.specs.declared.place.Part.TheVariants.{Index, Name}
-use Rattle.ink_tree.proofs.Rising.{nat_list_tied}
 
 part_is : (x y : Part) → same_part x y ≡ true → x ≡ y
 part_is (Index i) (Index j) h = let same : i ≡ j = grind (arith, nat_tests, h) in ap Index same
@@ -19,15 +14,7 @@ part_is (Name m) (Name n) h = ap Name ((bytes_eq-Decides m n).0 h)
 
 itself : (x : Part) → same_part x x ≡ true
 itself (Index i) = grind (arith, nat_tests)
-itself (Name n) = sym (is_eq-slice_cmp n n) ∙ ap is_eq (nat_list_tied n)
-
--- a place is around itself
-pub around_itself : (p : List Part) → is_around p p ≡ true
-around_itself [] = refl
-around_itself (x ∷ p) = rw (itself x) (around_itself p)
-
-pub around_same : (p q : List Part) → p ≡ q → true ≡ is_around p q
-around_same p q e = sym (around_itself p) ∙ ap (is_around p) e
+itself (Name n) = sym (is_eq-slice_cmp n n) ∙ ap is_eq (tied_itself nat_list_cmp_total n)
 
 both_same : (b u v : Bool) → (b ≡ true → u ≡ v) → (b && u) ≡ (b && v)
 both_same true u v h = h refl
@@ -57,5 +44,6 @@ below_around (x ∷ p) (y ∷ q) h =
     let rest = below_around p q two.1 in
     (rest.0, (λ i. sym (part_is x y two.0) i ∷ rest.1 i))
 
-pub not_around : (p q : List Part) → (is_around p q ≡ true → ⊥) → is_around p q ≡ false
-not_around p q h = false_from_ne_true (is_around p q) h
+-- a place is around itself
+pub around_same : (p q : List Part) → p ≡ q → true ≡ is_around p q
+around_same p q e = sym (around_below p []) ∙ ap (is_around p) (append-nil p ∙ e)

@@ -1,19 +1,9 @@
 -- The places of a story rise in reading order.
 use Rattle.std.proofs.Common.{◌≡◌, ◌∙◌, ℕ, zero, suc, ◌+◌, ◌<◌, List, [], ◌∷◌, ◌++◌, map, Some, slice_get, true, ◌&&◌, Ordering, Less, Equal, Greater, nat_cmp, refl, sym, ap, subst, append_assoc, arith, length, unwrap_or}
-use Rattle.std.proofs.lemmas.Cmp.{nat_cmp_total, nat_list_cmp_total, lists_total, tied_itself}
-use Rattle.std.proofs.lemmas.Option.{none-some, same_Some, slice_get-get_or, unwrap_or-slice_get}
 use Rattle.std.specs.Cmp.{IsTotalOrder, nat_cmp_is, ranked}
-use Rattle.std.specs.Cmp.Lexicographic.{slice_cmp}
 use Rattle.std.specs.FinMap.{nat_cmp-IsAntisymmetric, slice_cmp-IsAntisymmetric}
 use Rattle.std.specs.List.{AllByRecursion}
-use Rattle.std.specs.Ordering.{MatchOrdering, is_lt, ordering_reverse}
-use Rattle.std.proofs.lemmas.Bool.{and_parts}
-use Rattle.ink_json.specs.Order.{part_order, place_order, keys_rise, keys_rise_in, keys_rise_by_key, is_below}
-use Rattle.ink_model.specs.Places.{places, places_from, places_by_key}
-use Rattle.ink_model.specs.Tree.{StoryTree, leaf, container, Trees, no_trees, tree, Keyed, no_keys, key}
-use Rattle.ink_model.specs.declared.place.Part.{Part}
-use Rattle.ink_model.specs.declared.place.Part.TheVariants.{Index, Name}
-use Rattle.ink_tree.specs.Numbers.{NumbersInOrder, node_place}
+use Rattle.ink_tree.proofs.Common.{nat_cmp_total, nat_list_cmp_total, lists_total, tied_itself, none-some, same_Some, slice_get-get_or, unwrap_or-slice_get, slice_cmp, MatchOrdering, is_lt, ordering_reverse, and_parts, part_order, place_order, keys_rise, keys_rise_in, keys_rise_by_key, is_below, places, places_from, places_by_key, StoryTree, leaf, container, Trees, no_trees, tree, Keyed, no_keys, key, Part, Index, Name, NumbersInOrder, node_place}
 
 -- ---- the order of parts and of places
 
@@ -48,9 +38,6 @@ place_total = lists_total part_total
 
 pub name_same : (m n : List ℕ) → slice_cmp nat_cmp m n ≡ Equal → m ≡ n
 name_same = slice_cmp-IsAntisymmetric nat_cmp-IsAntisymmetric
-
-pub nat_list_tied : (n : List ℕ) → slice_cmp nat_cmp n n ≡ Equal
-nat_list_tied n = tied_itself nat_list_cmp_total n
 
 pub place_tied : (p : List Part) → place_order p p ≡ Equal
 place_tied p = tied_itself place_total p
@@ -107,9 +94,6 @@ abbrev IsName : Part → Type 0
 IsName (Index i) = ⊥
 IsName (Name n) = Unit {0}
 
-index_before : (i j : ℕ) → i < j → nat_cmp i j ≡ Less
-index_before i j h = sym (nat_cmp_is i j Less h)
-
 name_after : (i : ℕ) (p : List Part) → Begins IsName p → Begins (λ q. part_order (Index i) q ≡ Less) p
 name_after i [] h = h
 name_after i (Index j ∷ p) h = absurd h
@@ -121,9 +105,9 @@ named (key k t ks) = all_append _ (map (λ p. Name k ∷ p) (places t)) (places_
 
 later : (i j : ℕ) (ts : Trees) → i < j → After (Index i) (places_from j ts)
 later i j no_trees h = tt
-later i j (tree t ts) h = all_append _ (map (λ p. Index j ∷ p) (places t)) (places_from (j + 1) ts) (all_under _ (Index j) (places t) (λ x. index_before i j h)) (later i (j + 1) ts (omega arith))
+later i j (tree t ts) h = all_append _ (map (λ p. Index j ∷ p) (places t)) (places_from (j + 1) ts) (all_under _ (Index j) (places t) (λ x. sym (nat_cmp_is i j Less h))) (later i (j + 1) ts (omega arith))
 
-less : (o : Ordering) → is_lt o ≡ true → o ≡ Less
+pub less : (o : Ordering) → is_lt o ≡ true → o ≡ Less
 less Less h = refl
 less Equal h = absurd cc
 less Greater h = absurd cc
@@ -168,32 +152,12 @@ mutual
   from_root i no_trees = tt
   from_root i (tree t ts) = all_append _ (map (λ p. Index i ∷ p) (places t)) (places_from (i + 1) ts) (all_under _ (Index i) (places t) (λ x. refl)) (from_root (i + 1) ts)
 
--- ---- no two at one place
+-- ---- numbers in the order of places
 
 at_one : (P : List Part → Type 0) (xs : List (List Part)) (i : ℕ) (x : List Part) → All' P xs → slice_get xs i ≡ Some x → P x
 at_one P [] i x h e = absurd (none-some x e)
 at_one P (y ∷ ys) zero x h e = subst P (same_Some y x e) h.0
 at_one P (y ∷ ys) (suc i) x h e = at_one P ys i x h.1 e
-
-not_itself : (x y : List Part) → place_order x y ≡ Less → x ≡ y → ⊥
-not_itself x y h e = let tied = place_tied x in let less : place_order x x ≡ Less = ap (place_order x) e ∙ h in absurd (less_equal (place_order x x) less tied) where
-  less_equal : (o : Ordering) → o ≡ Less → o ≡ Equal → ⊥
-  less_equal Less a b = cc
-  less_equal Equal a b = cc
-  less_equal Greater a b = cc
-
-one_place : (xs : List (List Part)) (i j : ℕ) (x : List Part) → Rises xs → slice_get xs i ≡ Some x → slice_get xs j ≡ Some x → i ≡ j
-one_place [] i j x up a b = absurd (none-some x a)
-one_place (y ∷ ys) zero zero x up a b = refl
-one_place (y ∷ ys) zero (suc j) x up a b = absurd (not_itself y x (at_one (λ z. place_order y z ≡ Less) ys j x up.0 b) (same_Some y x a))
-one_place (y ∷ ys) (suc i) zero x up a b = absurd (not_itself y x (at_one (λ z. place_order y z ≡ Less) ys i x up.0 a) (same_Some y x b))
-one_place (y ∷ ys) (suc i) (suc j) x up a b = ap suc (one_place ys i j x up.1 a b)
-
--- two numbers at one place of a story are one
-pub one_number : (s : StoryTree) (i j : ℕ) (x : List Part) → keys_rise s ≡ true → slice_get (places s) i ≡ Some x → slice_get (places s) j ≡ Some x → i ≡ j
-one_number s i j x h = one_place (places s) i j x (rises s h)
-
--- ---- numbers in the order of places
 
 one_on : (i j : ℕ) (o : Ordering) → MatchOrdering o (i < j) (i ≡ j) (j < i) → o ≡ nat_cmp (suc i) (suc j)
 one_on i j Less h = nat_cmp_is (suc i) (suc j) Less (omega (arith, h))
@@ -210,7 +174,11 @@ in_order (z ∷ zs) (suc i) zero x y up a b =
     ∙ ap ordering_reverse (at_one (λ w. place_order z w ≡ Less) zs i x up.0 a) ∙ nat_cmp_is (suc i) zero Greater (omega arith)
 in_order (z ∷ zs) (suc i) (suc j) x y up a b = in_order zs i j x y up.1 a b ∙ one_on i j (nat_cmp i j) (ranked i j (nat_cmp i j) refl)
 
-stands_at : (xs : List (List Part)) (i : ℕ) → i < length xs → slice_get xs i ≡ Some (unwrap_or (slice_get xs i) [])
+-- two numbers at one place of a story are one
+pub one_number : (s : StoryTree) (i j : ℕ) (x : List Part) → keys_rise s ≡ true → slice_get (places s) i ≡ Some x → slice_get (places s) j ≡ Some x → i ≡ j
+one_number s i j x h a b = nat_cmp-IsAntisymmetric i j (sym (in_order (places s) i j x x (rises s h) a b) ∙ place_tied x)
+
+pub stands_at : (xs : List (List Part)) (i : ℕ) → i < length xs → slice_get xs i ≡ Some (unwrap_or (slice_get xs i) [])
 stands_at xs i below = slice_get-get_or xs i [] below ∙ ap Some (sym (unwrap_or-slice_get xs i []))
 
 -- the numbers of a story's contents are in the order of their places

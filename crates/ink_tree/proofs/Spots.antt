@@ -1,51 +1,34 @@
 -- Which places are places of a story, given by their last part.
-use Rattle.std.proofs.Common.{◌≡◌, ℕ, zero, suc, List, [], ◌∷◌, ◌++◌, length, reverse, Bool, true, false, ◌&&◌, ◌||◌, nat_eq, nat_le, cond, Option, Some, None, is_some, option_and_then, refl, sym, ap, ◌∙◌, arith}
-use Rattle.std.proofs.lemmas.Bool.Decides.{nat_tests}
-use Rattle.std.proofs.lemmas.List.{append-nil, reverse-append, reverse-reverse}
+use Rattle.std.proofs.Common.{◌≡◌, ℕ, List, [], ◌∷◌, ◌++◌, length, Bool, true, false, ◌&&◌, ◌||◌, nat_eq, nat_le, cond, Option, Some, None, is_some, option_and_then, refl, sym, ap, ◌∙◌, arith, nat_lt, inl, inr}
 use Rattle.std.proofs.Math.Bool.{or-false}
-use Rattle.ink_model.specs.Path.{is_place, is_container, ends_at}
-use Rattle.ink_model.specs.Tree.{StoryTree, leaf, container, Trees, no_trees, tree, nth, down, at, width, count}
-use Rattle.ink_model.specs.declared.place.Part.{Part}
-use Rattle.ink_model.specs.declared.place.Part.TheVariants.{Index, Name}
-use Rattle.ink_tree.specs.Contents.{reaches_in}
-use Rattle.ink_tree.specs.Nodes.{place_of, node_place}
-use Rattle.ink_tree.specs.declared.spot.NodeId.{NodeId}
-
--- ---- one part further
-
-further : (q : Part) (up : List Part) (o : Option StoryTree) → ((t : StoryTree) → at t (up ++ q ∷ []) ≡ option_and_then (λ u. at u (q ∷ [])) (at t up))
-    → option_and_then (λ t. at t (up ++ q ∷ [])) o ≡ option_and_then (λ u. at u (q ∷ [])) (option_and_then (λ t. at t up) o)
-further q up None h = refl
-further q up (Some t) h = h t
-
-at_further : (up : List Part) (q : Part) (s : StoryTree) → at s (up ++ q ∷ []) ≡ option_and_then (λ u. at u (q ∷ [])) (at s up)
-at_further [] q s = refl
-at_further (p ∷ up) q s = further q up (down p s) (at_further up q)
-
-reversed : (up : List Part) (q : Part) → reverse (up ++ q ∷ []) ≡ q ∷ reverse up
-reversed up q = reverse-append up (q ∷ [])
+use Rattle.ink_tree.proofs.Common.{cases_lt, nat_tests, append-nil, reverse-append, reverse-reverse, is_place, is_container, ends_at, StoryTree, leaf, container, at, width, count, Part, Index, Name, reaches_in, place_of, node_place, NodeId}
+use Rattle.ink_tree.proofs.Standing.{at_append, in_stands}
 
 -- ---- by an index
 
-both_more : (b : Bool) (i n : ℕ) → (b || nat_eq i n) ≡ nat_le i n → (b || nat_eq (suc i) (suc n)) ≡ nat_le (suc i) (suc n)
-both_more true i n h = grind (arith, nat_tests, h)
-both_more false i n h = grind (arith, nat_tests, h)
-
-or_end : (ts : Trees) (i : ℕ) → (is_some (option_and_then (λ u. Some u) (nth i ts)) || nat_eq i (count ts)) ≡ nat_le i (count ts)
-or_end no_trees zero = refl
-or_end no_trees (suc i) = grind (arith, nat_tests)
-or_end (tree t ts) zero = grind (arith, nat_tests)
-or_end (tree t ts) (suc i) = both_more (is_some (option_and_then (λ u. Some u) (nth i ts))) i (count ts) (or_end ts i)
+or_end : (b : Bool) (i n : ℕ) → b ≡ nat_lt i n → (b || nat_eq i n) ≡ nat_le i n
+or_end true i n h = grind (arith, nat_tests, h)
+or_end false i n h =
+    elim (cases_lt n i) [
+      | inl past ↦
+          let other : nat_eq i n ≡ false = grind (arith, nat_tests) in
+          let over : nat_le i n ≡ false = grind (arith, nat_tests) in
+          other ∙ sym over
+      | inr low ↦
+          let same : nat_eq i n ≡ true = grind (arith, nat_tests, h) in
+          let up_to : nat_le i n ≡ true = grind (arith, nat_tests) in
+          same ∙ sym up_to
+    ]
 
 reached : (o : Option StoryTree) (i : ℕ) → (is_some (option_and_then (λ u. at u (Index i ∷ [])) o) || (is_container o && nat_eq i (width o))) ≡ reaches_in o i
 reached None i = refl
 reached (Some (leaf l)) i = refl
-reached (Some (container name flags content named)) i = or_end content i
+reached (Some (container name flags content named)) i = or_end _ i (count content) (in_stands i (Some (container name flags content named)))
 
 place_by_index : (s : StoryTree) (up : List Part) (i : ℕ) → is_place s (up ++ Index i ∷ []) ≡ reaches_in (at s up) i
 unfolding is_place
 place_by_index s up i =
-    (λ j. is_some (at_further up (Index i) s j) || ends_at s (reversed up (Index i) j))
+    (λ j. is_some (at_append up (Index i ∷ []) s j) || ends_at s (reverse-append up (Index i ∷ []) j))
     ∙ ap (λ o. is_some (option_and_then (λ u. at u (Index i ∷ [])) (at s up)) || (is_container o && nat_eq i (width o))) (ap (at s) (reverse-reverse up))
     ∙ reached (at s up) i
 
@@ -67,7 +50,7 @@ module _ (s : StoryTree) (up : List Part) (i : ℕ) where
 
 place_by_name : (s : StoryTree) (up : List Part) (n : List ℕ) → is_some (at s (up ++ Name n ∷ [])) ≡ is_place s (up ++ Name n ∷ [])
 unfolding is_place
-place_by_name s up n = sym (ap (λ q. is_some (at s (up ++ Name n ∷ [])) || ends_at s q) (reversed up (Name n)) ∙ or-false _)
+place_by_name s up n = sym (ap (λ q. is_some (at s (up ++ Name n ∷ [])) || ends_at s q) (reverse-append up (Name n ∷ [])) ∙ or-false _)
 
 pub named_last : (s : StoryTree) (p up : List Part) (q : Part) (n : List ℕ) → p ≡ up ++ q ∷ [] → q ≡ Name n → is_some (at s p) ≡ is_place s p
 named_last s p up q n is named =

@@ -1,12 +1,6 @@
 -- Where content stands, and the nodes that are found there.
-use Rattle.std.proofs.Common.{◌≡◌, ◌∙◌, ap, sym, refl, ℕ, zero, suc, ◌+◌, ◌<◌, List, [], ◌∷◌, ◌++◌, Bool, true, false, true≢false, Option, Some, None, is_some, option_map, option_and_then, cond, arith}
-use Rattle.ink_model.specs.Path.{listed_index}
-use Rattle.ink_model.specs.Place.{is_named, named_index}
-use Rattle.ink_model.specs.Tree.{StoryTree, leaf, container, Trees, no_trees, tree, nth, down, at, width, count}
-use Rattle.ink_model.specs.declared.place.Part.{Part}
-use Rattle.ink_model.specs.declared.place.Part.TheVariants.{Index}
-use Rattle.ink_tree.specs.Nodes.{node_place, Finds}
-use Rattle.ink_tree.specs.declared.spot.NodeId.{NodeId}
+use Rattle.std.proofs.Common.{◌≡◌, ◌∙◌, ap, sym, refl, ℕ, zero, suc, ◌+◌, ◌<◌, List, [], ◌∷◌, ◌++◌, Bool, true, false, true≢false, Option, Some, None, is_some, option_map, option_and_then, cond, arith, nat_lt}
+use Rattle.ink_tree.proofs.Common.{nat_tests, listed_index, is_named, named_index, StoryTree, leaf, container, Trees, no_trees, tree, nth, down, at, width, count, Part, Index, node_place, Finds, NodeId}
 
 onward : (p q : List Part) → ((u : StoryTree) → at u (p ++ q) ≡ option_and_then (λ t. at t q) (at u p))
     → (o : Option StoryTree) → option_and_then (λ u. at u (p ++ q)) o ≡ option_and_then (λ t. at t q) (option_and_then (λ u. at u p) o)
@@ -20,31 +14,27 @@ at_append (x ∷ p) q s = onward p q (at_append p q) (down x s)
 
 -- ---- by index
 
-nth_stands : (i : ℕ) (ts : Trees) → i < count ts → is_some (option_and_then (λ u. Some u) (nth i ts)) ≡ true
-nth_stands i no_trees h = absurd (omega arith)
-nth_stands zero (tree t ts) h = refl
-nth_stands (suc i) (tree t ts) h = nth_stands i ts (omega arith)
+suc_lt : (i n : ℕ) (b : Bool) → nat_lt i n ≡ b → nat_lt (suc i) (suc n) ≡ b
+suc_lt i n true h = grind (arith, nat_tests, h)
+suc_lt i n false h = grind (arith, nat_tests, h)
 
-in_stands : (i : ℕ) (o : Option StoryTree) → i < width o → is_some (option_and_then (λ t. at t (Index i ∷ [])) o) ≡ true
-in_stands i None h = absurd (omega arith)
-in_stands i (Some (leaf l)) h = absurd (omega arith)
-in_stands i (Some (container name flags content named)) h = nth_stands i content h
+nth_stands : (i : ℕ) (ts : Trees) → is_some (option_and_then (λ u. Some u) (nth i ts)) ≡ nat_lt i (count ts)
+nth_stands i no_trees = grind (arith, nat_tests)
+nth_stands zero (tree t ts) = grind (arith, nat_tests)
+nth_stands (suc i) (tree t ts) = sym (suc_lt i (count ts) _ (sym (nth_stands i ts)))
 
-pub index_stands : (s : StoryTree) (p : List Part) (i : ℕ) → i < width (at s p) → is_some (at s (p ++ Index i ∷ [])) ≡ true
-index_stands s p i h = ap is_some (at_append p (Index i ∷ []) s) ∙ in_stands i (at s p) h
+-- content stands at an index below the width
+pub in_stands : (i : ℕ) (o : Option StoryTree) → is_some (option_and_then (λ t. at t (Index i ∷ [])) o) ≡ nat_lt i (width o)
+in_stands i None = grind (arith, nat_tests)
+in_stands i (Some (leaf l)) = grind (arith, nat_tests)
+in_stands i (Some (container name flags content named)) = nth_stands i content
 
-nth_within : (i : ℕ) (ts : Trees) → is_some (option_and_then (λ u. Some u) (nth i ts)) ≡ true → i < count ts
-nth_within i no_trees h = absurd (true≢false (sym h))
-nth_within zero (tree t ts) h = omega arith
-nth_within (suc i) (tree t ts) h = omega (arith, nth_within i ts h)
+module _ (s : StoryTree) (p : List Part) (i : ℕ) where
+  pub index_there : is_some (at s (p ++ Index i ∷ [])) ≡ nat_lt i (width (at s p))
+  index_there = ap is_some (at_append p (Index i ∷ []) s) ∙ in_stands i (at s p)
 
-in_within : (i : ℕ) (o : Option StoryTree) → is_some (option_and_then (λ t. at t (Index i ∷ [])) o) ≡ true → i < width o
-in_within i None h = absurd (true≢false (sym h))
-in_within i (Some (leaf l)) h = absurd (true≢false (sym h))
-in_within i (Some (container name flags content named)) h = nth_within i content h
-
-pub index_within : (s : StoryTree) (p : List Part) (i : ℕ) → is_some (at s (p ++ Index i ∷ [])) ≡ true → i < width (at s p)
-index_within s p i h = in_within i (at s p) (sym (ap is_some (at_append p (Index i ∷ []) s)) ∙ h)
+  pub index_stands : i < width (at s p) → is_some (at s (p ++ Index i ∷ [])) ≡ true
+  index_stands h = let below : nat_lt i (width (at s p)) ≡ true = grind (arith, nat_tests) in index_there ∙ below
 
 -- ---- by name
 

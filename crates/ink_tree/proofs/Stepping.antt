@@ -1,29 +1,14 @@
 -- Steps of a path.
-use Rattle.std.proofs.Common.{◌≡◌, ◌∙◌, inl, inr, ap, sym, refl, add-one, drop-cons, drop, get_or, length, suc, ◌+◌, ℕ, ◌<◌, List, [], ◌∷◌, ◌++◌, true, false, true≢false, Option, Some, None, is_some, option_map, option_and_then, nat_lt, arith}
-use Rattle.std.proofs.lemmas.Bool.{cases_lt}
-use Rattle.std.proofs.lemmas.Bool.Decides.{nat_tests}
-use Rattle.ink_json.specs.Order.{keys_rise}
-use Rattle.ink_model.specs.Path.{by_name, listed_index, stepped, walked}
-use Rattle.ink_model.specs.Tree.{StoryTree, at, width}
-use Rattle.ink_model.specs.declared.place.Part.{Part}
-use Rattle.ink_model.specs.declared.place.Part.TheVariants.{Index, Name}
-use Rattle.ink_tree.specs.Nodes.{node_place, Finds}
-use Rattle.ink_tree.specs.declared.spot.NodeId.{NodeId}
+use Rattle.std.proofs.Common.{◌≡◌, ◌∙◌, ap, sym, refl, add-one, drop-cons, drop, get_or, length, suc, ◌+◌, ℕ, ◌<◌, List, [], ◌∷◌, ◌++◌, true, Option, Some, None, is_some, option_map, option_and_then, arith}
+use Rattle.ink_tree.proofs.Common.{keys_rise, by_name, listed_index, stepped, walked, StoryTree, at, width, Part, Index, Name, node_place, Finds, NodeId}
 use Rattle.ink_tree.proofs.Nodes.{node_stands}
-use Rattle.ink_tree.proofs.Standing.{index_stands, index_within, listed_within, there}
+use Rattle.ink_tree.proofs.Standing.{index_stands, listed_within, there, index_there}
 
 module _ (s : StoryTree) (p : List Part) where
   -- by an index
   pub index_found : (i : ℕ) (r : Option NodeId) → keys_rise s ≡ true → Finds s (p ++ Index i ∷ []) r → option_map (node_place s) r ≡ stepped s p (Index i)
-  index_found i None rise f =
-      elim (cases_lt i (width (at s p))) [
-        | inl below ↦ absurd (true≢false (sym (index_stands s p i below) ∙ ap is_some f))
-        | inr past ↦ let no : nat_lt i (width (at s p)) ≡ false = grind (arith, nat_tests) in rw no refl
-      ]
-  index_found i (Some n) rise f =
-      let below : i < width (at s p) = index_within s p i (ap (λ q. is_some (at s q)) (sym f.1) ∙ node_stands s n rise) in
-      let within : nat_lt i (width (at s p)) ≡ true = grind (arith, nat_tests) in
-      ap Some f.1 ∙ rw within refl
+  index_found i None rise f = rw (sym (index_there s p i) ∙ ap is_some f) refl
+  index_found i (Some n) rise f = ap Some f.1 ∙ rw (sym (index_there s p i) ∙ ap (λ q. is_some (at s q)) (sym f.1) ∙ node_stands s n rise) refl
 
   -- by a name
   module _ (name : List ℕ) where

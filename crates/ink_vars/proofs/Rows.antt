@@ -1,11 +1,12 @@
 -- Names with their values.
 use Rattle.std.proofs.Common.{◌≡◌, ◌∙◌, ◌<◌, ℕ, zero, suc, Bool, true, false, bytes_eq, if◌then◌else◌, List, [], ◌∷◌, ◌++◌, Option, None, Some, ap, arith, is_some, length, option_map, refl, set, slice_get, slice_index_or, subst, sym, take, unwrap_or, ◌≤◌, Bor}
+use Rattle.std.proofs.lemmas.Option.{slice_get_past}
 use Rattle.std.specs.Slice.{IsItemAt}
 use Rattle.ink_model.specs.Store.{Values, store, stored}
 use Rattle.ink_model.specs.declared.value.Value.{Value}
 use Rattle.ink_names.specs.Names as names
 use Rattle.ink_trail.specs.Undo.{but_last}
-use Rattle.ink_vars.proofs.Numbers.{number_there}
+use Rattle.ink_vars.proofs.Noting.{none_of}
 use Rattle.ink_vars.proofs.Taking.{written_over}
 use Rattle.ink_vars.specs.Changes.{number_of}
 use Rattle.ink_vars.specs.Globals.{DifferInName, rows_of, set_value_at}
@@ -17,13 +18,8 @@ item_at [] i x d h is = absurd (omega (arith, h))
 item_at (y ∷ xs) zero x d h is = ap Some (sym is)
 item_at (y ∷ xs) (suc i) x d h is = item_at xs i x d (omega (arith, h)) is
 
-past : {X : Type 0} (xs : List X) (i : ℕ) → length xs ≤ i → slice_get xs i ≡ None
-past [] i h = refl
-past (y ∷ xs) zero h = absurd (omega (arith, h))
-past (y ∷ xs) (suc i) h = past xs i (omega (arith, h))
-
 pub got : {X : Type 0} (xs ys : List X) (i : ℕ) (r : Option (Bor X)) → IsItemAt xs i r → xs ≡ ys → option_map (λ x. x.now) r ≡ slice_get ys i
-got xs ys i None facts same = sym (past xs i facts.3) ∙ ap (λ items. slice_get items i) same
+got xs ys i None facts same = sym (slice_get_past xs i facts.3) ∙ ap (λ items. slice_get items i) same
 got xs ys i (Some x) facts same = sym (item_at xs i x.now x.now facts.3.0 facts.1) ∙ ap (λ items. slice_get items i) same
 
 -- ---- by name and number
@@ -49,7 +45,7 @@ stored_in name (n ∷ ns) (v ∷ vs) h = by (bytes_eq name n) (further (names.nu
 
 -- the value at the number of a name, which is the next one where there is no such name
 at_next : (o : Option ℕ) (vs : List Value) → slice_get vs (unwrap_or o (length vs)) ≡ at_number o vs
-at_next None vs = past vs (length vs) (omega arith)
+at_next None vs = slice_get_past vs (length vs) (omega arith)
 at_next (Some i) vs = refl
 
 next : (o : Option ℕ) (n : ℕ) → unwrap_or (option_map suc o) (suc n) ≡ suc (unwrap_or o n)
@@ -194,22 +190,5 @@ stored_over name ns vs i v h is within =
 pub index_of : (name : List ℕ) (ns : List (List ℕ)) (vs : List Value) (i : ℕ) → length ns ≡ length vs → names.number_of ns name ≡ Some i → i ≡ number_of name (rows_of ns vs)
 index_of name ns vs i h at = sym (ap (λ o. unwrap_or o (length ns)) at) ∙ numbered_in name ns vs h
 
-pub in_range : (name : List ℕ) (ns : List (List ℕ)) (vs : List Value) (i : ℕ) → length ns ≡ length vs → i ≡ number_of name (rows_of ns vs) → is_some (stored name (rows_of ns vs)) ≡ true → i < length vs
-in_range name ns vs i h is there = by (stored name (rows_of ns vs)) refl there
-  where
-    by : (o : Option Value) → stored name (rows_of ns vs) ≡ o → is_some o ≡ true → i < length vs
-    by None at k = absurd (cc)
-    by (Some w) at k =
-        let below : number_of name (rows_of ns vs) < length (rows_of ns vs) = number_there name (rows_of ns vs) w at in
-        subst (λ n. i < n) (sym (as_many ns vs h) ∙ h) (subst (λ k. k < length (rows_of ns vs)) (sym is) below)
-
 pub not_in : (name : List ℕ) (ns : List (List ℕ)) (vs : List Value) → length ns ≡ length vs → is_some (stored name (rows_of ns vs)) ≡ false → names.number_of ns name ≡ None
-not_in name ns vs h absent = by (names.number_of ns name) (is_in name ns vs h ∙ absent)
-  where
-    by : (o : Option ℕ) → is_some o ≡ false → o ≡ None
-    by None k = refl
-    by (Some i) k = absurd (cc)
-
-pub none_stored : (o : Option Value) → is_some o ≡ false → o ≡ None
-none_stored None h = refl
-none_stored (Some v) h = absurd (cc)
+not_in name ns vs h absent = none_of (names.number_of ns name) (is_in name ns vs h ∙ absent)

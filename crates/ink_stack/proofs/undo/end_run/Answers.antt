@@ -50,29 +50,32 @@ loop-number-preserved g c =
       held = c.end_one.ensures.held;
     }
 
-pub returns-else-is_function-clause-running : goal.returns-else-is_function-clause-running
-returns-else-is_function-clause-running g c =
+pub returns-else-is_function : goal.returns-else-is_function
+returns-else-is_function g c =
     let d = c.args.depth in
     let inv = c.loop-number.invariant in
     let n = c.loop-number.number in
     let v = c.loop-number.running in
+    let t = c.args.running.now.thread in
     let here : n ≤ length v.thread.below = omega (arith, inv.within, inv.count) in
     let other : function_at d n v.thread.below ≡ false = sym (function_below d v.thread.frame v.thread.below n here) ∙ sym c.is_function.ensures ∙ c.if-is_function.false in
-    running_is v (record c.args.running.now.thread { below = stale_run d c.args.running.now.thread.below }) c.args.running.now.room inv.frame (sym (from_stop d n v.thread.below other) ∙ inv.run) inv.previous inv.room
+    record {
+      running = running_is v (record t { below = stale_run d t.below }) c.args.running.now.room inv.frame (sym (from_stop d n v.thread.below other) ∙ inv.run) inv.previous inv.room;
+      trail = trails-more threads_back (length t.below - n) (length t.below) _ _ _ _ (omega arith) inv.trail;
+      held = inv.held;
+    }
 
-pub returns-else-is_function-clause-trail : goal.returns-else-is_function-clause-trail
-returns-else-is_function-clause-trail g c =
-    trails-more threads_back (length c.args.running.now.thread.below - c.loop-number.number) (length c.args.running.now.thread.below) _ _ _ _ (omega arith) c.loop-number.invariant.trail
-
-pub returns-after-loop-number-clause-running : goal.returns-after-loop-number-clause-running
-returns-after-loop-number-clause-running g c =
+pub returns-after-loop-number : goal.returns-after-loop-number
+returns-after-loop-number g c =
     let d = c.args.depth in
     let inv = c.loop-number.invariant in
-    let v = c.loop-number.running in
-    let none : 0 ≡ c.loop-number.number = omega arith in
-    running_is v (record c.args.running.now.thread { below = stale_run d c.args.running.now.thread.below }) c.args.running.now.room inv.frame
-    (sym (from_zero d v.thread.below) ∙ ap (λ m. stale_from d m v.thread.below) none ∙ inv.run) inv.previous inv.room
-
-pub returns-after-loop-number-clause-trail : goal.returns-after-loop-number-clause-trail
-returns-after-loop-number-clause-trail g c =
-    trails-more threads_back (length c.args.running.now.thread.below - c.loop-number.number) (length c.args.running.now.thread.below) _ _ _ _ (omega arith) c.loop-number.invariant.trail
+    let n = c.loop-number.number in
+    let below = c.loop-number.running.thread.below in
+    let t = c.args.running.now.thread in
+    let none : 0 ≡ n = omega arith in
+    let run = sym (from_zero d below) ∙ ap (λ m. stale_from d m below) none ∙ inv.run in
+    record {
+      running = running_is c.loop-number.running (record t { below = stale_run d t.below }) c.args.running.now.room inv.frame run inv.previous inv.room;
+      trail = trails-more threads_back (length t.below - n) (length t.below) _ _ _ _ (omega arith) inv.trail;
+      held = inv.held;
+    }

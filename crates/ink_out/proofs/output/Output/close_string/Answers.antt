@@ -1,38 +1,29 @@
-use Rattle.std.proofs.Common.{◌≡◌, ◌∙◌, ap, inl, inr, refl, reverse, subst, sym}
-use Rattle.ink_model.specs.Configuration.{Page}
-use Rattle.ink_model.specs.Memory.{Hands}
+use Rattle.std.proofs.Common.{◌≡◌, ◌∙◌, ap, inl, inr, refl, sym}
 use Rattle.ink_model.specs.Output.{closes_string}
 use Rattle.ink_model.specs.declared.fault.Fault.TheVariants.{OutOfMemory}
-use Rattle.ink_out.specs.Undo.{output_back, output_spare, output_stood}
 use Rattle.ink_out.specs.Writing.{page_of}
 use Rattle.ink_out.proofs.Closing.{hands_nothing, no_string, none_closed, nothing_open, on_top, string_asks, string_closed, string_refused}
+use Rattle.ink_out.proofs.Marks.{spare_after, stood_after}
 use Rattle.ink_out.proofs.output.Output.close_string.Goals as goal
-use Rattle.ink_trail.proofs.Undoing.{spare-or-kept, stood-or-kept}
 
 pub returns-in_default-clause-page : goal.returns-in_default-clause-page
 returns-in_default-clause-page c =
-    let turned : reverse c.self.inside.sections.items ≡ c.args.self.now.page.sections = ap (λ w. w.page.sections) c.self.view_is in
-    (inr (none_closed c.args.self.now.page (nothing_open c.self.inside.sections.items c.deref.result.now c.args.self.now.page.sections turned c.deref.ensures.value (sym c.in_default.ensures.value))).0, refl)
+    (inr (none_closed c.args.self.now.page (nothing_open c.self.inside.sections.items c.deref.result.now c.args.self.now.page.sections (ap (λ w. w.page.sections) c.self.view_is) c.deref.ensures.value (sym c.in_default.ensures.value))).0, refl)
 
 pub returns-then-not-is_string-clause-page : goal.returns-then-not-is_string-clause-page
 returns-then-not-is_string-clause-page c =
-    let turned : reverse c.self.inside.sections.items ≡ c.args.self.now.page.sections = ap (λ w. w.page.sections) c.self.view_is in
-    let top = on_top c.self.inside.sections.items c.deref.result.now c.args.self.now.page.sections c.in-Some.opened.now turned c.deref.ensures.value (sym c.in-Some.ensures.value) in
+    let top = on_top c.self.inside.sections.items c.deref.result.now c.args.self.now.page.sections c.in-Some.opened.now (ap (λ w. w.page.sections) c.self.view_is) c.deref.ensures.value (sym c.in-Some.ensures.value) in
     (inr (no_string c.args.self.now.page c.in-Some.opened.now top c.if-not-is_string.ensures), refl)
 
 pub returns-in_err-raw_text-clause-page : goal.returns-in_err-raw_text-clause-page
 returns-in_err-raw_text-clause-page c =
-    let turned : reverse c.self.inside.sections.items ≡ c.args.self.now.page.sections = ap (λ w. w.page.sections) c.self.view_is in
-    let top = on_top c.self.inside.sections.items c.deref.result.now c.args.self.now.page.sections c.in-Some.opened.now turned c.deref.ensures.value (sym c.in-Some.ensures.value) in
-    subst (λ (p : Page). Hands (closes_string c.args.self.now.page) c.args.self.now.page p c.from_residual.result) (ap (λ w. w.page) (sym c.self.view_is))
-    (hands_nothing _ c.args.self.now.page OutOfMemory c.from_residual.result c.from_residual.ensures.1 (inl (refl, string_asks c.args.self.now.page c.in-Some.opened.now top c.if-not-is_string.ensures)))
+    let top = on_top c.self.inside.sections.items c.deref.result.now c.args.self.now.page.sections c.in-Some.opened.now (ap (λ w. w.page.sections) c.self.view_is) c.deref.ensures.value (sym c.in-Some.ensures.value) in
+    hands_nothing (closes_string c.args.self.now.page) c.args.self.now.page _ OutOfMemory c.from_residual.result (ap (λ w. w.page) c.self.view_is) c.from_residual.ensures.1 (inl (refl, string_asks c.args.self.now.page c.in-Some.opened.now top c.if-not-is_string.ensures))
 
 pub returns-in_err-text-clause-page : goal.returns-in_err-text-clause-page
 returns-in_err-text-clause-page c =
-    let turned : reverse c.self.inside.sections.items ≡ c.args.self.now.page.sections = ap (λ w. w.page.sections) c.self.view_is in
-    let top = on_top c.self.inside.sections.items c.deref.result.now c.args.self.now.page.sections c.in-Some.opened.now turned c.deref.ensures.value (sym c.in-Some.ensures.value) in
-    subst (λ (p : Page). Hands (closes_string c.args.self.now.page) c.args.self.now.page p c.from_residual-in_err-text.result) (ap (λ w. w.page) (sym c.self.view_is))
-    (hands_nothing _ c.args.self.now.page c.in_err-text.field-0.0 c.from_residual-in_err-text.result c.from_residual-in_err-text.ensures.1 (string_refused c.args.self.now.page c.in-Some.opened.now c.in_ok-raw_text.raw_text c.in_err-text.field-0.0 top c.if-not-is_string.ensures c.in_ok-raw_text.ensures (inr (sym c.in_err-text.ensures))))
+    let top = on_top c.self.inside.sections.items c.deref.result.now c.args.self.now.page.sections c.in-Some.opened.now (ap (λ w. w.page.sections) c.self.view_is) c.deref.ensures.value (sym c.in-Some.ensures.value) in
+    hands_nothing (closes_string c.args.self.now.page) c.args.self.now.page _ c.in_err-text.field-0.0 c.from_residual-in_err-text.result (ap (λ w. w.page) c.self.view_is) c.from_residual-in_err-text.ensures.1 (string_refused c.args.self.now.page c.in-Some.opened.now c.in_ok-raw_text.raw_text c.in_err-text.field-0.0 top c.if-not-is_string.ensures c.in_ok-raw_text.ensures (inr (sym c.in_err-text.ensures)))
 
 pub returns-clause-page : goal.returns-clause-page
 returns-clause-page c =
@@ -43,17 +34,13 @@ returns-clause-page c =
     (ap closes_string same ∙ string_closed page c.close.new.self.page c.in-Some.opened.now c.in_ok-raw_text.raw_text c.in_ok-text.text top c.if-not-is_string.ensures c.in_ok-raw_text.ensures (sym c.in_ok-text.ensures) c.in_ok-close.ensures.page.0, tt)
 
 pub returns-in_err-close-clause-stood : goal.returns-in_err-close-clause-stood
-unfolding output_stood
-returns-in_err-close-clause-stood c = rw (← c.self.view_is) (stood-or-kept output_back c.close.result 1 _ _ _ _ c.close.ensures.trail)
+returns-in_err-close-clause-stood c = rw (← c.self.view_is) (stood_after c.close.result 1 _ _ c.close.ensures.trail)
 
 pub returns-in_err-close-clause-spare : goal.returns-in_err-close-clause-spare
-unfolding output_spare
-returns-in_err-close-clause-spare c = rw (← c.self.view_is) (spare-or-kept output_back c.close.result 1 _ _ _ _ c.close.ensures.trail)
+returns-in_err-close-clause-spare c = rw (← c.self.view_is) (spare_after c.close.result 1 _ _ c.close.ensures.trail)
 
 pub returns-clause-stood : goal.returns-clause-stood
-unfolding output_stood
-returns-clause-stood c = rw (← c.self.view_is) (stood-or-kept output_back c.close.result 1 _ _ _ _ c.close.ensures.trail)
+returns-clause-stood c = rw (← c.self.view_is) (stood_after c.close.result 1 _ _ c.close.ensures.trail)
 
 pub returns-clause-spare : goal.returns-clause-spare
-unfolding output_spare
-returns-clause-spare c = rw (← c.self.view_is) (spare-or-kept output_back c.close.result 1 _ _ _ _ c.close.ensures.trail)
+returns-clause-spare c = rw (← c.self.view_is) (spare_after c.close.result 1 _ _ c.close.ensures.trail)

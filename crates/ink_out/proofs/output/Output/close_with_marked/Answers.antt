@@ -1,4 +1,4 @@
-use Rattle.std.proofs.Common.{◌≡◌, ◌∙◌, List, ap, arith, length, refl, sym, vec_capacity}
+use Rattle.std.proofs.Common.{◌≡◌, ◌∙◌, List, ap, arith, length, refl, vec_capacity}
 use Rattle.std.proofs.lemmas.List.{length-reverse}
 use Rattle.ink_model.specs.Configuration.{Section}
 use Rattle.ink_out.specs.Undo.{Held, output_back}
@@ -17,10 +17,9 @@ invariant_of-self-in-Ok c =
     let opened = c.in-Some.top in
     let state = c.open_state-state.result in
     let below = page_of s.line popped.items n in
-    let lent : c.deref_mut.result.now ≡ popped.items = c.deref_mut.ensures.value in
-    let same : length c.note.new.sections ≡ length popped.items = c.note.auto.sections ∙ ap (λ (sections : List Section). length sections) lent in
-    let whole = refilled popped.items c.note.new.sections popped.len (sym popped.ok.0) same in
-    let written = (rw lent at (c.in-Ok.ensures.page n)).0 in
+    let same : length c.note.new.sections ≡ length popped.items = c.note.auto.sections ∙ ap (λ (sections : List Section). length sections) c.deref_mut.ensures.value in
+    let whole = refilled popped.items c.deref_mut.result.now c.note.new.sections popped.len popped.ok.0 c.deref_mut.ensures.value c.note.auto.sections in
+    let written = (rw c.deref_mut.ensures.value at (c.in-Ok.ensures.page n)).0 in
     let turned = length-reverse popped.items in
     let len = popped.ok.0 in
     let cap = popped.ok.1 in
@@ -46,10 +45,9 @@ returns-in-Ok-clause-trail c =
     let opened = c.in-Some.top in
     let state = c.open_state-state.result in
     let below = page_of s.line popped.items n in
-    let lent : c.deref_mut.result.now ≡ popped.items = c.deref_mut.ensures.value in
-    let same : length c.note.new.sections ≡ length popped.items = c.note.auto.sections ∙ ap (λ (sections : List Section). length sections) lent in
-    let whole = refilled popped.items c.note.new.sections popped.len (sym popped.ok.0) same in
-    let written = (rw lent at (c.in-Ok.ensures.page n)).0 in
+    let same : length c.note.new.sections ≡ length popped.items = c.note.auto.sections ∙ ap (λ (sections : List Section). length sections) c.deref_mut.ensures.value in
+    let whole = refilled popped.items c.deref_mut.result.now c.note.new.sections popped.len popped.ok.0 c.deref_mut.ensures.value c.note.auto.sections in
+    let written = (rw c.deref_mut.ensures.value at (c.in-Ok.ensures.page n)).0 in
     rw (← c.self.view_is, whole) (trails-after output_back 2 _ _ _ c.ready.new.self _ c.ready.ensures.kept
     (trails-trails output_back 1 1 _ below _ _ c.note-in-Ok.new.self _
     (trails-one output_back (Closed opened) 1 _ _ _ _ (omega arith) (closed_back s.line popped.items s.sections.items n opened c.in-Some.ensures.items) c.note-in-Ok.ensures.undo c.note-in-Ok.ensures.room)

@@ -1,36 +1,32 @@
-use Rattle.std.proofs.Common.{◌≡◌, ◌∙◌, List, ap, arith, length, refl, sym}
-use Rattle.ink_model.specs.Configuration.{Section}
+use Rattle.std.proofs.Common.{arith, refl}
 use Rattle.ink_out.specs.Undo.{output_back, output_spare, output_stood}
 use Rattle.ink_out.specs.Writing.{page_of}
 use Rattle.ink_out.specs.declared.undo.OutputPair.TheVariants.{Numbered}
 use Rattle.ink_out.proofs.Closing.{refilled}
 use Rattle.ink_out.proofs.Undoing.{or_keeps}
+use Rattle.ink_out.proofs.Marks.{spare_after, stood_after}
 use Rattle.ink_out.proofs.output.Output.enter.Goals as goal
-use Rattle.ink_trail.proofs.Undoing.{spare-or-kept, spare-trails, stood-or-kept, stood-trails, trails-one, trails-trails}
+use Rattle.ink_trail.proofs.Undoing.{spare-trails, stood-trails, trails-one, trails-trails}
 
 pub returns-in_err-note_in-clause-trail : goal.returns-in_err-note_in-clause-trail
 returns-in_err-note_in-clause-trail c =
     let s = c.self.inside in
-    let lent : c.deref_mut.result.now ≡ s.sections.items = c.deref_mut.ensures.value in
-    let whole = refilled s.sections.items c.note_in.new.sections s.sections.len (sym s.sections.ok.0) (c.note_in.auto.sections ∙ ap (λ (sections : List Section). length sections) lent) in
-    let kept = rw lent at (c.in_err-note_in.ensures.trail s.next_enter) in
+    let whole = refilled s.sections.items c.deref_mut.result.now c.note_in.new.sections s.sections.len s.sections.ok.0 c.deref_mut.ensures.value c.note_in.auto.sections in
+    let kept = rw c.deref_mut.ensures.value at (c.in_err-note_in.ensures.trail s.next_enter) in
     rw (← c.self.view_is, whole) (or_keeps c.from_residual-in_err-note_in.result _ 2 _ _ _ _ c.from_residual-in_err-note_in.ensures.1 kept.0 kept.1)
 
 pub returns-in_err-note_in-clause-stood : goal.returns-in_err-note_in-clause-stood
-unfolding output_stood
-returns-in_err-note_in-clause-stood c = stood-or-kept output_back c.from_residual-in_err-note_in.result 2 _ _ _ _ (returns-in_err-note_in-clause-trail c)
+returns-in_err-note_in-clause-stood c = stood_after c.from_residual-in_err-note_in.result 2 _ _ (returns-in_err-note_in-clause-trail c)
 
 pub returns-in_err-note_in-clause-spare : goal.returns-in_err-note_in-clause-spare
-unfolding output_spare
-returns-in_err-note_in-clause-spare c = spare-or-kept output_back c.from_residual-in_err-note_in.result 2 _ _ _ _ (returns-in_err-note_in-clause-trail c)
+returns-in_err-note_in-clause-spare c = spare_after c.from_residual-in_err-note_in.result 2 _ _ (returns-in_err-note_in-clause-trail c)
 
 pub returns-clause-trail : goal.returns-clause-trail
 returns-clause-trail c =
     let s = c.self.inside in
-    let lent : c.deref_mut.result.now ≡ s.sections.items = c.deref_mut.ensures.value in
-    let whole = refilled s.sections.items c.note_in.new.sections s.sections.len (sym s.sections.ok.0) (c.note_in.auto.sections ∙ ap (λ (sections : List Section). length sections) lent) in
+    let whole = refilled s.sections.items c.deref_mut.result.now c.note_in.new.sections s.sections.len s.sections.ok.0 c.deref_mut.ensures.value c.note_in.auto.sections in
     rw (← c.self.view_is, whole)
-    (trails-trails output_back 1 1 _ (page_of c.note_in.new.line c.note_in.new.sections s.next_enter) _ _ c.note_in.new.trail _ (rw lent at (c.in_ok-note_in.ensures.trail s.next_enter))
+    (trails-trails output_back 1 1 _ (page_of c.note_in.new.line c.note_in.new.sections s.next_enter) _ _ c.note_in.new.trail _ (rw c.deref_mut.ensures.value at (c.in_ok-note_in.ensures.trail s.next_enter))
     (trails-one output_back (Numbered s.next_enter) 1 _ _ _ _ (omega arith) refl c.note_number.ensures.undo c.note_number.ensures.room))
 
 pub returns-clause-stood : goal.returns-clause-stood

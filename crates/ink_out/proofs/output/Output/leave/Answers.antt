@@ -1,11 +1,8 @@
-use Rattle.ink_out.specs.Undo.{output_back, output_spare, output_stood}
+use Rattle.ink_out.proofs.Marks.{spare_after, stood_after}
 use Rattle.ink_out.proofs.output.Output.leave.Goals as goal
-use Rattle.ink_trail.proofs.Undoing.{spare-or-kept, stood-or-kept}
 
 pub returns-clause-stood : goal.returns-clause-stood
-unfolding output_stood
-returns-clause-stood c = stood-or-kept output_back c.note.result 1 _ _ _ _ c.note.ensures.trail
+returns-clause-stood c = stood_after c.note.result 1 _ _ c.note.ensures.trail
 
 pub returns-clause-spare : goal.returns-clause-spare
-unfolding output_spare
-returns-clause-spare c = spare-or-kept output_back c.note.result 1 _ _ _ _ c.note.ensures.trail
+returns-clause-spare c = spare_after c.note.result 1 _ _ c.note.ensures.trail

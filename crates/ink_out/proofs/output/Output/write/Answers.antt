@@ -1,7 +1,6 @@
-use Rattle.std.proofs.Common.{◌<◌, ◌^◌, [], refl, arith, rules, w32, ℤ}
-use Rattle.std.proofs.lemmas.Int.{ints, to_z-of_z}
+use Rattle.std.proofs.Common.{[], refl, rules, w32}
+use Rattle.std.proofs.lemmas.Int.{to_z-of_z}
 use Rattle.std.specs.Prelude.{FitsSigned}
-use lib.Signed.{mag}
 use Rattle.ink_model.specs.Mark.{cut}
 use Rattle.ink_model.specs.Value.{printed}
 use Rattle.ink_out.proofs.Noting.{empty_text}
@@ -20,33 +19,24 @@ returns-in-Void-clause-text c = rw c.in-Void.is refl
 
 -- ---- a number
 
-small : (z : ℤ) → FitsSigned w32 z → mag z < 2 ^ 63
-small z fits = omega (arith, ints)
-
 pub returns-in-Int-clause-page : goal.returns-in-Int-clause-page
 unfolding printed
 returns-in-Int-clause-page c =
     let n = c.in-Int.number in
     let range : FitsSigned w32 n = search rules in
-    rw (c.in-Int.is, number_cut n (small n range)) (rw (to_z-of_z w32 n range) at c.note_words.ensures.page)
+    rw (c.in-Int.is, number_cut n range) (rw (to_z-of_z w32 n range) at c.note_words.ensures.page)
 
 pub returns-in-Int-clause-text : goal.returns-in-Int-clause-text
 unfolding printed
-returns-in-Int-clause-text c =
-    let n = c.in-Int.number in
-    rw (c.in-Int.is, number_cut n (small n (search rules))) c.note_words.ensures.text
+returns-in-Int-clause-text c = rw (c.in-Int.is, number_cut c.in-Int.number (search rules)) c.note_words.ensures.text
 
 pub returns-in-Int-clause-trail : goal.returns-in-Int-clause-trail
 unfolding printed
-returns-in-Int-clause-trail c =
-    let n = c.in-Int.number in
-    rw (c.in-Int.is, number_cut n (small n (search rules))) c.note_words.ensures.trail
+returns-in-Int-clause-trail c = rw (c.in-Int.is, number_cut c.in-Int.number (search rules)) c.note_words.ensures.trail
 
 pub returns-in-Int-clause-spare : goal.returns-in-Int-clause-spare
 unfolding printed
-returns-in-Int-clause-spare c =
-    let n = c.in-Int.number in
-    rw (c.in-Int.is, number_cut n (small n (search rules))) c.note_words.ensures.spare
+returns-in-Int-clause-spare c = rw (c.in-Int.is, number_cut c.in-Int.number (search rules)) c.note_words.ensures.spare
 
 -- ---- a truth value
 

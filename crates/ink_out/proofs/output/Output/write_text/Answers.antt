@@ -1,15 +1,13 @@
-use Rattle.std.proofs.Common.{◌≡◌, ◌≢◌, ℕ, true, false, not, cond, List, [], ◌∷◌, length, refl, sym, ap, ◌∙◌, arith, rules}
+use Rattle.std.proofs.Common.{◌≡◌, ◌≢◌, ℕ, true, false, not, cond, List, [], ◌∷◌, length, refl, arith, rules}
 use Rattle.std.specs.List.{list_any}
 use Rattle.std.proofs.lemmas.List.{nil_from_length}
 use Rattle.ink_model.specs.Bytes.{is_blank}
 use Rattle.ink_model.specs.Mark.{cut, piece}
 use Rattle.ink_model.specs.declared.mark.Mark.TheVariants.{Blank, Text}
-use Rattle.ink_model.specs.Configuration.{Section}
-use Rattle.ink_out.specs.Undo.{output_back, output_spare, output_stood}
 use Rattle.ink_out.proofs.Closing.{refilled}
 use Rattle.ink_out.proofs.Noting.{empty_text, whole_cut, let_through-piece}
+use Rattle.ink_out.proofs.Marks.{spare_after, stood_after}
 use Rattle.ink_out.proofs.output.Output.write_text.Goals as goal
-use Rattle.ink_trail.proofs.Undoing.{spare-or-kept, stood-or-kept}
 
 pub returns-then-is_empty-clause-page : goal.returns-then-is_empty-clause-page
 returns-then-is_empty-clause-page c =
@@ -26,9 +24,8 @@ returns-then-is_empty-clause-text c =
 pub returns-else-is_cut-clause-page : goal.returns-else-is_cut-clause-page
 returns-else-is_cut-clause-page c =
     let s = c.self.inside in
-    let lent : c.deref_mut-else-is_cut.result.now ≡ s.sections.items = c.deref_mut-else-is_cut.ensures.value in
-    let kept = refilled s.sections.items c.note_piece.new.sections s.sections.len (sym s.sections.ok.0) (c.note_piece.auto.sections ∙ ap (λ (sections : List Section). length sections) lent) in
-    let page = rw lent at (c.note_piece.ensures.page s.next_enter) in
+    let kept = refilled s.sections.items c.deref_mut-else-is_cut.result.now c.note_piece.new.sections s.sections.len s.sections.ok.0 c.deref_mut-else-is_cut.ensures.value c.note_piece.auto.sections in
+    let page = rw c.deref_mut-else-is_cut.ensures.value at (c.note_piece.ensures.page s.next_enter) in
     rw (← c.self.view_is, whole_cut c.args.text.now (search rules), let_through-piece c.args.fresh c.args.text.now, kept) page
 
 pub returns-else-is_cut-clause-text : goal.returns-else-is_cut-clause-text
@@ -37,17 +34,14 @@ returns-else-is_cut-clause-text c = rw (whole_cut c.args.text.now (search rules)
 pub returns-then-is_cut-clause-trail : goal.returns-then-is_cut-clause-trail
 returns-then-is_cut-clause-trail c =
     let s = c.self.inside in
-    let lent : c.deref_mut.result.now ≡ s.sections.items = c.deref_mut.ensures.value in
-    let kept = refilled s.sections.items c.note_cut.new.sections s.sections.len (sym s.sections.ok.0) (c.note_cut.auto.sections ∙ ap (λ (sections : List Section). length sections) lent) in
-    rw (← c.self.view_is, kept) (rw lent at (c.note_cut.ensures.trail s.next_enter))
+    let kept = refilled s.sections.items c.deref_mut.result.now c.note_cut.new.sections s.sections.len s.sections.ok.0 c.deref_mut.ensures.value c.note_cut.auto.sections in
+    rw (← c.self.view_is, kept) (rw c.deref_mut.ensures.value at (c.note_cut.ensures.trail s.next_enter))
 
 pub returns-then-is_cut-clause-stood : goal.returns-then-is_cut-clause-stood
-unfolding output_stood
-returns-then-is_cut-clause-stood c = stood-or-kept output_back c.note_cut.result _ _ _ _ _ (returns-then-is_cut-clause-trail c)
+returns-then-is_cut-clause-stood c = stood_after c.note_cut.result _ _ _ (returns-then-is_cut-clause-trail c)
 
 pub returns-then-is_cut-clause-spare : goal.returns-then-is_cut-clause-spare
-unfolding output_spare
-returns-then-is_cut-clause-spare c = spare-or-kept output_back c.note_cut.result _ _ _ _ _ (returns-then-is_cut-clause-trail c)
+returns-then-is_cut-clause-spare c = spare_after c.note_cut.result _ _ _ (returns-then-is_cut-clause-trail c)
 
 one_piece : (cs : List ℕ) → cs ≢ [] → 1 ≡ length (piece cs)
 one_piece [] some = absurd (some refl)
@@ -57,15 +51,12 @@ one_piece (c ∷ cs) some =
 pub returns-else-is_cut-clause-trail : goal.returns-else-is_cut-clause-trail
 returns-else-is_cut-clause-trail c =
     let s = c.self.inside in
-    let lent : c.deref_mut-else-is_cut.result.now ≡ s.sections.items = c.deref_mut-else-is_cut.ensures.value in
-    let kept = refilled s.sections.items c.note_piece.new.sections s.sections.len (sym s.sections.ok.0) (c.note_piece.auto.sections ∙ ap (λ (sections : List Section). length sections) lent) in
-    let trail = rw lent at (c.note_piece.ensures.trail s.next_enter) in
+    let kept = refilled s.sections.items c.deref_mut-else-is_cut.result.now c.note_piece.new.sections s.sections.len s.sections.ok.0 c.deref_mut-else-is_cut.ensures.value c.note_piece.auto.sections in
+    let trail = rw c.deref_mut-else-is_cut.ensures.value at (c.note_piece.ensures.trail s.next_enter) in
     rw (← c.self.view_is, whole_cut c.args.text.now (search rules), let_through-piece c.args.fresh c.args.text.now, ← one_piece c.args.text.now (search rules), kept) trail
 
 pub returns-else-is_cut-clause-stood : goal.returns-else-is_cut-clause-stood
-unfolding output_stood
-returns-else-is_cut-clause-stood c = stood-or-kept output_back c.note_piece.result _ _ _ _ _ (returns-else-is_cut-clause-trail c)
+returns-else-is_cut-clause-stood c = stood_after c.note_piece.result _ _ _ (returns-else-is_cut-clause-trail c)
 
 pub returns-else-is_cut-clause-spare : goal.returns-else-is_cut-clause-spare
-unfolding output_spare
-returns-else-is_cut-clause-spare c = spare-or-kept output_back c.note_piece.result _ _ _ _ _ (returns-else-is_cut-clause-trail c)
+returns-else-is_cut-clause-spare c = spare_after c.note_piece.result _ _ _ (returns-else-is_cut-clause-trail c)

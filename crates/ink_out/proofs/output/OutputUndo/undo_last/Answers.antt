@@ -1,5 +1,4 @@
-use Rattle.std.proofs.Common.{◌≡◌, ◌∙◌, ◌∷◌, List, ap, drop, length, subst, sym}
-use Rattle.ink_model.specs.Configuration.{Section}
+use Rattle.std.proofs.Common.{◌≡◌, ◌∙◌, ◌∷◌, ap, drop, subst, sym}
 use Rattle.ink_out.specs.Undo.{GoesBack, output_back}
 use Rattle.ink_out.specs.Writing.{page_of}
 use Rattle.ink_out.specs.declared.undo.OutputPair.TheVariants.{Wrote}
@@ -17,9 +16,8 @@ invariant_of-self c =
     c.in-Some-Wrote.ensures ∙ ap (λ p. p ∷ drop 1 (trail_of o.trail.undo)) c.in-Some-Wrote.field-0-is ∙ ap (λ es. pair ∷ es) (sym c.drop_last.ensures.pairs) in
     let page = page_of o.line o.sections.items o.next_enter in
     let back = subst (λ es. GoesBack o.sections.cap es page) last c.self.invariant.1 in
-    let lent : c.deref_mut.result.now ≡ o.sections.items = c.deref_mut.ensures.value in
-    let kept = refilled o.sections.items c.unwrite.new.sections o.sections.len (sym o.sections.ok.0) (c.unwrite.auto.sections ∙ ap (λ (ss : List Section). length ss) lent) in
-    let is : page_of c.unwrite.new.line c.unwrite.new.sections o.next_enter ≡ output_back pair page = rw lent at (c.unwrite.ensures o.next_enter) in
+    let kept = refilled o.sections.items c.deref_mut.result.now c.unwrite.new.sections o.sections.len o.sections.ok.0 c.deref_mut.ensures.value c.unwrite.auto.sections in
+    let is : page_of c.unwrite.new.line c.unwrite.new.sections o.next_enter ≡ output_back pair page = rw c.deref_mut.ensures.value at (c.unwrite.ensures o.next_enter) in
     let goes = subst (λ p. GoesBack o.sections.cap left p) (sym is) back.2 in
     rw kept ((goes-now o.sections.cap left (page_of c.unwrite.new.line c.unwrite.new.sections o.next_enter) goes).0, goes)
 
@@ -29,6 +27,5 @@ returns-in-Some-Wrote-clause-cells c =
     let pair = Wrote c.in-Some-Wrote.state in
     let last : trail_of o.trail.undo ≡ pair ∷ trail_of c.drop_last.new.self.undo =
     c.in-Some-Wrote.ensures ∙ ap (λ p. p ∷ drop 1 (trail_of o.trail.undo)) c.in-Some-Wrote.field-0-is ∙ ap (λ es. pair ∷ es) (sym c.drop_last.ensures.pairs) in
-    let lent : c.deref_mut.result.now ≡ o.sections.items = c.deref_mut.ensures.value in
-    let kept = refilled o.sections.items c.unwrite.new.sections o.sections.len (sym o.sections.ok.0) (c.unwrite.auto.sections ∙ ap (λ (ss : List Section). length ss) lent) in
-    rw (← c.self.view_is, kept) (pair, last, rw lent at (c.unwrite.ensures o.next_enter), c.drop_last.ensures.room)
+    let kept = refilled o.sections.items c.deref_mut.result.now c.unwrite.new.sections o.sections.len o.sections.ok.0 c.deref_mut.ensures.value c.unwrite.auto.sections in
+    rw (← c.self.view_is, kept) (pair, last, rw c.deref_mut.ensures.value at (c.unwrite.ensures o.next_enter), c.drop_last.ensures.room)

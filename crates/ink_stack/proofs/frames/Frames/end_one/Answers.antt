@@ -5,11 +5,7 @@ use Rattle.ink_stack.proofs.Flat.{framed_at, framed_length, header_changed}
 use Rattle.ink_stack.proofs.frames.Frames.end_one.Goals as goal
 
 pub index_mut-requires : goal.index_mut-requires
-index_mut-requires g c =
-    let hs = c.self.inside.headers.items in
-    let ts = c.self.inside.temps.items in
-    let inside : c.args.index < length hs = omega (arith, c.requires, ap (λ v. length v.items) c.self.view_is, framed_length hs ts) in
-    omega (arith, inside, c.self.inside.headers.ok.0)
+index_mut-requires g c = omega (arith, c.requires, ap (λ v. length v.items) c.self.view_is, framed_length c.self.inside.headers.items c.self.inside.temps.items, c.self.inside.headers.ok.0)
 
 pub returns-clause-items : goal.returns-clause-items
 returns-clause-items g c = λ d.

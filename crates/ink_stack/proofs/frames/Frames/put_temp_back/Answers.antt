@@ -1,8 +1,9 @@
-use Rattle.std.proofs.Common.{◌≡◌, ◌∙◌, ◌<◌, ap, arith, get_or, length, set, sym, false, nat_lt}
+use Rattle.std.proofs.Common.{◌≡◌, ◌∙◌, ◌<◌, [], ap, arith, get_or, length, set, sym, false, nat_lt}
 use Rattle.std.proofs.lemmas.Bool.Decides.{nat_tests}
+use Rattle.std.proofs.lemmas.List.{get_or_default}
 use Rattle.ink_stack.specs.Cells.{temps_back}
 use Rattle.ink_stack.specs.Frames.{framed}
-use Rattle.ink_stack.proofs.Flat.{bare_back, framed_length, rows_past, same_rows, temps_at, temps_set}
+use Rattle.ink_stack.proofs.Flat.{bare_back, framed_length, rows_past, temps_at, temps_set}
 use Rattle.ink_stack.proofs.frames.Frames.put_temp_back.Goals as goal
 
 pub returns-then-index-len-clause-items : goal.returns-then-index-len-clause-items
@@ -12,7 +13,7 @@ returns-then-index-len-clause-items g c = λ d.
     let i = c.args.index in
     let inside : c.args.index < length hs = omega (arith, c.requires, ap (λ v. length v.items) c.self.view_is, framed_length hs ts) in
     let few : c.args.index < length ts = omega (arith, c.if-index-len.true, c.self.inside.temps.ok.0) in
-    let rows = c.put_back.ensures ∙ ap (temps_back c.args.row c.args.was) (c.index_mut.ensures.value ∙ sym (same_rows ts i c.index_mut.result.now few) ∙ sym (temps_at hs ts i d inside)) in
+    let rows = c.put_back.ensures ∙ ap (temps_back c.args.row c.args.was) (c.index_mut.ensures.value ∙ sym (get_or_default ts i [] c.index_mut.result.now few) ∙ sym (temps_at hs ts i d inside)) in
     rw (← c.self.view_is) (temps_set hs ts i c.put_back.new.self d few c.self.invariant ∙ ap (λ r. set (framed hs ts) i (record (get_or (framed hs ts) i d) { temps = r })) rows)
 
 pub returns-else-index-len-clause-items : goal.returns-else-index-len-clause-items

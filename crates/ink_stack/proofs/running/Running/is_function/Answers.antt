@@ -1,18 +1,18 @@
 use Rattle.std.proofs.Common.{◌≡◌, ◌∙◌, ◌∷◌, ◌<◌, ◌≤◌, ap, arith, length, sym}
 use Rattle.std.proofs.lemmas.List.{length-reverse}
-use Rattle.ink_model.specs.Frames.{frame_numbered, is_function}
+use Rattle.ink_model.specs.Frames.{is_function}
 use Rattle.ink_stack.specs.Cells.{holds_of}
-use Rattle.ink_stack.proofs.Numbers.{none_numbered, none_zero, numbered_below}
+use Rattle.ink_stack.proofs.Numbers.{none_numbered, numbered_below}
 use Rattle.ink_stack.proofs.running.Running.is_function.Goals.{then-number-eq0-via-then-number-eq0, then-number-eq0-via-else-number-eq0+then-number-frames-2}
 use Rattle.ink_stack.proofs.running.Running.is_function.Goals as goal
 
 pub returns-then-number-eq0 : goal.returns-then-number-eq0
 returns-then-number-eq0 g c =
     let frames = c.args.self.now.thread.frame ∷ c.args.self.now.thread.below in
-    elim c.then-number-eq0.branch [
-      | then-number-eq0-via-then-number-eq0 w ↦ sym (ap (λ f. holds_of (λ h. is_function h.kind) f) (ap (λ n. frame_numbered n frames) w.if-number-eq0.true ∙ none_zero frames))
-      | then-number-eq0-via-else-number-eq0+then-number-frames-2 w ↦ sym (ap (λ f. holds_of (λ h. is_function h.kind) f) (none_numbered frames c.args.number (omega arith)))
-    ]
+    sym (ap (λ f. holds_of (λ h. is_function h.kind) f) (none_numbered frames c.args.number (elim c.then-number-eq0.branch [
+      | then-number-eq0-via-then-number-eq0 w ↦ λ k less. omega arith
+      | then-number-eq0-via-else-number-eq0+then-number-frames-2 w ↦ λ k less. omega arith
+    ])))
 
 pub returns : goal.returns
 returns g c =

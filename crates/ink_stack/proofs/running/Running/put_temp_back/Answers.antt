@@ -2,7 +2,7 @@ use Rattle.std.proofs.Common.{◌≡◌, ◌+◌, ◌≤◌, ◌-◌, ap, arith,
 use Rattle.std.proofs.lemmas.List.{length-reverse}
 use Rattle.ink_model.specs.Threads.{frame_count}
 use Rattle.ink_stack.specs.Cells.{temp_back}
-use Rattle.ink_stack.proofs.Framing.{base_set, framed_below, framed_past, framed_zero}
+use Rattle.ink_stack.proofs.Framing.{base_set, framed_below, framed_none}
 use Rattle.ink_stack.proofs.Numbers.{quiet_set}
 use Rattle.ink_stack.proofs.Unnumbered.{unnumbered_set}
 use Rattle.ink_stack.proofs.running.Running.put_temp_back.Goals.{else-number-gt0-via-then-number-gt0+else-number-len-2, else-number-gt0-via-else-number-gt0}
@@ -35,8 +35,7 @@ pub returns-else-number-gt0 : goal.returns-else-number-gt0
 returns-else-number-gt0 g c =
     let t = c.args.self.now.thread in
     let count : frame_count t ≡ length c.self.inside.below.items + 1 = omega (arith, length-reverse c.self.inside.below.items, ap (λ v. length v.thread.below) c.self.view_is) in
-    ap (λ t. record { thread = t; room = c.args.self.now.room })
-    (elim c.else-number-gt0.branch [
-      | else-number-gt0-via-then-number-gt0+else-number-len-2 w ↦ framed_past (temp_back c.args.index c.args.was) c.args.number t (omega (arith, count))
-      | else-number-gt0-via-else-number-gt0 w ↦ framed_zero (temp_back c.args.index c.args.was) c.args.number t (omega arith)
-    ])
+    ap (λ t. record { thread = t; room = c.args.self.now.room }) (framed_none (temp_back c.args.index c.args.was) c.args.number t (elim c.else-number-gt0.branch [
+      | else-number-gt0-via-then-number-gt0+else-number-len-2 w ↦ λ k less. omega (arith, count)
+      | else-number-gt0-via-else-number-gt0 w ↦ λ k less. omega arith
+    ]))

@@ -1,12 +1,12 @@
-use Rattle.std.proofs.Common.{◌≡◌, ◌∙◌, ◌<◌, ◌≤◌, ◌-◌, IfOk, IfSome, OnOk, ap, arith, get_or, length, length-set, reverse, subst, sym}
+use Rattle.std.proofs.Common.{◌≡◌, ◌∙◌, ◌<◌, ◌≤◌, ◌-◌, IfOk, IfSome, OnOk, ap, arith, get_or, length, length-set, refl, reverse, subst, sym}
 use Rattle.std.proofs.lemmas.List.{length-reverse}
 use Rattle.std.proofs.lemmas.Result.{IfOk-weaker}
 use Rattle.ink_stack.specs.Cells.{temp_back, with_frame}
 use Rattle.ink_stack.specs.Temps.{text_of}
-use Rattle.ink_stack.proofs.Bases.{depth_along, fresh_along, kind_along, base_same}
+use Rattle.ink_stack.proofs.Bases.{base_same, same_along}
 use Rattle.ink_stack.proofs.Framing.{base_set, unframed_below}
 use Rattle.ink_stack.proofs.Numbers.{memory_along, quiet_set, row_kept, row_made, set_either, temp_along}
-use Rattle.ink_stack.proofs.Unnumbered.{number_along, unnumbered_set}
+use Rattle.ink_stack.proofs.Unnumbered.{unnumbered_set}
 use Rattle.ink_stack.proofs.Tops.{back_top, memory_top, temp_top}
 use Rattle.ink_model.specs.Frames.{ThreadOf}
 use Rattle.ink_model.specs.Bases.{BaseFirst}
@@ -28,10 +28,10 @@ invariant_of-self-2 g c =
     let f = get_or now i d in
     let made = row_made c.set_temp-2.result items now i d inside name c.args.value (c.set_temp-2.ensures.ok d) in
     let kept = row_kept c.set_temp-2.result items now i d inside c.set_temp-2.ensures.err in
-    let kind = kind_along c.set_temp-2.result name c.args.value was f made kept in
-    let fresh = fresh_along c.set_temp-2.result name c.args.value was f made kept in
-    let depth = depth_along c.set_temp-2.result name c.args.value was f made kept in
-    let number = number_along c.set_temp-2.result name c.args.value was f made kept in (
+    let kind = same_along (λ h. h.kind) (λ h rows. refl) c.set_temp-2.result name c.args.value was f made kept in
+    let fresh = same_along (λ h. h.fresh) (λ h rows. refl) c.set_temp-2.result name c.args.value was f made kept in
+    let depth = same_along (λ h. h.depth) (λ h rows. refl) c.set_temp-2.result name c.args.value was f made kept in
+    let number = same_along (λ h. h.enter) (λ h rows. refl) c.set_temp-2.result name c.args.value was f made kept in (
       omega (arith, ap length is ∙ length-set items i f, c.self.invariant.0),
       subst (λ fs. IfSome c.self.inside.quiet (λ n. IsQuiet n (reverse fs))) (sym is) (quiet_set items c.args.number d f c.self.inside.quiet c.requires.from within kind fresh depth c.self.invariant.1),
       subst (λ fs. BaseFirst d.kind (reverse fs)) (sym is) (base_set d.kind items c.args.number d f c.requires.from within kind c.self.invariant.2),
@@ -80,7 +80,7 @@ returns-clause-back g c =
 pub invariant_of-self : goal.invariant_of-self
 invariant_of-self g c =
     let now = c.set_temp.new.self in
-    let kind = kind_along c.set_temp.result (text_of c.args.name) c.args.value c.self.inside.frame now c.set_temp.ensures.ok c.set_temp.ensures.err in
+    let kind = same_along (λ h. h.kind) (λ h rows. refl) c.set_temp.result (text_of c.args.name) c.args.value c.self.inside.frame now c.set_temp.ensures.ok c.set_temp.ensures.err in
     (c.self.invariant.0, c.self.invariant.1, base_same c.self.inside.frame.kind now.kind (reverse c.self.inside.below.items) kind c.self.invariant.2, c.self.invariant.3)
 
 pub returns-then-number-frames-clause-ok : goal.returns-then-number-frames-clause-ok

@@ -1,8 +1,7 @@
 use Rattle.std.proofs.Common.{◌≡◌, ◌∙◌, ◌∷◌, ◌<◌, ◌≤◌, ap, arith, length, option_and_then, refl, reverse, sym}
 use Rattle.std.proofs.lemmas.List.{length-reverse}
-use Rattle.ink_model.specs.Frames.{frame_numbered}
 use Rattle.ink_model.specs.Rows.{name_order, row}
-use Rattle.ink_stack.proofs.Numbers.{none_numbered, none_zero, temp_below}
+use Rattle.ink_stack.proofs.Numbers.{none_numbered, temp_below}
 use Rattle.ink_stack.proofs.running.Running.temp.Goals.{then-number-eq0-via-then-number-eq0, then-number-eq0-via-else-number-eq0+then-number-frames-2}
 use Rattle.ink_stack.proofs.running.Running.temp.Goals as goal
 
@@ -10,10 +9,10 @@ pub returns-then-number-eq0 : goal.returns-then-number-eq0
 returns-then-number-eq0 g c =
     let frames = c.args.self.now.thread.frame ∷ c.args.self.now.thread.below in
     let name = c.args.name.now in
-    elim c.then-number-eq0.branch [
-      | then-number-eq0-via-then-number-eq0 w ↦ sym (ap (λ f. option_and_then (λ h. row name_order name h.temps) f) (ap (λ n. frame_numbered n frames) w.if-number-eq0.true ∙ none_zero frames))
-      | then-number-eq0-via-else-number-eq0+then-number-frames-2 w ↦ sym (ap (λ f. option_and_then (λ h. row name_order name h.temps) f) (none_numbered frames c.args.number (omega arith)))
-    ]
+    sym (ap (λ f. option_and_then (λ h. row name_order name h.temps) f) (none_numbered frames c.args.number (elim c.then-number-eq0.branch [
+      | then-number-eq0-via-then-number-eq0 w ↦ λ k less. omega arith
+      | then-number-eq0-via-else-number-eq0+then-number-frames-2 w ↦ λ k less. omega arith
+    ])))
 
 pub returns : goal.returns
 returns g c =

@@ -1,9 +1,9 @@
-use Rattle.std.proofs.Common.{◌≡◌, ◌∙◌, ap, arith, false, is_some, length, map, refl, vec_capacity, vec_len}
+use Rattle.std.proofs.Common.{◌≡◌, ◌∙◌, ap, arith, false, is_some, length, map, refl, vec_len}
 use Rattle.std.proofs.lemmas.List.{length-map, length-reverse, with_items_is}
 use Rattle.ink_model.specs.Frames.{unnumbered_thread}
 use Rattle.ink_trail.specs.Undo.{trail_of}
 use Rattle.ink_stack.specs.Running.{threads_in}
-use Rattle.ink_stack.specs.Undo.{Rooms, threads_spare}
+use Rattle.ink_stack.specs.Undo.{threads_spare}
 use Rattle.ink_stack.proofs.Backs.{stood-unmarked, unmarked-stood}
 use Rattle.ink_stack.proofs.Holding.{held-now, held-unmarked}
 use Rattle.ink_stack.proofs.Reversing.{map-reverse}
@@ -20,18 +20,15 @@ kept g c = c.clear_numbers_of.auto.threads ∙ c.as_mut_slice.ensures.len
 pub invariant_of-self : goal.invariant_of-self
 invariant_of-self g c =
     let items = c.self.inside.below.items in
-    let many = length-map items unnumbered_thread in
-    let r : Rooms = record { frames = c.self.inside.running.room; threads = vec_capacity c.self.inside.below } in
-    let s : Rooms = record { frames = c.clear_numbers.new.self.room; threads = vec_capacity c.self.inside.below } in
-    let now = held-now r (trail_of c.self.inside.trail.undo) (threads_in c.self.inside.running items) c.self.invariant.1 in
+    let now = held-now _ (trail_of c.self.inside.trail.undo) _ c.self.invariant.1 in
     let none : is_some c.self.inside.trail.undo ≡ false = ap (λ v. is_some v.trail.undo) c.self.view_is ∙ unmarked-stood c.args.self.now c.requires.unmarked in
     let at = (goal.at.invariant_of-self g c).After-clear_numbers_of in
     rw (with_items_is c.self.inside.below c.clear_numbers_of.new.threads (kept g at), changed g at) (
       rw length-map c.self.invariant.0,
-      held-unmarked c.self.inside.trail.undo s (threads_in c.clear_numbers.new.self (map unnumbered_thread items)) none (record {
+      held-unmarked c.self.inside.trail.undo _ (threads_in c.clear_numbers.new.self (map unnumbered_thread items)) none (record {
         thread = c.within.ensures;
-        few = omega (arith, many, length-reverse (map unnumbered_thread items), c.self.invariant.0);
-        fit = omega (arith, many, length-reverse (map unnumbered_thread items), length-reverse items, now.fit);
+        few = omega (arith, length-map items unnumbered_thread, length-reverse (map unnumbered_thread items), c.self.invariant.0);
+        fit = omega (arith, length-map items unnumbered_thread, length-reverse (map unnumbered_thread items), length-reverse items, now.fit);
       }),
     )
 

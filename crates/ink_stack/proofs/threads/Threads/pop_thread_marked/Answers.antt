@@ -1,11 +1,11 @@
-use Rattle.std.proofs.Common.{[], ap, arith, length, option_to_list, refl, sym, vec_capacity, ◌++◌, ◌+◌, ◌∙◌, ◌∷◌, ◌≡◌, ◌≤◌, subst}
-use Rattle.std.proofs.lemmas.List.{append-nil, length-append}
-use Rattle.ink_trail.proofs.Undoing.{trails-one, trails-kept}
+use Rattle.std.proofs.Common.{ap, arith, length, option_to_list, refl, sym, ◌++◌, ◌∙◌, ◌≡◌, ◌≤◌, vec_capacity}
+use Rattle.std.proofs.lemmas.List.{append-nil, length-reverse}
+use Rattle.ink_trail.proofs.Undoing.{trails-kept, trails-one}
 use Rattle.ink_trail.specs.Undo.{trail_of}
 use Rattle.ink_stack.specs.Running.{threads_in}
-use Rattle.ink_stack.specs.Undo.{Rooms, threads_back, threads_spare}
+use Rattle.ink_stack.specs.Undo.{threads_back}
 use Rattle.ink_stack.specs.declared.undo.ThreadsPair.TheVariants.{ThreadPopped}
-use Rattle.ink_stack.proofs.Backs.{spare-of, stood-of, thread-popped-back}
+use Rattle.ink_stack.proofs.Backs.{room-of, spare-of, stood-of, thread-popped-back}
 use Rattle.ink_stack.proofs.Holding.{held-as, held-next, held-now, held-with, room-refl, room-same}
 use Rattle.ink_stack.proofs.threads.Threads.pop_thread_marked.Given.{Over}
 use Rattle.ink_stack.proofs.threads.Threads.pop_thread_marked.Goals.{After-note}
@@ -20,20 +20,15 @@ back g c =
 
 pub invariant_of-self-2 : goal.invariant_of-self-2
 invariant_of-self-2 g c =
-    let items = c.self.inside.below.items in
     let rest = c.pop.new.self.items in
-    let r : Rooms = record { frames = c.self.inside.running.room; threads = vec_capacity c.self.inside.below } in
-    let now = held-now r (trail_of c.self.inside.trail.undo) (threads_in c.self.inside.running items) c.self.invariant.1 in
-    let whole = c.in-Some.ensures.items in
-    let fewer : length items ≡ length rest + 1 = ap length whole ∙ length-append rest (c.in-Some.next ∷ []) in
+    let now = held-now _ (trail_of c.self.inside.trail.undo) _ c.self.invariant.1 in
     let more : vec_capacity c.self.inside.below ≤ vec_capacity c.pop.new.self = omega (arith, c.pop.ensures.capacity) in
-    let held = held-next r c.self.inside.running c.run.result c.in-Some.next rest items (vec_capacity c.pop.new.self) whole c.run.ensures.within more now in
-    let s : Rooms = record { frames = c.run.result.room; threads = vec_capacity c.pop.new.self } in
+    let held = held-next _ c.self.inside.running c.run.result c.in-Some.next rest c.self.inside.below.items (vec_capacity c.pop.new.self) c.in-Some.ensures.items c.run.ensures.within more now in
     let frames = room-same c.self.inside.running.room c.replace-top.result.room (ap (λ v. v.room) c.replace-top.ensures.value) in
     rw (c.note.ensures.undo, c.replace-top.ensures.after) (
-      omega (arith, fewer, c.self.invariant.0),
-      held-with (ThreadPopped c.replace-top.result) 1 (threads_in c.self.inside.running items) (threads_in c.run.result rest) c.self.inside.trail.undo r s
-          (back g (goal.at.invariant_of-self-2 g c).After-note) held (record { frames = frames; threads = more }) c.self.invariant.1,
+      omega (arith, held.few, length-reverse rest),
+      held-with (ThreadPopped c.replace-top.result) 1 _ (threads_in c.run.result rest) c.self.inside.trail.undo _ _ (back g (goal.at.invariant_of-self-2 g c).After-note) held
+          (record { frames = frames; threads = more }) c.self.invariant.1,
     )
 
 pub returns-clause-trail : goal.returns-clause-trail
@@ -50,15 +45,11 @@ returns-clause-spare g c = spare-of 1 _ _ (returns-clause-trail g c)
 
 pub invariant_of-self : goal.invariant_of-self
 invariant_of-self g c =
-    let items = c.self.inside.below.items in
-    let rest = c.pop.new.self.items in
     let u = c.self.inside.trail.undo in
-    let r : Rooms = record { frames = c.self.inside.running.room; threads = vec_capacity c.self.inside.below } in
-    let s : Rooms = record { frames = c.self.inside.running.room; threads = vec_capacity c.pop.new.self } in
-    let same : rest ≡ items = sym (c.pop.ensures.items ∙ ap (λ o. rest ++ option_to_list o) c.in_default.is ∙ append-nil rest) in (
+    let rest = c.pop.new.self.items in
+    let same : rest ≡ c.self.inside.below.items = sym (c.pop.ensures.items ∙ ap (λ o. rest ++ option_to_list o) c.in_default.is ∙ append-nil rest) in (
       omega (arith, ap length same, c.self.invariant.0),
-      held-as u u r s (threads_in c.self.inside.running items) (threads_in c.self.inside.running rest) refl (ap (threads_in c.self.inside.running) same)
-          (record { frames = room-refl _; threads = omega (arith, c.pop.ensures.capacity) }) c.self.invariant.1,
+      held-as u u _ _ _ _ refl (ap (threads_in c.self.inside.running) same) (record { frames = room-refl _; threads = omega (arith, c.pop.ensures.capacity) }) c.self.invariant.1,
     )
 
 pub returns-in_default-clause-trail : goal.returns-in_default-clause-trail
@@ -74,5 +65,4 @@ pub returns-in_default-clause-spare : goal.returns-in_default-clause-spare
 returns-in_default-clause-spare g c = spare-of 1 _ _ (returns-in_default-clause-trail g c)
 
 pub note-requires-clause-spare : goal.note-requires-clause-spare
-unfolding threads_spare
-note-requires-clause-spare g c = subst (λ v. 1 ≤ threads_spare v) (sym c.self.view_is) c.requires.room
+note-requires-clause-spare g c = room-of 1 _ _ c.self.view_is c.requires.room

@@ -1,26 +1,16 @@
-use Rattle.std.proofs.Common.{◌∙◌, arith, refl, reverse, sym, vec_capacity}
-use Rattle.ink_model.specs.Frames.{put_in}
-use Rattle.ink_trail.proofs.Undoing.{trails-unmarked}
-use Rattle.ink_stack.specs.Undo.{Rooms, threads_back}
+use Rattle.std.proofs.Common.{◌∙◌, ap, refl, sym}
+use Rattle.ink_stack.specs.Running.{threads_in}
 use Rattle.ink_stack.proofs.Backs.{spare-of, stood-of}
-use Rattle.ink_stack.proofs.Unmarked.{held-same}
+use Rattle.ink_stack.proofs.Holding.{held-same}
+use Rattle.ink_stack.proofs.Unmarked.{free}
 use Rattle.ink_stack.proofs.threads.Threads.put.Goals as goal
 
 pub invariant_of-self : goal.invariant_of-self
 invariant_of-self g c =
-    let t = c.self.inside.running.thread in
-    let r : Rooms = record { frames = c.self.inside.running.room; threads = vec_capacity c.self.inside.below } in
-    rw c.put.ensures (
-      c.self.invariant.0,
-      held-same t (put_in c.args.place t) (reverse c.self.inside.below.items) c.self.inside.trail.undo r (sym c.is_marked.ensures ∙ c.if-is_marked.false) refl refl c.self.invariant.1,
-    )
+    rw c.put.ensures (c.self.invariant.0, held-same _ _ _ c.self.inside.trail.undo _ (sym c.is_marked.ensures ∙ c.if-is_marked.false) refl refl c.self.invariant.1)
 
-pub returns-clause-trail : goal.returns-clause-trail
-returns-clause-trail g c =
-    rw (← c.self.view_is) (trails-unmarked threads_back 1 _ _ _ _ (sym c.is_marked.ensures ∙ c.if-is_marked.false) (refl, omega arith))
-
-pub returns-clause-stood : goal.returns-clause-stood
-returns-clause-stood g c = stood-of 1 _ _ (returns-clause-trail g c)
-
-pub returns-clause-spare : goal.returns-clause-spare
-returns-clause-spare g c = spare-of 1 _ _ (returns-clause-trail g c)
+pub returns : goal.returns
+returns g c =
+    let trail = free 1 _ _ c.self.inside.trail (sym c.is_marked.ensures ∙ c.if-is_marked.false) in
+    let threads = ap (λ v. threads_in v c.self.inside.below.items) c.put.ensures in
+    rw (← c.self.view_is) (record { threads = threads; trail = trail; stood = stood-of 1 _ _ trail; spare = spare-of 1 _ _ trail })

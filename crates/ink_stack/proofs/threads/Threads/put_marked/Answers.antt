@@ -1,42 +1,24 @@
-use Rattle.std.proofs.Common.{arith, vec_capacity, refl, ap, subst, sym, ◌≤◌}
+use Rattle.std.proofs.Common.{arith, refl}
+use Rattle.ink_model.specs.Frames.{put_in, on_top}
 use Rattle.ink_trail.proofs.Undoing.{trails-one}
-use Rattle.ink_trail.specs.Undo.{trail_of}
-use Rattle.ink_model.specs.Frames.{put_in}
 use Rattle.ink_stack.specs.Running.{threads_in}
-use Rattle.ink_stack.specs.Undo.{Rooms, threads_back, threads_spare}
+use Rattle.ink_stack.specs.Undo.{threads_back}
 use Rattle.ink_stack.specs.declared.undo.ThreadsPair.TheVariants.{Placed}
-use Rattle.ink_stack.proofs.Backs.{placed-back, spare-of, stood-of}
-use Rattle.ink_stack.proofs.Holding.{held-now, held-top, more-refl, within-same}
+use Rattle.ink_stack.proofs.Backs.{placed-back, room-of, spare-of, stood-of}
+use Rattle.ink_stack.proofs.Holding.{held-set, more-refl}
 use Rattle.ink_stack.proofs.threads.Threads.put_marked.Goals as goal
 
 pub invariant_of-self : goal.invariant_of-self
 invariant_of-self g c =
-    let v = c.self.inside.running in
-    let ts = threads_in v c.self.inside.below.items in
-    let u = c.self.inside.trail.undo in
-    let r : Rooms = record { frames = v.room; threads = vec_capacity c.self.inside.below } in
-    let now = held-now r (trail_of u) ts c.self.invariant.1 in
-    rw (c.note.ensures.undo, c.put.ensures) (
-      c.self.invariant.0,
-      held-top (Placed c.place-was.result) 1 v.thread (put_in c.args.place v.thread) ts.below u r (placed-back ts c.args.place c.place-was.result c.place-was.ensures)
-          (within-same v.room v.thread (put_in c.args.place v.thread) refl refl now.thread) (more-refl r) c.self.invariant.1,
-    )
-
-pub returns-clause-trail : goal.returns-clause-trail
-returns-clause-trail g c =
     let ts = threads_in c.self.inside.running c.self.inside.below.items in
-    rw (← c.self.view_is, c.put.ensures)
-    (trails-one threads_back (Placed c.place-was.result) 1 _ _ _ _ (omega arith) (placed-back ts c.args.place c.place-was.result c.place-was.ensures) c.note.ensures.undo c.note.ensures.room)
+    rw (c.note.ensures.undo, c.put.ensures)
+    (c.self.invariant.0, held-set (Placed c.place-was.result) 1 ts.thread _ ts.below c.self.inside.trail.undo _ (placed-back ts c.args.place c.place-was.result c.place-was.ensures) refl refl (more-refl _) c.self.invariant.1)
 
-pub returns-clause-stood : goal.returns-clause-stood
-returns-clause-stood g c = stood-of 1 _ _ (returns-clause-trail g c)
-
-pub returns-clause-spare : goal.returns-clause-spare
-returns-clause-spare g c = spare-of 1 _ _ (returns-clause-trail g c)
+pub returns : goal.returns
+returns g c =
+    let ts = threads_in c.self.inside.running c.self.inside.below.items in
+    let trail = trails-one threads_back (Placed c.place-was.result) 1 ts (on_top (put_in c.args.place) ts) c.self.inside.trail c.note.new.self (omega arith) (placed-back ts c.args.place c.place-was.result c.place-was.ensures) c.note.ensures.undo c.note.ensures.room in
+    rw (← c.self.view_is, c.put.ensures) (record { threads = refl; trail = trail; stood = stood-of 1 _ _ trail; spare = spare-of 1 _ _ trail })
 
 pub note-requires-clause-spare : goal.note-requires-clause-spare
-unfolding threads_spare
-note-requires-clause-spare g c = subst (λ v. 1 ≤ threads_spare v) (sym c.self.view_is) c.requires.room
-
-pub returns-clause-threads : goal.returns-clause-threads
-returns-clause-threads g c = rw (← c.self.view_is) (ap (λ v. threads_in v c.self.inside.below.items) c.put.ensures)
+note-requires-clause-spare g c = room-of 1 _ _ c.self.view_is c.requires.room

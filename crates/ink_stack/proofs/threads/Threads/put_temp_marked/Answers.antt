@@ -1,89 +1,54 @@
-use Rattle.ink_trail.specs.Undo.{trail_of}
-use Rattle.ink_stack.proofs.Holding.{held-as, held-now, held-with, more-refl}
-use Rattle.std.proofs.Common.{ap, arith, refl, reverse, vec_capacity, Err, inl, inr}
+use Rattle.std.proofs.Common.{Err, ap, arith, inl, inr, refl, reverse, vec_capacity}
+use Rattle.ink_model.specs.declared.fault.Fault.TheVariants.{OutOfMemory}
 use Rattle.ink_trail.proofs.Undoing.{trails-after, trails-one}
 use Rattle.ink_stack.specs.Running.{threads_in}
-use Rattle.ink_stack.specs.Undo.{Rooms, threads_back, threads_spare}
+use Rattle.ink_stack.specs.Undo.{threads_back}
 use Rattle.ink_stack.specs.declared.undo.ThreadsPair.TheVariants.{Temp}
-use Rattle.ink_stack.proofs.Backs.{spare-of, stood-of, stood-same}
-use Rattle.ink_model.specs.declared.fault.Fault.TheVariants.{OutOfMemory}
+use Rattle.ink_stack.proofs.Backs.{but-for-room, few-of, spare-of, stood-of, stood-same}
+use Rattle.ink_stack.proofs.Holding.{held-as, held-noted, more-refl, rooms_at}
 use Rattle.ink_stack.proofs.Unmarked.{spare-or}
 use Rattle.ink_stack.proofs.threads.Threads.put_temp_marked.Goals as goal
 
-pub returns-clause-trail : goal.returns-clause-trail
-returns-clause-trail g c =
-    let ts = threads_in c.self.inside.running c.self.inside.below.items in
-    rw (← c.self.view_is)
-    (trails-after threads_back 1 ts _ _ c.ready.new.self _ c.ready.ensures.kept
-    (trails-one threads_back (Temp c.args.frame c.in-Ok-set.index c.in-Ok-set.was) 1 ts _ _ _ (omega arith) (ap (λ t. record { thread = t; below = reverse c.self.inside.below.items }) c.in-Ok-set.ensures.back)
-    c.note.ensures.undo c.note.ensures.room))
-
-pub returns-clause-stood : goal.returns-clause-stood
-returns-clause-stood g c = stood-of 1 _ _ (returns-clause-trail g c)
-
-pub returns-clause-spare : goal.returns-clause-spare
-returns-clause-spare g c = spare-of 1 _ _ (returns-clause-trail g c)
-
 pub invariant_of-self : goal.invariant_of-self
-invariant_of-self g c =
+invariant_of-self g c = (c.self.invariant.0, held-as c.self.inside.trail.undo c.ready.new.self.undo _ _ _ _ c.ready.ensures.kept.0 refl (more-refl _) c.self.invariant.1)
+
+pub returns-in_default : goal.returns-in_default
+returns-in_default g c =
     let ts = threads_in c.self.inside.running c.self.inside.below.items in
-    let r : Rooms = record { frames = c.self.inside.running.room; threads = vec_capacity c.self.inside.below } in (
-      c.self.invariant.0,
-      held-as c.self.inside.trail.undo c.ready.new.self.undo r r ts ts c.ready.ensures.kept.0 refl (more-refl r) c.self.invariant.1,
-    )
+    let trail = but-for-room ts ts c.self.inside.trail c.ready.new.self refl c.ready.ensures.kept in
+    rw (← c.self.view_is)
+    (record { ok = tt; fault = refl; kept = refl; memory = inr (few-of 1 _ c.in_default.ensures.lacks); trail = trail; stood = stood-same _ _ trail; spare = spare-or {A = Unit} (Err OutOfMemory) 1 _ _ trail })
 
 pub invariant_of-self-in_default-set : goal.invariant_of-self-in_default-set
 invariant_of-self-in_default-set g c =
-    let ts = threads_in c.self.inside.running c.self.inside.below.items in
-    let r : Rooms = record { frames = c.self.inside.running.room; threads = vec_capacity c.self.inside.below } in
-    let s : Rooms = record { frames = c.set_temp-set.new.self.room; threads = vec_capacity c.self.inside.below } in (
-      c.self.invariant.0,
-      held-as c.self.inside.trail.undo c.ready.new.self.undo r s ts (threads_in c.set_temp-set.new.self c.self.inside.below.items) c.ready.ensures.kept.0
-          (ap (λ t. record { thread = t; below = reverse c.self.inside.below.items }) c.in_default-set.ensures.err)
-          (record { frames = c.set_temp-set.ensures.room; threads = omega arith }) c.self.invariant.1,
-    )
+    let kept = ap (λ t. record { thread = t; below = reverse c.self.inside.below.items }) c.in_default-set.ensures.err in
+    (c.self.invariant.0, held-as c.self.inside.trail.undo c.ready.new.self.undo _ _ _ _ c.ready.ensures.kept.0 kept (record { frames = c.set_temp-set.ensures.room; threads = omega arith }) c.self.invariant.1)
+
+pub returns-in_default-set : goal.returns-in_default-set
+returns-in_default-set g c =
+    let kept = ap (λ t. record { thread = t; below = reverse c.self.inside.below.items }) c.in_default-set.ensures.err in
+    let trail = but-for-room _ _ c.self.inside.trail c.ready.new.self kept c.ready.ensures.kept in
+    rw (← c.self.view_is)
+    (record { ok = tt; fault = refl; kept = kept; memory = inl c.in_default-set.ensures.memory; trail = trail; stood = stood-same _ _ trail; spare = spare-or {A = Unit} (Err OutOfMemory) 1 _ _ trail })
 
 pub invariant_of-self-2 : goal.invariant_of-self-2
 invariant_of-self-2 g c =
-    let ts = threads_in c.self.inside.running c.self.inside.below.items in
-    let r : Rooms = record { frames = c.self.inside.running.room; threads = vec_capacity c.self.inside.below } in
-    let s : Rooms = record { frames = c.set_temp-set.new.self.room; threads = vec_capacity c.self.inside.below } in
-    let now = held-now r (trail_of c.self.inside.trail.undo) (threads_in c.self.inside.running c.self.inside.below.items) c.self.invariant.1 in
-    let pair = Temp c.args.frame c.in-Ok-set.index c.in-Ok-set.was in
+    let v = c.self.inside.running in
+    let m = vec_capacity c.self.inside.below in
+    let ts = threads_in v c.self.inside.below.items in
     rw c.note.ensures.undo (
       c.self.invariant.0,
-      held-with pair 1 ts (threads_in c.set_temp-set.new.self c.self.inside.below.items) c.ready.new.self.undo r s
-          (ap (λ t. record { thread = t; below = reverse c.self.inside.below.items }) c.in-Ok-set.ensures.back) (record { thread = c.within.ensures; few = now.few; fit = now.fit })
-          (record { frames = c.set_temp-set.ensures.room; threads = omega arith }) (held-as c.self.inside.trail.undo c.ready.new.self.undo r r ts ts c.ready.ensures.kept.0 refl (more-refl r) c.self.invariant.1),
+      held-noted (Temp c.args.frame c.in-Ok-set.index c.in-Ok-set.was) 1 c.ready.new.self.undo v c.set_temp-set.new.self c.self.inside.below.items m
+          (ap (λ t. record { thread = t; below = ts.below }) c.in-Ok-set.ensures.back) c.within.ensures (record { frames = c.set_temp-set.ensures.room; threads = omega arith })
+          (held-as c.self.inside.trail.undo c.ready.new.self.undo (rooms_at v m) (rooms_at v m) ts ts c.ready.ensures.kept.0 refl (more-refl (rooms_at v m)) c.self.invariant.1),
     )
 
-pub returns-in_default-clause-trail : goal.returns-in_default-clause-trail
-returns-in_default-clause-trail g c = rw (← c.self.view_is) (refl, c.ready.ensures.kept)
-
-pub returns-in_default-clause-stood : goal.returns-in_default-clause-stood
-returns-in_default-clause-stood g c = stood-same _ _ (returns-in_default-clause-trail g c)
-
-pub returns-in_default-clause-spare : goal.returns-in_default-clause-spare
-returns-in_default-clause-spare g c = spare-or {A = Unit} (Err OutOfMemory) 1 _ _ (returns-in_default-clause-trail g c)
-
-pub returns-in_default-clause-memory : goal.returns-in_default-clause-memory
-unfolding threads_spare
-returns-in_default-clause-memory g c = rw (← c.self.view_is) (inr c.in_default.ensures.lacks)
-
-pub returns-in_default-set-clause-trail : goal.returns-in_default-set-clause-trail
-returns-in_default-set-clause-trail g c = rw (← c.self.view_is) (ap (λ t. record { thread = t; below = reverse c.self.inside.below.items }) c.in_default-set.ensures.err, c.ready.ensures.kept)
-
-pub returns-in_default-set-clause-stood : goal.returns-in_default-set-clause-stood
-returns-in_default-set-clause-stood g c = stood-same _ _ (returns-in_default-set-clause-trail g c)
-
-pub returns-in_default-set-clause-spare : goal.returns-in_default-set-clause-spare
-returns-in_default-set-clause-spare g c = spare-or {A = Unit} (Err OutOfMemory) 1 _ _ (returns-in_default-set-clause-trail g c)
-
-pub returns-in_default-set-clause-memory : goal.returns-in_default-set-clause-memory
-returns-in_default-set-clause-memory g c = rw (← c.self.view_is) (inl c.in_default-set.ensures.memory)
-
-pub returns-clause-ok : goal.returns-clause-ok
-returns-clause-ok g c = rw (← c.self.view_is) (ap (λ t. record { thread = t; below = reverse c.self.inside.below.items }) c.in-Ok-set.ensures.ok)
-
-pub returns-in_default-set-clause-kept : goal.returns-in_default-set-clause-kept
-returns-in_default-set-clause-kept g c = rw (← c.self.view_is) (ap (λ t. record { thread = t; below = reverse c.self.inside.below.items }) c.in_default-set.ensures.err)
+pub returns : goal.returns
+returns g c =
+    let ts = threads_in c.self.inside.running c.self.inside.below.items in
+    let us = threads_in c.set_temp-set.new.self c.self.inside.below.items in
+    let trail = trails-after threads_back 1 ts us c.self.inside.trail c.ready.new.self c.note.new.self c.ready.ensures.kept
+    (trails-one threads_back (Temp c.args.frame c.in-Ok-set.index c.in-Ok-set.was) 1 ts us c.ready.new.self c.note.new.self (omega arith) (ap (λ t. record { thread = t; below = ts.below }) c.in-Ok-set.ensures.back)
+    c.note.ensures.undo c.note.ensures.room) in
+    let ok = ap (λ t. record { thread = t; below = ts.below }) c.in-Ok-set.ensures.ok in
+    rw (← c.self.view_is) (record { ok = ok; fault = tt; kept = tt; memory = tt; trail = trail; stood = stood-of 1 _ _ trail; spare = spare-of 1 _ _ trail })

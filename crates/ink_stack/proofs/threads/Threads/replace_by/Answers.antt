@@ -1,9 +1,8 @@
-use Rattle.std.proofs.Common.{◌∙◌, [], arith, refl, sym}
-use Rattle.ink_trail.proofs.Undoing.{trails-unmarked}
+use Rattle.std.proofs.Common.{◌∙◌, [], ap, arith, sym}
 use Rattle.ink_stack.specs.Running.{threads_in}
-use Rattle.ink_stack.specs.Undo.{threads_back}
 use Rattle.ink_stack.proofs.Backs.{spare-of, stood-of}
 use Rattle.ink_stack.proofs.Holding.{held-unmarked}
+use Rattle.ink_stack.proofs.Unmarked.{free}
 use Rattle.ink_stack.proofs.threads.Threads.replace_by.Goals as goal
 
 pub invariant_of-self : goal.invariant_of-self
@@ -14,11 +13,7 @@ invariant_of-self g c =
           (record { thread = c.within.ensures; few = omega arith; fit = omega arith }),
     )
 
-pub returns-clause-trail : goal.returns-clause-trail
-returns-clause-trail g c = rw (← c.self.view_is) (trails-unmarked threads_back 1 _ _ _ _ (sym c.is_marked.ensures ∙ c.if-is_marked.false) (refl, omega arith))
-
-pub returns-clause-stood : goal.returns-clause-stood
-returns-clause-stood g c = stood-of 1 _ _ (returns-clause-trail g c)
-
-pub returns-clause-spare : goal.returns-clause-spare
-returns-clause-spare g c = spare-of 1 _ _ (returns-clause-trail g c)
+pub returns : goal.returns
+returns g c =
+    let trail = free 1 _ _ c.self.inside.trail (sym c.is_marked.ensures ∙ c.if-is_marked.false) in
+    rw (← c.self.view_is) (record { threads = ap (λ items. threads_in c.args.running items) c.clear.ensures.items; trail = trail; stood = stood-of 1 _ _ trail; spare = spare-of 1 _ _ trail })

@@ -1,9 +1,9 @@
-use Rattle.std.proofs.Common.{◌≡◌, ◌∙◌, ◌≤◌, [], ap, arith, vec_capacity, subst, sym}
+use Rattle.std.proofs.Common.{◌≡◌, ◌∙◌, ◌≤◌, [], ap, arith, vec_capacity}
 use Rattle.ink_trail.proofs.Undoing.{trails-one}
 use Rattle.ink_stack.specs.Running.{threads_in}
-use Rattle.ink_stack.specs.Undo.{Rooms, threads_back, threads_spare}
+use Rattle.ink_stack.specs.Undo.{threads_back}
 use Rattle.ink_stack.specs.declared.undo.ThreadsPair.TheVariants.{Replaced}
-use Rattle.ink_stack.proofs.Backs.{spare-of, stood-of}
+use Rattle.ink_stack.proofs.Backs.{room-of, spare-of, stood-of}
 use Rattle.ink_stack.proofs.Holding.{held-with, room-same}
 use Rattle.ink_stack.proofs.threads.Threads.replace_by_marked.Given.{Over}
 use Rattle.ink_stack.proofs.threads.Threads.replace_by_marked.Goals.{After-note}
@@ -18,15 +18,12 @@ back g c =
 pub invariant_of-self : goal.invariant_of-self
 invariant_of-self g c =
     let none : c.replace-below.new.dest.items ≡ [] = ap (λ b. b.items) c.replace-below.ensures.after ∙ c.new.ensures.items in
-    let r : Rooms = record { frames = c.self.inside.running.room; threads = vec_capacity c.self.inside.below } in
-    let s : Rooms = record { frames = c.args.running.room; threads = vec_capacity c.replace-below.new.dest } in
     let frames = room-same c.self.inside.running.room c.replace-top.result.room (ap (λ v. v.room) c.replace-top.ensures.value) in
     let threads : vec_capacity c.self.inside.below ≤ vec_capacity c.replace-below.result = omega (arith, ap (λ b. vec_capacity b) c.replace-below.ensures.value) in
     rw (c.note.ensures.undo, c.replace-top.ensures.after, none) (
       omega arith,
-      held-with (Replaced c.replace-top.result c.replace-below.result) 1 (threads_in c.self.inside.running c.self.inside.below.items) (threads_in c.args.running [])
-          c.self.inside.trail.undo r s (back g (goal.at.invariant_of-self g c).After-note) (record { thread = c.within.ensures; few = omega arith; fit = omega arith })
-          (record { frames = frames; threads = threads }) c.self.invariant.1,
+      held-with (Replaced c.replace-top.result c.replace-below.result) 1 _ (threads_in c.args.running []) c.self.inside.trail.undo _ _ (back g (goal.at.invariant_of-self g c).After-note)
+          (record { thread = c.within.ensures; few = omega arith; fit = omega arith }) (record { frames = frames; threads = threads }) c.self.invariant.1,
     )
 
 pub returns-clause-trail : goal.returns-clause-trail
@@ -42,5 +39,4 @@ pub returns-clause-spare : goal.returns-clause-spare
 returns-clause-spare g c = spare-of 1 _ _ (returns-clause-trail g c)
 
 pub note-requires-clause-spare : goal.note-requires-clause-spare
-unfolding threads_spare
-note-requires-clause-spare g c = subst (λ v. 1 ≤ threads_spare v) (sym c.self.view_is) c.requires.room
+note-requires-clause-spare g c = room-of 1 _ _ c.self.view_is c.requires.room

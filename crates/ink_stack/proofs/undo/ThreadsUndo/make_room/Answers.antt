@@ -1,15 +1,11 @@
-use Rattle.std.proofs.Common.{refl, vec_capacity}
-use Rattle.ink_stack.specs.Running.{threads_in}
-use Rattle.ink_stack.specs.Undo.{Rooms, threads_spare}
+use Rattle.std.proofs.Common.{refl}
+use Rattle.ink_stack.specs.Undo.{threads_spare}
 use Rattle.ink_stack.proofs.Backs.{stood-same}
 use Rattle.ink_stack.proofs.Holding.{held-as, more-refl}
 use Rattle.ink_stack.proofs.undo.ThreadsUndo.make_room.Goals as goal
 
 pub invariant_of-self : goal.invariant_of-self
-invariant_of-self g c =
-    let ts = threads_in c.self.inside.running c.self.inside.below.items in
-    let r : Rooms = record { frames = c.self.inside.running.room; threads = vec_capacity c.self.inside.below } in
-    (c.self.invariant.0, held-as c.self.inside.trail.undo c.make_room.new.self.undo r r ts ts c.make_room.ensures.kept.0 refl (more-refl r) c.self.invariant.1)
+invariant_of-self g c = (c.self.invariant.0, held-as c.self.inside.trail.undo c.make_room.new.self.undo _ _ _ _ c.make_room.ensures.kept.0 refl (more-refl _) c.self.invariant.1)
 
 pub returns-clause-cells : goal.returns-clause-cells
 returns-clause-cells g c = rw (← c.self.view_is) refl

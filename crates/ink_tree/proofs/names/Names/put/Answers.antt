@@ -2,7 +2,7 @@ use Rattle.std.proofs.Common.{◌≡◌, ◌∙◌, ℕ, List, ap, sym, bytes_eq
 use Rattle.std.proofs.lemmas.Map.Text.{btree_map_updates_text}
 use Rattle.std.specs.BTreeMap.{get_by_text}
 use Rattle.std.specs.Map.{update}
-use Rattle.ink_tree.specs.Names.{named_at}
+use Rattle.ink_tree.proofs.Common.{named_at}
 use Rattle.ink_tree.proofs.Firsts.{name_put, name_put_back}
 use Rattle.ink_tree.proofs.names.Names.put.Goals as goal
 

@@ -1,12 +1,6 @@
 use Rattle.std.proofs.Common.{◌≡◌, ◌∙◌, ◌||◌, ap, sym, reverse, false, nat_lt, arith}
-use Rattle.std.proofs.lemmas.Bool.Decides.{nat_tests}
-use Rattle.ink_json.specs.Order.{key_part}
-use Rattle.ink_model.specs.Entered.{flags_at}
-use Rattle.ink_model.specs.Tree.{at}
-use Rattle.ink_tree.specs.Kept.{flagged_above}
-use Rattle.ink_tree.specs.Nodes.{story_tree, node_place}
+use Rattle.ink_tree.proofs.Common.{nat_tests, key_part, flags_at, at, flagged_above, story_tree, node_place}
 use Rattle.ink_tree.proofs.Flagged.{flagged_one}
-use Rattle.ink_tree.proofs.Kept.{linked_at}
 use Rattle.ink_tree.proofs.tree.Tree.+flagged.Goals as goal
 
 pub is_flagged-returns-in-Some : goal.is_flagged-returns-in-Some
@@ -20,5 +14,5 @@ has_flags_from-returns-in-Some t c =
     let s = story_tree c.args.self.now in
     let p = node_place s c.args.holder in
     let none : nat_lt 0 (flags_at (at s p)) ≡ false = grind (arith, nat_tests, c.if-flags-gt0.false, c.flags.ensures) in
-    c.is_under_flags.ensures ∙ (linked_at s c.args.links.now.items c.args.holder.number c.in-Some.around.now c.requires c.in-Some.ensures).1
+    c.is_under_flags.ensures ∙ (c.requires c.args.holder.number c.in-Some.around.now (sym c.in-Some.ensures)).1
     ∙ ap (λ own. own || flagged_above s (reverse p)) (sym none)

@@ -1,8 +1,8 @@
-use Rattle.std.proofs.Common.{◌∙◌, ap, length, option_map, arith}
-use Rattle.ink_json.specs.Order.{key_part}
-use Rattle.ink_tree.specs.Nodes.{story_tree, node_place}
-use Rattle.ink_tree.proofs.Kept.{linked_at, next_behind, next_beside, none_after_name, none_after_root}
+use Rattle.std.proofs.Common.{◌∙◌, ap, length, option_map, arith, sym}
+use Rattle.ink_tree.proofs.Common.{key_part, story_tree, node_place}
+use Rattle.ink_tree.proofs.Kept.{next_behind, next_beside}
 use Rattle.ink_tree.proofs.tree.Tree.+next.Goals as goal
+use Rattle.ink_tree.proofs.Next.{none_after_name, none_after_root}
 
 pub next_of-returns-in-None : goal.next_of-returns-in-None
 next_of-returns-in-None t c = let s = story_tree c.args.self.now in none_after_root s (node_place s c.args.node) (ap length c.in-None.ensures)
@@ -17,7 +17,7 @@ pub next_in-returns-in-Some : goal.next_in-returns-in-Some
 next_in-returns-in-Some t c =
     let s = story_tree c.args.self.now in
     ap (option_map (node_place s)) c.next.ensures
-    ∙ (linked_at s c.args.links.now.items c.args.holder.number c.in-Some.around.now c.requires.linked c.in-Some.ensures).0
+    ∙ (c.requires.linked c.args.holder.number c.in-Some.around.now (sym c.in-Some.ensures)).0
     ∙ next_behind s (node_place s c.args.node) (node_place s c.args.holder) (key_part c.args.last) c.in-Index.index c.requires.above.1 (ap key_part c.in-Index.is)
     (omega (arith, c.width.ensures, c.if-index-width.false))
 

@@ -1,5 +1,5 @@
 use Rattle.std.proofs.Common.{◌*◌, ◌+◌, length}
-use Rattle.ink_tree.specs.Nodes.{story_tree, node_place}
+use Rattle.ink_tree.proofs.Common.{story_tree, node_place}
 use Rattle.ink_tree.proofs.tree.Tree.+next.Given as goal
 
 -- how many parts lead to the node

@@ -1,6 +1,5 @@
 use Rattle.std.proofs.Common.{◌∙◌, ap, sym, option_map}
-use Rattle.ink_json.specs.Order.{key_part}
-use Rattle.ink_tree.specs.Nodes.{story_tree, node_place}
+use Rattle.ink_tree.proofs.Common.{key_part, story_tree, node_place}
 use Rattle.ink_tree.proofs.Kept.{led_by, led_by_none}
 use Rattle.ink_tree.proofs.tree.Tree.above.Goals as goal
 

@@ -1,5 +1,5 @@
 use Rattle.std.proofs.Common.{arith}
-use Rattle.ink_tree.specs.Nodes.{story_tree, node_place}
+use Rattle.ink_tree.proofs.Common.{story_tree, node_place}
 use Rattle.ink_tree.proofs.Down.{past_width}
 use Rattle.ink_tree.proofs.tree.Tree.child_at.Goals as goal
 

@@ -1,5 +1,4 @@
-use Rattle.ink_json.specs.Order.{key_part}
-use Rattle.ink_tree.specs.Nodes.{story_tree, node_place}
+use Rattle.ink_tree.proofs.Common.{key_part, story_tree, node_place}
 use Rattle.ink_tree.proofs.Gaps.{before_child, before_end}
 use Rattle.ink_tree.proofs.tree.Tree.ends_gap.Goals as goal
 

@@ -1,5 +1,5 @@
 use Rattle.std.proofs.Common.{refl}
-use Rattle.ink_tree.specs.Nodes.{story_tree}
+use Rattle.ink_tree.proofs.Common.{story_tree}
 use Rattle.ink_tree.proofs.Entering.{entered_more, nodes_more}
 use Rattle.ink_tree.proofs.tree.Tree.entered.Goals as goal
 

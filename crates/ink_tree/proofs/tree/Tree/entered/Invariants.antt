@@ -1,7 +1,5 @@
 use Rattle.std.proofs.Common.{◌≡◌, ◌++◌, length, map, option_map}
-use Rattle.ink_model.specs.Entered.{entered_places}
-use Rattle.ink_tree.specs.Nodes.{story_tree, node_place, place_of, AreNodes}
-use Rattle.ink_tree.specs.Walks.{still_entered}
+use Rattle.ink_tree.proofs.Common.{entered_places, story_tree, node_place, place_of, AreNodes, still_entered}
 use Rattle.ink_tree.proofs.tree.Tree.entered.Given as goal
 
 -- what was entered so far, and what the rest still enters, is what all enters

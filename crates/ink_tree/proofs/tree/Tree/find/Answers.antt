@@ -1,6 +1,5 @@
 use Rattle.std.proofs.Common.{sym, subst}
-use Rattle.ink_json.specs.Order.{key_part}
-use Rattle.ink_tree.specs.Nodes.{story_tree, node_place, Finds}
+use Rattle.ink_tree.proofs.Common.{key_part, story_tree, node_place, Finds}
 use Rattle.ink_tree.proofs.Down.{missing_before}
 use Rattle.ink_tree.proofs.Kept.{some_place}
 use Rattle.ink_tree.proofs.Standing.{root_place}

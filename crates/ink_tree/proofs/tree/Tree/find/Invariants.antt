@@ -1,5 +1,5 @@
 use Rattle.std.proofs.Common.{◌≡◌, take}
-use Rattle.ink_tree.specs.Nodes.{story_tree, node_place, IsNode}
+use Rattle.ink_tree.proofs.Common.{story_tree, node_place, IsNode}
 use Rattle.ink_tree.proofs.tree.Tree.find.Given as goal
 
 -- the parts so far lead here

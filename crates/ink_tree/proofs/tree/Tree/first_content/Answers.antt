@@ -1,6 +1,5 @@
 use Rattle.std.proofs.Common.{◌∙◌, ap}
-use Rattle.ink_model.specs.Place.{entered}
-use Rattle.ink_tree.specs.Nodes.{story_tree}
+use Rattle.ink_tree.proofs.Common.{entered, story_tree}
 use Rattle.ink_tree.proofs.Further.{enters_nothing}
 use Rattle.ink_tree.proofs.Kept.{on_node}
 use Rattle.ink_tree.proofs.tree.Tree.first_content.Goals as goal

@@ -1,5 +1,5 @@
 use Rattle.std.proofs.Common.{◌∙◌, ap, arith, length}
-use Rattle.ink_tree.specs.Nodes.{story_tree, node_place}
+use Rattle.ink_tree.proofs.Common.{story_tree, node_place}
 use Rattle.ink_tree.proofs.Kept.{shorter, same_way, is_there}
 use Rattle.ink_tree.proofs.tree.Tree.first_in.Goals as goal
 

@@ -1,7 +1,5 @@
 use Rattle.std.proofs.Common.{◌≡◌, length}
-use Rattle.ink_model.specs.Place.{entered, first_content_at}
-use Rattle.ink_model.specs.Tree.{at}
-use Rattle.ink_tree.specs.Nodes.{story_tree, node_place}
+use Rattle.ink_tree.proofs.Common.{entered, first_content_at, at, story_tree, node_place}
 use Rattle.ink_tree.proofs.tree.Tree.first_in.Given as goal
 
 -- the way from here leads to where the whole way does

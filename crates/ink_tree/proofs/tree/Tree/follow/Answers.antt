@@ -1,8 +1,6 @@
-use Rattle.std.proofs.Common.{◌≡◌, ◌∙◌, ◌∷◌, Some, None, ap, sym}
-use Rattle.std.specs.Option.{option_and_then}
-use Rattle.ink_model.specs.Path.{components, walked}
+use Rattle.std.proofs.Common.{◌≡◌, ◌∙◌, ◌∷◌, Some, None, ap, sym, option_and_then}
+use Rattle.ink_tree.proofs.Common.{components, walked, story_tree, node_place}
 use Rattle.ink_path.specs.Components.{part_of}
-use Rattle.ink_tree.specs.Nodes.{story_tree, node_place}
 use Rattle.ink_tree.proofs.Leads.{index_on, steps_on}
 use Rattle.ink_tree.proofs.tree.Tree.follow.Goals as goal
 

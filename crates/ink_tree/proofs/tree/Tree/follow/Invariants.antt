@@ -1,8 +1,5 @@
-use Rattle.std.proofs.Common.{◌≡◌, List, Some, length}
-use Rattle.std.specs.Option.{option_and_then}
-use Rattle.ink_model.specs.Path.{components, ends_in_index, walked}
-use Rattle.ink_model.specs.declared.place.Part.{Part}
-use Rattle.ink_tree.specs.Nodes.{story_tree, node_place}
+use Rattle.std.proofs.Common.{◌≡◌, List, Some, length, option_and_then}
+use Rattle.ink_tree.proofs.Common.{components, ends_in_index, walked, Part, story_tree, node_place}
 use Rattle.ink_tree.proofs.tree.Tree.follow.Given as goal
 
 -- what is left leads on from here as all did, and ends as all do

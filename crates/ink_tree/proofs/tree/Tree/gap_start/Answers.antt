@@ -1,8 +1,5 @@
 use Rattle.std.proofs.Common.{◌≡◌, ◌+◌, [], ◌∷◌, ◌++◌, refl, subst, sym, arith}
-use Rattle.std.proofs.lemmas.Bool.Decides.{nat_tests}
-use Rattle.ink_json.specs.Order.{key_part}
-use Rattle.ink_tree.specs.Gaps.{NoneBefore}
-use Rattle.ink_tree.specs.Nodes.{story_tree, node_place}
+use Rattle.ink_tree.proofs.Common.{nat_tests, key_part, NoneBefore, story_tree, node_place}
 use Rattle.ink_tree.proofs.Gaps.{behind_holder, behind_child}
 use Rattle.ink_tree.proofs.tree.Tree.gap_start.Goals as goal
 

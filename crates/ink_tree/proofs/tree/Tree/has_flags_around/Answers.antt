@@ -1,8 +1,5 @@
 use Rattle.std.proofs.Common.{◌≡◌, ◌∙◌, false, nat_lt, sym, arith}
-use Rattle.std.proofs.lemmas.Bool.Decides.{nat_tests}
-use Rattle.ink_model.specs.Entered.{flags_at}
-use Rattle.ink_model.specs.Tree.{at}
-use Rattle.ink_tree.specs.Nodes.{story_tree, node_place, place_of}
+use Rattle.ink_tree.proofs.Common.{nat_tests, flags_at, at, story_tree, node_place, place_of}
 use Rattle.ink_tree.proofs.Flagged.{none_entered, under_index, under_itself}
 use Rattle.ink_tree.proofs.tree.Tree.has_flags_around.Goals as goal
 

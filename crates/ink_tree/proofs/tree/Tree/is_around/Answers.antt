@@ -1,6 +1,5 @@
 use Rattle.std.proofs.Common.{◌≡◌, ◌∙◌, true, false, nat_le, arith}
-use Rattle.std.proofs.lemmas.Bool.Decides.{nat_tests}
-use Rattle.ink_tree.specs.Nodes.{story_tree, node_place}
+use Rattle.ink_tree.proofs.Common.{nat_tests, story_tree, node_place}
 use Rattle.ink_tree.proofs.Kept.{around_by_number}
 use Rattle.ink_tree.proofs.tree.Tree.is_around.Goals as goal
 

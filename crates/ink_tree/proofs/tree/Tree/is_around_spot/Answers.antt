@@ -1,7 +1,5 @@
 use Rattle.std.proofs.Common.{◌∙◌, ◌++◌, ap, sym}
-use Rattle.ink_model.specs.Entered.{is_around}
-use Rattle.ink_model.specs.declared.place.Part.TheVariants.{Index}
-use Rattle.ink_tree.specs.Nodes.{story_tree, node_place, index_part, place_of}
+use Rattle.ink_tree.proofs.Common.{is_around, Index, story_tree, node_place, index_part, place_of}
 use Rattle.ink_tree.proofs.Prefixes.{around_same, around_above}
 use Rattle.ink_tree.proofs.tree.Tree.is_around_spot.Goals as goal
 

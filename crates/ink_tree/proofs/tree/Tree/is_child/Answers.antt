@@ -1,5 +1,4 @@
-use Rattle.ink_json.specs.Order.{key_part}
-use Rattle.ink_tree.specs.Nodes.{story_tree, node_place}
+use Rattle.ink_tree.proofs.Common.{key_part, story_tree, node_place}
 use Rattle.ink_tree.proofs.Down.{stands_at, stands_not_at}
 use Rattle.ink_tree.proofs.tree.Tree.is_child.Goals as goal
 

@@ -1,6 +1,5 @@
 use Rattle.std.proofs.Common.{sym, subst}
-use Rattle.ink_tree.specs.Kept.{Keeps}
-use Rattle.ink_tree.specs.Nodes.{story_tree}
+use Rattle.ink_tree.proofs.Common.{Keeps, story_tree}
 use Rattle.ink_tree.proofs.tree.Tree.kept.Goals as goal
 
 pub returns-in-Some : goal.returns-in-Some

@@ -1,4 +1,4 @@
-use Rattle.ink_tree.specs.Nodes.{story_tree}
+use Rattle.ink_tree.proofs.Common.{story_tree}
 use Rattle.ink_tree.proofs.Kept.{kept_at}
 use Rattle.ink_tree.proofs.tree.Tree.kept_own.Goals as goal
 

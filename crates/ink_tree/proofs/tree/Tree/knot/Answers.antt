@@ -1,9 +1,5 @@
-use Rattle.std.proofs.Common.{◌≡◌, ◌++◌, [], ◌∷◌, Some, None, ap, subst, sym, ◌∙◌}
-use Rattle.std.specs.Option.{option_map}
-use Rattle.ink_model.specs.Path.{listed_index}
-use Rattle.ink_model.specs.Tree.{at}
-use Rattle.ink_model.specs.declared.place.Part.TheVariants.{Index, Name}
-use Rattle.ink_tree.specs.Nodes.{story_tree, node_place, Finds}
+use Rattle.std.proofs.Common.{◌≡◌, ◌++◌, [], ◌∷◌, Some, None, ap, subst, sym, ◌∙◌, option_map}
+use Rattle.ink_tree.proofs.Common.{listed_index, at, Index, Name, story_tree, node_place, Finds}
 use Rattle.ink_tree.proofs.Absent.{stands}
 use Rattle.ink_tree.proofs.Knots.{knot_by_key, knot_from_list, listed_there}
 use Rattle.ink_tree.proofs.Standing.{root_place, there}

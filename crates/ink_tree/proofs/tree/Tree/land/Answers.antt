@@ -1,7 +1,5 @@
 use Rattle.std.proofs.Common.{◌∙◌, ap, sym, arith}
-use Rattle.ink_model.specs.Place.{landed}
-use Rattle.ink_model.specs.Tree.{width}
-use Rattle.ink_tree.specs.Nodes.{story_tree, node_place, place_of}
+use Rattle.ink_tree.proofs.Common.{landed, width, story_tree, node_place, place_of}
 use Rattle.ink_tree.proofs.Kept.{lands_first, lands_there, on_node}
 use Rattle.ink_tree.proofs.Next.{landed_on}
 use Rattle.ink_tree.proofs.tree.Tree.land.Goals as goal

@@ -1,5 +1,5 @@
 use Rattle.std.proofs.Common.{◌≡◌, ◌∙◌, ap, cond, []}
-use Rattle.ink_tree.specs.Nodes.{story_tree, node_place}
+use Rattle.ink_tree.proofs.Common.{story_tree, node_place}
 use Rattle.ink_tree.proofs.Leads.{path_leads}
 use Rattle.ink_tree.proofs.Standing.{root_place}
 use Rattle.ink_tree.proofs.tree.Tree.lead.Goals as goal

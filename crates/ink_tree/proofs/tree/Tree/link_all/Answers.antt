@@ -1,7 +1,6 @@
-use Rattle.std.proofs.Common.{◌∙◌, ◌+◌, ap, sym, subst, length}
-use Rattle.ink_tree.specs.Kept.{AreLinked, IsLinked}
-use Rattle.ink_tree.specs.Nodes.{story_tree, node_place}
-use Rattle.ink_tree.proofs.Kept.{linked_more, none_linked, one_more}
+use Rattle.std.proofs.Common.{◌∙◌, ◌+◌, ap, sym, subst, length, ◌∷◌, []}
+use Rattle.ink_tree.proofs.Common.{length-append, AreLinked, IsLinked, story_tree, node_place}
+use Rattle.ink_tree.proofs.Kept.{none_linked, all_more}
 use Rattle.ink_tree.proofs.tree.Tree.link_all.Goals as goal
 
 pub loop-number-init : goal.loop-number-init
@@ -19,7 +18,7 @@ loop-number-preserved c =
     let own = c.new_link-own.result in
     let more = c.in_ok-push.ensures.items in
     record {
-      all = linked_more s l.links.items c.push.new.self.items own l.invariant.all
-          (subst (λ k. IsLinked s (node_place s (record { number = k })) own) (sym l.invariant.many) c.new_link-own.ensures) more;
-      many = one_more l.links.items c.push.new.self.items own more ∙ ap (λ k. k + 1) l.invariant.many;
+      all = rw more (all_more l.links.items own (λ k. IsLinked s (node_place s (record { number = k }))) l.invariant.all
+          (subst (λ k. IsLinked s (node_place s (record { number = k })) own) (sym l.invariant.many) c.new_link-own.ensures));
+      many = ap length more ∙ length-append l.links.items (own ∷ []) ∙ ap (λ k. k + 1) l.invariant.many;
     }

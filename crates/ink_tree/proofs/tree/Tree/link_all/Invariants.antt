@@ -1,6 +1,5 @@
 use Rattle.std.proofs.Common.{◌≡◌, length}
-use Rattle.ink_tree.specs.Kept.{AreLinked}
-use Rattle.ink_tree.specs.Nodes.{story_tree}
+use Rattle.ink_tree.proofs.Common.{AreLinked, story_tree}
 use Rattle.ink_tree.proofs.tree.Tree.link_all.Given as goal
 
 -- so many are linked

@@ -1,5 +1,4 @@
-use Rattle.ink_tree.specs.Names.{AreNamed}
-use Rattle.ink_tree.specs.Nodes.{story_tree}
+use Rattle.ink_tree.proofs.Common.{AreNamed, story_tree}
 use Rattle.ink_tree.proofs.tree.Tree.list_names.Given as goal
 
 abbrev pub invariant-loop-number : goal.invariant-loop-number

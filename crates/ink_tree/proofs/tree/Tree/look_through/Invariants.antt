@@ -1,7 +1,5 @@
 use Rattle.std.proofs.Common.{◌≡◌}
-use Rattle.ink_model.specs.Path.{listed_index}
-use Rattle.ink_model.specs.Tree.{at}
-use Rattle.ink_tree.specs.Nodes.{story_tree, node_place}
+use Rattle.ink_tree.proofs.Common.{listed_index, at, story_tree, node_place}
 use Rattle.ink_tree.proofs.Firsts.{named_from}
 use Rattle.ink_tree.proofs.tree.Tree.look_through.Given as goal
 

@@ -1,7 +1,5 @@
 use Rattle.std.proofs.Common.{option_map, arith}
-use Rattle.ink_model.specs.Tree.{at}
-use Rattle.ink_tree.specs.Names.{named_at}
-use Rattle.ink_tree.specs.Nodes.{story_tree, node_place}
+use Rattle.ink_tree.proofs.Common.{at, named_at, story_tree, node_place}
 use Rattle.ink_tree.proofs.Firsts.{names_end, names_next, names_start}
 use Rattle.ink_tree.proofs.tree.Tree.names_in.Goals as goal
 

@@ -1,8 +1,5 @@
 use Rattle.std.proofs.Common.{◌≡◌, ℕ, List}
-use Rattle.ink_model.specs.Path.{listed_index}
-use Rattle.ink_model.specs.Tree.{at}
-use Rattle.ink_tree.specs.Names.{first_of, named_at}
-use Rattle.ink_tree.specs.Nodes.{story_tree, node_place}
+use Rattle.ink_tree.proofs.Common.{listed_index, at, first_of, named_at, story_tree, node_place}
 use Rattle.ink_tree.proofs.Firsts.{named_from}
 use Rattle.ink_tree.proofs.tree.Tree.names_in.Given as goal
 

@@ -1,10 +1,9 @@
 use Rattle.std.proofs.Common.{◌∙◌, ap, sym, length, option_map, reverse, arith}
-use Rattle.ink_json.specs.Order.{key_part}
-use Rattle.ink_tree.specs.Kept.{flagged_above}
-use Rattle.ink_tree.specs.Nodes.{story_tree, node_place}
+use Rattle.ink_tree.proofs.Common.{key_part, flagged_above, story_tree, node_place}
 use Rattle.ink_tree.proofs.Flagged.{flagged_one}
-use Rattle.ink_tree.proofs.Kept.{after_root, none_after_root}
+use Rattle.ink_tree.proofs.Kept.{after_root}
 use Rattle.ink_tree.proofs.tree.Tree.new_link.Goals as goal
+use Rattle.ink_tree.proofs.Next.{none_after_root}
 
 pub to-requires : goal.to-requires
 to-requires c = λ n is.

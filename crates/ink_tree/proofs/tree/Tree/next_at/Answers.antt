@@ -1,6 +1,5 @@
 use Rattle.std.proofs.Common.{◌∙◌, ◌+◌, ◌<◌, ◌≤◌, refl, arith}
-use Rattle.ink_model.specs.Tree.{at, width}
-use Rattle.ink_tree.specs.Nodes.{story_tree, node_place}
+use Rattle.ink_tree.proofs.Common.{at, width, story_tree, node_place}
 use Rattle.ink_tree.proofs.Kept.{next_found}
 use Rattle.ink_tree.proofs.Next.{next_outside}
 use Rattle.ink_tree.proofs.tree.Tree.next_at.Goals as goal

@@ -1,6 +1,5 @@
 use Rattle.std.proofs.Common.{◌≡◌, length, option_map}
-use Rattle.ink_tree.specs.Nodes.{story_tree, node_place, place_of}
-use Rattle.ink_tree.specs.Walks.{still_entered}
+use Rattle.ink_tree.proofs.Common.{story_tree, node_place, place_of, still_entered}
 use Rattle.ink_tree.proofs.tree.Tree.next_entered.Given as goal
 
 -- what was passed over is not entered

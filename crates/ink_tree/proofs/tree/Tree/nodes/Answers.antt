@@ -1,4 +1,4 @@
-use Rattle.ink_tree.specs.Nodes.{story_tree}
+use Rattle.ink_tree.proofs.Common.{story_tree}
 use Rattle.ink_tree.proofs.Numbered.{all_kept, keeps_all}
 use Rattle.ink_tree.proofs.tree.Tree.nodes.Goals as goal
 

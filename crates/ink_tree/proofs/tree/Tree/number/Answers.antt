@@ -1,8 +1,6 @@
 use Rattle.std.proofs.Common.{sym, subst}
+use Rattle.ink_tree.proofs.Common.{none-some, AreLinked, AreNamed}
 use Rattle.ink_json.specs.Story.{tree}
-use Rattle.ink_tree.specs.Kept.{AreLinked}
-use Rattle.ink_tree.specs.Names.{AreNamed}
-use Rattle.ink_tree.proofs.Firsts.{none_named}
 use Rattle.ink_tree.proofs.Kept.{none_linked}
 use Rattle.ink_tree.proofs.tree.Tree.number.Goals as goal
 
@@ -14,5 +12,5 @@ invariant_of-bare c =
       rising = c.nodes.ensures.rising;
       spelled = c.nodes.ensures.spelled;
       linked = subst (AreLinked s) (sym c.new.ensures.items) (none_linked s);
-      named = subst (AreNamed s) (sym c.new-2.ensures.items) (none_named s);
+      named = subst (AreNamed s) (sym c.new-2.ensures.items) (λ i l e. absurd (none-some l e));
     }

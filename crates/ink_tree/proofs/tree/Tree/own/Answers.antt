@@ -1,5 +1,5 @@
 use Rattle.std.proofs.Common.{arith}
-use Rattle.ink_tree.specs.Nodes.{story_tree}
+use Rattle.ink_tree.proofs.Common.{story_tree}
 use Rattle.ink_tree.proofs.Kept.{root_for}
 use Rattle.ink_tree.proofs.tree.Tree.own.Goals as goal
 

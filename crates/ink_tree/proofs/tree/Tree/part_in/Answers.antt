@@ -1,7 +1,5 @@
 use Rattle.std.proofs.Common.{◌≡◌, ◌∙◌, sym, arith}
-use Rattle.std.proofs.lemmas.Bool.Decides.{nat_tests}
-use Rattle.std.proofs.lemmas.Option.{slice_get_within}
-use Rattle.ink_tree.specs.Nodes.{story_tree, node_place}
+use Rattle.ink_tree.proofs.Common.{nat_tests, slice_get_within, story_tree, node_place}
 use Rattle.ink_tree.proofs.Down.{leads, leads_not}
 use Rattle.ink_tree.proofs.tree.Tree.part_in.Goals as goal
 

@@ -1,6 +1,5 @@
 use Rattle.std.proofs.Common.{◌≡◌, ◌∙◌, ap, [], cond}
-use Rattle.ink_model.specs.Path.{target, walked}
-use Rattle.ink_tree.specs.Nodes.{story_tree, node_place}
+use Rattle.ink_tree.proofs.Common.{target, walked, story_tree, node_place}
 use Rattle.ink_tree.proofs.Standing.{root_place}
 use Rattle.ink_tree.proofs.tree.Tree.resolve.Goals as goal
 use Rattle.ink_tree.proofs.tree.Tree.resolve.Goals.{then-path, else-path}

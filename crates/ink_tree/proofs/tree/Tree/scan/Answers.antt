@@ -1,6 +1,5 @@
 use Rattle.std.proofs.Common.{◌++◌, ◌∷◌, [], arith}
-use Rattle.ink_json.specs.Order.{key_part}
-use Rattle.ink_tree.specs.Nodes.{story_tree, node_place}
+use Rattle.ink_tree.proofs.Common.{key_part, story_tree, node_place}
 use Rattle.ink_tree.proofs.Absent.{nowhere}
 use Rattle.ink_tree.proofs.tree.Tree.scan.Goals as goal
 

@@ -1,5 +1,5 @@
 use Rattle.std.proofs.Common.{Some, None, cond, ap, ◌∙◌}
-use Rattle.ink_tree.specs.Nodes.{story_tree}
+use Rattle.ink_tree.proofs.Common.{story_tree}
 use Rattle.ink_tree.proofs.Spots.{named_last, no_last}
 use Rattle.ink_tree.proofs.tree.Tree.spot.Goals as goal
 

@@ -1,8 +1,5 @@
-use Rattle.std.proofs.Common.{sym, ap, ◌∙◌}
-use Rattle.std.specs.Option.{option_map}
-use Rattle.ink_model.specs.Tree.{at}
-use Rattle.ink_tree.specs.Contents.{reaches_in}
-use Rattle.ink_tree.specs.Nodes.{story_tree, place_of}
+use Rattle.std.proofs.Common.{sym, ap, ◌∙◌, option_map}
+use Rattle.ink_tree.proofs.Common.{at, reaches_in, story_tree, place_of}
 use Rattle.ink_tree.proofs.Spots.{nowhere, beyond, within}
 use Rattle.ink_tree.proofs.tree.Tree.spot_in.Goals as goal
 

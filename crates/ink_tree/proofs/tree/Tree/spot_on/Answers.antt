@@ -1,4 +1,4 @@
-use Rattle.ink_tree.specs.Nodes.{story_tree}
+use Rattle.ink_tree.proofs.Common.{story_tree}
 use Rattle.ink_tree.proofs.Absent.{stands}
 use Rattle.ink_tree.proofs.Spots.{there}
 use Rattle.ink_tree.proofs.tree.Tree.spot_on.Goals as goal

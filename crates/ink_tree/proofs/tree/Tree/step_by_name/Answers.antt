@@ -1,4 +1,4 @@
-use Rattle.ink_tree.specs.Nodes.{story_tree, node_place}
+use Rattle.ink_tree.proofs.Common.{story_tree, node_place}
 use Rattle.ink_tree.proofs.Stepping.{key_found}
 use Rattle.ink_tree.proofs.tree.Tree.step_by_name.Goals as goal
 

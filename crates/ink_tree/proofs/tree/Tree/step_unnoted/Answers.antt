@@ -1,6 +1,5 @@
 use Rattle.std.proofs.Common.{refl, sym}
-use Rattle.ink_model.specs.Tree.{at}
-use Rattle.ink_tree.specs.Nodes.{story_tree, node_place}
+use Rattle.ink_tree.proofs.Common.{at, story_tree, node_place}
 use Rattle.ink_tree.proofs.Stepping.{key_found, named_found}
 use Rattle.ink_tree.proofs.tree.Tree.step_unnoted.Goals as goal
 

@@ -1,7 +1,5 @@
 use Rattle.std.proofs.Common.{◌≡◌, arith}
-use Rattle.std.proofs.lemmas.Bool.Decides.{nat_tests}
-use Rattle.ink_tree.specs.Kept.{kept_keys}
-use Rattle.ink_tree.specs.Nodes.{story_tree, node_place}
+use Rattle.ink_tree.proofs.Common.{nat_tests, kept_keys, story_tree, node_place}
 use Rattle.ink_tree.proofs.Contents.{no_keys_in}
 use Rattle.ink_tree.proofs.tree.Tree.unnoted_child.Goals as goal
 

@@ -1,7 +1,5 @@
 use Rattle.std.proofs.Common.{◌≡◌, ◌∙◌, ap, sym, is_some, true, reverse}
-use Rattle.ink_model.specs.Entered.{entered_above}
-use Rattle.ink_model.specs.Tree.{at}
-use Rattle.ink_tree.specs.Nodes.{story_tree, node_place, place_of}
+use Rattle.ink_tree.proofs.Common.{entered_above, at, story_tree, node_place, place_of}
 use Rattle.ink_tree.proofs.Entering.{entered_from, entered_nowhere}
 use Rattle.ink_tree.proofs.Nodes.{node_stands}
 use Rattle.ink_tree.proofs.Standing.{root_place}

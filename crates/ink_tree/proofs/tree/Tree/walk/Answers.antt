@@ -1,6 +1,5 @@
 use Rattle.std.proofs.Common.{◌∙◌, ap}
-use Rattle.ink_model.specs.Path.{stepped}
-use Rattle.ink_tree.specs.Nodes.{story_tree, node_place}
+use Rattle.ink_tree.proofs.Common.{stepped, story_tree, node_place}
 use Rattle.ink_tree.proofs.Stepping.{walk_on}
 use Rattle.ink_tree.proofs.tree.Tree.walk.Goals as goal
 

@@ -1,6 +1,5 @@
 use Rattle.std.proofs.Common.{◌≡◌, ◌++◌, ◌∷◌, [], drop}
-use Rattle.ink_model.specs.Path.{walked}
-use Rattle.ink_tree.specs.Nodes.{story_tree, node_place}
+use Rattle.ink_tree.proofs.Common.{walked, story_tree, node_place}
 use Rattle.ink_tree.proofs.tree.Tree.walk.Given as goal
 
 -- the components that are left lead on from here as they all do

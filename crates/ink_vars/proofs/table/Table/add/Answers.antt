@@ -2,7 +2,8 @@ use Rattle.std.proofs.Common.{◌∙◌, ◌∷◌, ◌++◌, [], ap, is_some, s
 use Rattle.ink_model.specs.Store.{stored}
 use Rattle.ink_vars.specs.Globals.{rows_of}
 use Rattle.ink_vars.proofs.Naming.{store_new}
-use Rattle.ink_vars.proofs.Rows.{none_stored, not_in, pushed}
+use Rattle.ink_vars.proofs.Noting.{none_of}
+use Rattle.ink_vars.proofs.Rows.{not_in, pushed}
 use Rattle.ink_vars.proofs.table.Table.add.Goals as goal
 
 pub add-requires : goal.add-requires
@@ -18,4 +19,4 @@ returns-clause-ok c =
     ∙ ap (rows_of (held.names ++ name ∷ [])) (c.push_reserved.ensures.items ∙ ap (λ items. items ++ c.args.value ∷ []) c.in_ok-reserve.ensures.items)
     ∙ pushed held.names held.values.items name c.args.value c.self.invariant
     ∙ ap (λ rows. rows ++ (name, c.args.value) ∷ []) c.self.view_is
-    ∙ sym (store_new name c.args.value c.args.self.now (none_stored (stored name c.args.self.now) c.requires.absent))
+    ∙ sym (store_new name c.args.value c.args.self.now (none_of (stored name c.args.self.now) c.requires.absent))
