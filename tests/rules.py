@@ -1,14 +1,16 @@
 #!/usr/bin/env python3
-"""Where each rule of docs/ stands: its sentence, its definition, the contract that carries it, cases, and wrong bodies.
+"""Where each rule of docs/ stands: its sentence, its definition, the contracts that carry it, their proofs, cases, and wrong bodies.
 
-    tests/rules.py [NAME..]      all rules, or those named, and of these what wrong bodies change
+    tests/rules.py [WORD..]      all rules, or those of these names, and of these what wrong bodies change; of a word that is no
+                                 name the rules that have it in their name or sentence
 
 A rule is a sentence, or a row of a table, of a page of docs/, with its name behind it in brackets: 'Empty lines do not pile
 up. [empty-line]'. tests/rules/PAGE.txt has a paragraph for each rule of a page, in the order of the page: the name, and then
 such lines, the names in one parted by ', ', but for cases, which have a line each:
 
     definition FILE.NAME           of crates/ink_model/specs/FILE.antt; CRATE/FILE.NAME of another crate
-    contract CRATE FUNCTION CLAUSE   a function or TYPE::FUNCTION of crates/CRATE/src; without CLAUSE the clause has no name
+    contract CRATE FUNCTION CLAUSE   a function or TYPE::FUNCTION of crates/CRATE/src; without CLAUSE the clause has no name; the
+                                   nearest function comes first, and what the machine or the player promises last
     case TABLE: TEXT               of crates/*/data/TABLE.txt, or long/NAME of tests/long/NAME.txt. TEXT is the name of a session,
                                    the comment above some cases, or the question of one
     case FILE.py: TEXT             the line of tests/FILE.py with this text
@@ -16,9 +18,9 @@ such lines, the names in one parted by ', ', but for cases, which have a line ea
     case CRATE: TEXT               the first such line that the program of a crate prints (crates/CRATE/stdout)
     edit CRATE/NAME                crates/CRATE/must-fail/NAME.edit, or of more-edits
 
-Prints for each rule where these stand, as FILE:LINE, and of a wrong body the code that it changes. A rule that lacks one of
-the four is a gap. The status is 0 only where each rule has all four, each name leads to one place, and pages and tables have
-the same rules in the same order.
+Prints for each rule where these stand, as FILE:LINE, with a contract the files of its proof, and of a wrong body the code that it
+changes. A rule that lacks one of the four is a gap. The status is 0 only where each rule has all four, each name leads to one
+place, and pages and tables have the same rules in the same order.
 """
 import functools
 import glob
@@ -92,6 +94,17 @@ def contract(name):
     return found[0]
 
 
+def proof(name):
+    """The files of the proof of a contract's function, as far as it is written: crates/CRATE/proofs/MODULE/FUNCTION or
+    MODULE/TYPE/FUNCTION, by the module in which the type stands. What no file has, the prover finds."""
+    crate, _, function = name.partition(" ")
+    owner, _, last = function.split(" ")[0].rpartition("::")
+    paths = glob.glob(os.path.join(TOP, "crates", crate, "proofs", "**", last, "*.antt"), recursive=True)
+    above = [(path, os.path.basename(os.path.dirname(os.path.dirname(path)))) for path in paths]
+    found = sorted(path for path, folder in above if (folder == owner if owner else folder[:1].islower()))
+    return ", ".join(os.path.relpath(path, TOP) for path in found) or "the prover finds it"
+
+
 def case(name):
     """Where a case stands, or the comment that says what some cases show."""
     table, _, text = name.partition(": ")
@@ -134,16 +147,24 @@ def edit(name):
 PLACES = {"definition": definition, "contract": contract, "case": case, "edit": edit}
 
 
+def sentence(before, head):
+    """The last sentence of a text, with the one before it where it begins with a word that needs one. What stands in a list comes
+    behind the sentence that heads the list."""
+    sentences = re.split(r"(?<=[.:?]) (?=[A-Z`_])", MARK.sub("", before).replace("  ", " ").strip(" -*"))
+    leans = re.match(r"(It|Its|That|This|They|Their|These|Those|So|One|Such|Then|There|Else|Both|Each)\b", sentences[-1])
+    return " ".join([head] * bool(head) + sentences[-2 if leans and not head else -1:])
+
+
 def rules_of_page(path):
     """The rules that a page names: each name with FILE:LINE and the sentence or row."""
-    rules = []
+    rules, head = [], ""
     for at, line in enumerate(lines_of(path), 1):
-        begin = 0
+        if line and not line.startswith("- "):
+            head = "" if line.startswith(("#", "|", "  ")) or line.endswith((".", "]")) else sentence(line, "")
         for it in MARK.finditer(line):
-            row = line.startswith("|")
-            text = line.strip("| ") if row else re.split(r"(?<=[.:?]) (?=[A-Z`_])", line[begin:it.start()].strip(" -*"))[-1]
-            rules.append((it[1], "%s:%d" % (path, at), MARK.sub("", text).strip()))
-            begin = it.end()
+            in_list = head if line.startswith("- ") else ""
+            text = MARK.sub("", line.strip("| ")) if line.startswith("|") else sentence(line[:it.start()], in_list)
+            rules.append((it[1], "%s:%d" % (path, at), text.strip()))
     return rules
 
 
@@ -170,6 +191,8 @@ def show(rule, names, whole):
             if kind not in PLACES:
                 raise Wrong("a line begins with none of %s" % ", ".join(PLACES))
             print("    %-10s %s  %s" % (kind, PLACES[kind](of), of))
+            if kind == "contract":
+                print("    %-10s %s" % ("proof", proof(of)))
             for line in lines_of_edit(of) if whole and kind == "edit" else []:
                 sign, _, text = line.partition(":")
                 if sign in ("old", "new"):
@@ -179,14 +202,20 @@ def show(rule, names, whole):
     return ["%s has no %s" % (name, kind) for kind in PLACES if kind not in [it for it, _ in names]], wrong
 
 
+def is_about(rule, word):
+    """Whether the name or the sentence of a rule has the word."""
+    return any(word.lower() in text.lower() for text in (rule[0], rule[2]))
+
+
 def main():
     wanted = sys.argv[1:]
-    rules, gaps, wrong = {}, [], []
+    rules, gaps, wrong, shown = {}, [], [], 0
     pages = {os.path.basename(it)[:-len(".md")] for it in glob.glob(os.path.join(TOP, "docs", "*.md"))}
     tables = {os.path.basename(it)[:-len(".txt")] for it in glob.glob(os.path.join(TOP, "tests", "rules", "*.txt"))}
     wrong += ["tests/rules/%s.txt: there is no docs/%s.md" % (it, it) for it in sorted(tables - pages)]
-    for page in sorted(pages):
-        named = rules_of_page("docs/%s.md" % page)
+    rules_on = {page: rules_of_page("docs/%s.md" % page) for page in sorted(pages)}
+    words = [it for it in wanted if it not in [rule[0] for named in rules_on.values() for rule in named]]
+    for page, named in rules_on.items():
         told = rules_of_table("tests/rules/%s.txt" % page) if page in tables else []
         if [it[0] for it in named] != [it[0] for it in told]:
             at = next((n for n, (one, other) in enumerate(zip(named, told)) if one[0] != other[0]), min(len(named), len(told)))
@@ -196,10 +225,12 @@ def main():
             if rule[0] in rules:
                 wrong.append("%s: [%s] stands at %s too" % (rule[1], rule[0], rules[rule[0]]))
             rules[rule[0]] = rule[1]
-            if not wanted or rule[0] in wanted:
-                lacking, false = show(rule, names_of.get(rule[0], []), bool(wanted))
+            if not wanted or rule[0] in wanted or any(is_about(rule, word) for word in words):
+                lacking, false = show(rule, names_of.get(rule[0], []), rule[0] in wanted)
+                shown += 1
                 gaps, wrong = gaps + lacking, wrong + false
-    wrong += ["there is no rule %s" % name for name in wanted if name not in rules]
+    if wanted and not shown:
+        wrong.append("there is no rule about %s" % ", ".join(wanted))
     for it in gaps + wrong:
         print(it)
     print("%d rules, gaps: %d, wrong: %d" % (len(rules), len(gaps), len(wrong)))
