@@ -19,7 +19,7 @@ use std::alloc::Global;
 use std::marker::Model;
 use std::mem;
 
-/// Functions and watchers by name, in the order in which they came, and what happened since the events were last taken. It is
+/// Functions and watchers by name, in the order in which they came, and the events that nobody has taken yet. It is
 /// generic in the objects and asks nothing of them but their traits: each that is given is kept or handed back.
 pub struct Desk<P, T, W> {
     pub(crate) functions: IndexMap<String, Bound<P, T>>,
@@ -246,7 +246,7 @@ impl<P, T, W: Watcher> Desk<P, T, W> {
 }
 
 impl<P, T, W> Desk<P, T, W> {
-    /// Hands back all that was bound and all who watch, each by its name.
+    /// Hands back all that was bound and all who watch, each by its name. Events that nobody has taken go.
     pub fn close(self) -> (IndexMap<String, Bound<P, T>>, IndexMap<String, W>)
         ensures functions { shown string_bytes (λ b. b) result.0.entries ≡ self.functions }
         ensures watchers { shown string_bytes (λ w. w) result.1.entries ≡ self.watchers }

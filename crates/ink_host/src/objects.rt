@@ -69,7 +69,7 @@ pub trait TurnFn {
         ensures refusals { refusals self.new ≡ refusals_after result (refusals self.old) };
 }
 
-/// Who is told the new values of a global. Its methods require nothing.
+/// Who is told the new values of a global. Its methods may be called at any time.
 pub trait Watcher {
     /// What it was told, whether it is at rest, and how often it was begun, ended and refused memory.
     ghost state: { Self → Watching };
@@ -78,8 +78,8 @@ pub trait Watcher {
     fn begin(&mut self)
         ensures { state self.new ≡ begun (state self.old) };
 
-    /// A global has a new value. The one error is a refused request for memory, and then it was not told. A watcher that was
-    /// not begun owes nothing.
+    /// A global has a new value. The one error is a refused request for memory, and then it was not told. Without `begin` before
+    /// it, this call promises nothing.
     fn changed(&mut self, stamp: u64, name: &str, value: &Value) -> Result<(), AllocError>
         ensures told { (state self.old).resting ≡ false → OnOk result (state self.new ≡ taken (record { stamp = stamp; name = name.now; value = value.now }) (state self.old)) }
         ensures untold { (state self.old).resting ≡ false → OnErr result (state self.new ≡ refused (state self.old)) };

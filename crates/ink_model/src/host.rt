@@ -10,7 +10,7 @@ use crate::text::Text;
 use crate::value::Value;
 use std::alloc::{AllocError, AllocFailed, Global};
 
-/// What a host object answers.
+/// What a host object answers, and what a global is given. A function may answer `Void`; a global is given none.
 #[derive(Drop)]
 pub enum Given {
     Int(i32),
@@ -30,7 +30,7 @@ impl Given {
         Ok(Given::Text(Shared::new(alloc, Text::from_str(alloc, text)?)?))
     }
 
-    /// What gives this value, as one that was got; none for a target, a pointer or a tag. Takes no memory.
+    /// The answer that gives this value, such as one from `get`; none for a target, a pointer or a tag. Takes no memory.
     pub fn from_value(value: Value) -> Option<Given>
         ensures { result ≡ giving value }
     {

@@ -12,14 +12,17 @@ pub struct Shown {
     pub tags: Seq<Shared<Text>>,
 }
 
-/// A passage: its text and tags, the choices after it, what happened with the host's objects on the way, whether flow
-/// can go on, and whether it stopped at a loose end.
+/// What a running command shows, in the order of the story.
 #[derive(Drop)]
 pub struct Passage {
     pub text: Text,
     pub tags: Seq<Shared<Text>>,
+    /// The choices behind the text; none while the story can go on.
     pub choices: Seq<Shown>,
+    /// What happened with the host's objects on the way.
     pub events: Seq<Event>,
+    /// Whether the story can go on.
     pub more: bool,
+    /// Whether the content ran out without an end: neither `-> END` nor `-> DONE` was met.
     pub loose: bool,
 }

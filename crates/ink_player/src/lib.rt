@@ -1,4 +1,5 @@
-//! The player of a story, and the session over command lines.
+//! The player of a story, and the session over command lines. Begin with `open_story`, which makes a `Player`: `continue_line` and
+//! `choose` play it (docs/HOST.md). `serve` and `serve_story` play command lines (docs/PROTOCOL.md).
 #![tactic(auto)]
 
 mod end;

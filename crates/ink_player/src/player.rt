@@ -47,8 +47,8 @@ use std::alloc::{AllocError, Global};
 use std::fmt;
 use std::marker::Model;
 
-/// A story that runs: where it stands, and the desk of the host's objects. Between calls every event was taken, and where it stands
-/// is sound and at rest (docs/SAVES.md), unless a fault broke it.
+/// A story that runs: where it stands, and the desk of the host's objects. Each call returns the events of that call, and none waits
+/// in the player. Its game can always be saved, unless a fault broke it: where it stands is sound and at rest (docs/SAVES.md).
 pub struct Player<P, F, O> {
     story: Story,
     desk: Desk<P, F, O>,
@@ -155,12 +155,16 @@ impl<P: PureFn, F: TurnFn, O: Watcher> Player<P, F, O> {
 
     /// Runs one line, and answers its passage (docs/RUNNING.md, "Lines"): up to its newline, once it is sure to stand, or up to the
     /// stop. What lies past the newline is left for the next command: nothing that was found there is kept, and no turn function
-    /// was called there. Refused with `Broken` after a fault, and with `CannotContinue` where flow has stopped; nothing has changed
-    /// then. A fault breaks the player: that of a step that faulted with no newline open, `OutOfSteps` after 1,000,000 steps without
-    /// one, and `OutOfMemory` where memory was refused to a step, to a look past a newline at a step that calls no turn function, to
-    /// the passage, or to a watcher that is told: then the line stands, and all others are told. What happened with the objects of
-    /// the host is among the answer's events, also after a fault; a fault of a step, of the passage or of room for telling tells no
-    /// watcher (docs/HOST.md).
+    /// was called there.
+    ///
+    /// Refused: `Broken` after a fault, `CannotContinue` where flow has stopped. Nothing has changed then.
+    ///
+    /// Faults, which break the player: that of a step that faulted with no newline open; `OutOfSteps` after 1,000,000 steps without
+    /// one; `OutOfMemory` where memory was refused to a step, to a look past a newline at a step that calls no turn function, to the
+    /// passage, or to a watcher. In the last case the line stands, and all other watchers are told.
+    ///
+    /// What happened with the objects of the host is among the answer's events, also after a fault. A fault of a step, of the passage
+    /// or of room for telling tells no watcher (docs/HOST.md).
     pub fn continue_line(&mut self) -> Result<Passage, Halt>
         ensures does { (es : List Happening) × Continue (story_of self.old) (bindings P.meaning (desk_of self.old)) es (state_of self.old) (reply_of result) (state_of self.new)
             × DealtByRun F.log O.state (told_from (desk_of self.old) (state_of self.old) (globals_of (state_of self.new).condition)) (desk_of self.old) es (reply_of result) (desk_of self.new) }
@@ -171,11 +175,15 @@ impl<P: PureFn, F: TurnFn, O: Watcher> Player<P, F, O> {
         self.go_on(Extent::Line)
     }
 
-    /// Runs to the stop, and answers the passage. Refused with `Broken` after a fault, and with `CannotContinue` where flow has
-    /// stopped; nothing has changed then. A fault breaks the player: that of the step that faulted, `OutOfSteps` after 1,000,000
-    /// steps, and `OutOfMemory` where memory was refused to a step, to the passage, or to a watcher that is told: then the run
-    /// stands, and all others are told. What happened with the objects of the host is among the answer's events, also after a
-    /// fault; a fault of a step, of the passage or of room for telling tells no watcher (docs/HOST.md).
+    /// Runs to the stop, and answers the passage.
+    ///
+    /// Refused: `Broken` after a fault, `CannotContinue` where flow has stopped. Nothing has changed then.
+    ///
+    /// Faults, which break the player: that of the step that faulted; `OutOfSteps` after 1,000,000 steps; `OutOfMemory` where memory
+    /// was refused to a step, to the passage, or to a watcher. In the last case the run stands, and all other watchers are told.
+    ///
+    /// What happened with the objects of the host is among the answer's events, also after a fault. A fault of a step, of the passage
+    /// or of room for telling tells no watcher (docs/HOST.md).
     pub fn through(&mut self) -> Result<Passage, Halt>
         ensures does { (es : List Happening) × Through (story_of self.old) (bindings P.meaning (desk_of self.old)) es (state_of self.old) (reply_of result) (state_of self.new)
             × DealtByRun F.log O.state (told_from (desk_of self.old) (state_of self.old) (globals_of (state_of self.new).condition)) (desk_of self.old) es (reply_of result) (desk_of self.new) }
@@ -231,7 +239,7 @@ impl<P: PureFn, F: TurnFn, O: Watcher> Player<P, F, O> {
         self.machine.reuse(text, tags)
     }
 
-    /// Gives a global a value, and tells its watcher where that is another one (docs/HOST.md, "Telling"). Refused with `Broken`
+    /// Gives a global a value, and tells its watcher if the value is a new one (docs/HOST.md, "Telling"). Refused with `Broken`
     /// after a fault, with `BadValue` for void and for a text over its limit, with `NoSuchVariable` where there is no such global,
     /// and with `OutOfMemory` where memory for telling was refused; nothing has changed then. Where the watcher finds no memory
     /// the global has its value, and the player is broken by the fault `OutOfMemory`.
@@ -302,7 +310,7 @@ impl<P: PureFn, F: TurnFn, O: Watcher> Player<P, F, O> {
     }
 
     /// The choices that are there to choose, in their order; none while flow has not stopped. Refused with `Broken` after a fault,
-    /// and with `OutOfMemory` where memory for them was refused; none takes none.
+    /// and with `OutOfMemory` where memory for them was refused; an empty list takes no memory.
     pub fn choices(&self) -> Result<Seq<Shown>, Refusal>
         ensures { ShowsChoices (state_of self.now) result }
     {
@@ -352,8 +360,8 @@ impl<P: PureFn, F: TurnFn, O: Watcher> Player<P, F, O> {
         Ok(())
     }
 
-    /// Where the story stands, as a JSON value, which has no float (docs/SAVES.md): the one value that reads as that, but for one in
-    /// layout 1 where there is one flow; for where a player stands is sound and at rest. Refused with `Broken` after a fault, and with `OutOfMemory` where memory was refused.
+    /// Where the story stands, as a JSON value, which has no float (docs/SAVES.md). No other value loads as this game, except its
+    /// layout 1 if there is only one flow. Refused with `Broken` after a fault, and with `OutOfMemory` where memory was refused.
     pub fn save(&self) -> Result<Json, Refusal>
         ensures does { Save (state_of self.now) (reply_of_json result) (state_of self.now) }
         ensures plain { IfOk result IsPlain }
@@ -382,12 +390,13 @@ impl<P: PureFn, F: TurnFn, O: Watcher> Player<P, F, O> {
         }
     }
 
-    /// Goes on where a save of the story stands, with its flows and no others (docs/SAVES.md); a broken player too. Watchers are told of each global that has
-    /// another value than before, or was not there (docs/HOST.md, "Telling"). Refused with `BadSave` where the value spells nothing
-    /// that fits the story, and with `OutOfMemory` where memory was refused, which is asked for only where something of the value is
-    /// kept; nothing has changed then. Where a watcher finds no memory the save is loaded, all others are told, and the player is
-    /// broken by the fault `OutOfMemory`. What `save` gave for the story is never refused with `BadSave`, and `save` gives it again
-    /// where it was loaded.
+    /// Goes on where a save of the story stands, with its flows and no others (docs/SAVES.md); a broken player too. Watchers are told
+    /// of each global that has another value than before, or was not there (docs/HOST.md, "Telling"). A value that `save` gave for
+    /// this story always loads, if there is memory; `save` then gives the same value.
+    ///
+    /// Refused: `BadSave` where the value spells nothing that fits the story; `OutOfMemory` where memory was refused, which is asked
+    /// for only where something of the value is kept. Nothing has changed then. Where a watcher finds no memory the save is loaded,
+    /// all others are told, and the player is broken by the fault `OutOfMemory`.
     pub fn load(&mut self, json: &Json) -> Result<Seq<Event>, Halt>
         ensures does { (es : List Happening) × Load (story_of self.old) (bindings P.meaning (desk_of self.old)) es (Some (view json.now)) (state_of self.old) (reply_of_events result) (state_of self.new)
             × DealtOnce F.log O.state (told_from (desk_of self.old) (state_of self.old) (globals_of (state_of self.new).condition)) (desk_of self.old) es (reply_of_events result) (desk_of self.new) }
@@ -422,8 +431,9 @@ impl<P: PureFn, F: TurnFn, O: Watcher> Player<P, F, O> {
         }
     }
 
-    /// Begins anew, as the story was opened, with one flow; a broken player too. Watchers are told of each global that has another value than
-    /// before, or was not there (docs/HOST.md, "Telling"). The declarations do not fault, since they did not when the story was opened.
+    /// Begins anew, as the story was opened, with one flow; a broken player too. Watchers are told of each global that has another
+    /// value than before, or was not there (docs/HOST.md, "Telling"). The declarations do not fault, since they did not when the
+    /// story was opened.
     /// Refused with `OutOfMemory` alone, where they run to a step that asks for memory, or memory for telling was refused; nothing
     /// has changed then. Where a watcher finds no memory the story has begun anew, all others are told, and the player is broken by
     /// the fault `OutOfMemory`.

@@ -74,7 +74,7 @@ fn done_text() -> &'static str
     "{\"events\":[]}\n"
 }
 
-/// A passage that a running command returned, as the line that is written, its newline at the end, in a buffer whose bytes go.
+/// A passage that a running command returned, as the line that is written, its newline at the end, in a buffer that is emptied first.
 /// The one error is a refused request for memory.
 pub fn passage_text(
     alloc: Global,
@@ -90,7 +90,7 @@ pub fn passage_text(
     }
 }
 
-/// What a command's call returned, as the line that is written, its newline at the end, in a buffer whose bytes go. The one
+/// What a command's call returned, as the line that is written, its newline at the end, in a buffer that is emptied first. The one
 /// error is a refused request for memory.
 #[inline(always)]
 pub fn answer_text(alloc: Global, buffer: &mut Vec<u8>, outcome: Outcome) -> Result<(), AllocError>

@@ -27,7 +27,7 @@ pub trait Source {
     /// How many reads have given no byte, which is how often it was read at its end, by a counter of 64 bits.
     ghost ends: { Self → ℕ };
 
-    /// Which source it is. A source around a reference says by it which reference it holds.
+    /// Tells two sources apart. A source around another one answers for that.
     ghost name: { Self → ℕ };
 
     /// Reads some bytes into the front of the buffer, and tells how many: none only at the end. `ReadFailed` says that none

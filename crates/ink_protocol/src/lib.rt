@@ -1,4 +1,5 @@
-//! Command lines, answers, and the reading and writing of lines (docs/PROTOCOL.md). Nothing here knows of a story or runs one.
+//! Command lines, answers, and the reading and writing of lines (docs/PROTOCOL.md). Nothing here knows of a story or runs one. A host
+//! needs `Source`, `Sink`, `Watched` and `RunFault`, and finds them in ink_player, too.
 #![tactic(auto)]
 
 mod answer;

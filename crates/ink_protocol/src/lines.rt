@@ -14,7 +14,7 @@ pub enum Line {
     Last(Vec<u8>),
 }
 
-/// The next line, of at most so many bytes, in the memory of a buffer whose bytes go. No more is read than tells that it is
+/// The next line, of at most so many bytes, in the memory of a buffer that is emptied first. No more is read than tells that it is
 /// longer, and nothing after a read that gave no byte: that is the source's end. Errors: `Read`, where the source failed;
 /// `TooLong`, once what was read shows that the line is longer, or that all bytes were taken that may be and more are there,
 /// whatever memory there is; `OutOfMemory`, where memory was refused for a byte that the line may have.

@@ -20,7 +20,7 @@ pub trait Sink {
     /// How many writes have failed, or took no byte though there was one, by a counter of 64 bits.
     ghost failures: { Self → ℕ };
 
-    /// Which sink it is. A sink around a reference says by it which reference it holds.
+    /// Tells two sinks apart. A sink around another one answers for that.
     ghost name: { Self → ℕ };
 
     /// Writes some bytes from the front of these, and tells how many. `WriteFailed` says that none were written. There is a byte

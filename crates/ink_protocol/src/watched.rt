@@ -10,7 +10,7 @@ use crate::output::{Sink, WriteFailed};
 use std::io::{Read, Write};
 
 /// A reader or a writer of one's own, and how often it has failed: reads that failed, or writes that failed or took no byte
-/// though there was one; and how many reads have given no byte. The counts are of 64 bits and go round.
+/// though there was one; and how many reads have given no byte. The counts are of 64 bits and wrap around.
 #[derive(Drop)]
 pub struct Watched<X> {
     inner: X,

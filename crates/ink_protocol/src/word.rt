@@ -8,7 +8,7 @@ ghost use Rattle.ink_model.specs.Command as command;
 /// The most digits of a choice's number.
 const MAX_DIGITS: usize = 9;
 
-/// What follows a word at a line's beginning.
+/// What follows a word at a line's beginning; none where the line begins otherwise.
 pub fn after<'a>(word: &str, text: &'a str) -> Option<&'a str>
     ensures { option_map (λ rest. rest.now) result ≡ after_word word.now text.now }
 {
