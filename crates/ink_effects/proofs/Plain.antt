@@ -1,19 +1,23 @@
 -- Effects that store nothing and offer nothing: those of control content, and of calls.
 use Rattle.std.proofs.Common.{◌≡◌, ap, refl, ℕ, ℤ, List, Bool, true, false, if◌then◌else◌, Option, Some, None, OnOk, Result, Ok, Err, reverse}
-use Rattle.ink_model.specs.Acceptance.{leads}
+use Rattle.ink_model.specs.Acceptance.{lands, leads}
+use Rattle.ink_model.specs.Choices.{added, make}
 use Rattle.ink_model.specs.Configuration.{ChoiceOf}
 use Rattle.ink_model.specs.Effect.{Context, Fields, Effect, Stores, Offers, or_else, or_fault, pushing, writing, writing_text}
-use Rattle.ink_model.specs.Frames.{ThreadsOf, map_threads, mode_in, on_top}
+use Rattle.ink_model.specs.Frames.{ThreadOf, ThreadsOf, map_threads, mode_in, on_top}
 use Rattle.ink_model.specs.Output.{closes_string, opens, writes_tag}
 use Rattle.ink_model.specs.Page.{Page, tag_section}
 use Rattle.ink_model.specs.Path.{above}
 use Rattle.ink_model.specs.Stack.{applied, popped, pushed}
 use Rattle.ink_model.specs.Step.{control_effect, leaf_effect}
 use Rattle.ink_model.specs.Step.Calls.{led_back}
+use Rattle.ink_model.specs.Step.Choices.{offer, offering, was_visited}
 use Rattle.ink_model.specs.Step.Counts.{asking, pushing_count, turns_there, visits_there}
 use Rattle.ink_model.specs.Step.Diverts.{condition, landing_by, led_to, where_true}
 use Rattle.ink_model.specs.Step.Evaluation.{output_popped, push_value}
 use Rattle.ink_model.specs.Step.Text.{closed_tag, in_tag, keeps_tag, write_tag}
+use Rattle.ink_model.specs.Step.Variables.{assign, declare, storing}
+use Rattle.ink_model.specs.Store.{Values}
 use Rattle.ink_model.specs.Tree.{StoryTree}
 use Rattle.ink_model.specs.Variables.{read}
 use Rattle.ink_model.specs.declared.content.Control.{Control}
@@ -21,7 +25,9 @@ use Rattle.ink_model.specs.declared.content.Control.TheVariants as control
 use Rattle.ink_model.specs.declared.content.Leaf.{Leaf}
 use Rattle.ink_model.specs.declared.content.Leaf.TheVariants as leaves
 use Rattle.ink_model.specs.declared.fault.Fault.{Fault}
+use Rattle.ink_model.specs.declared.fault.Fault.TheVariants.{BadTarget, StackEmpty}
 use Rattle.ink_model.specs.declared.place.Part.{Part}
+use Rattle.ink_model.specs.declared.scope.Scope.{Scope}
 use Rattle.ink_model.specs.declared.value.Value.{Value}
 use Rattle.ink_model.specs.declared.value.Value.TheVariants as value
 use Rattle.ink_effects.specs.Performs.{AsksToStore, Keeps, KeepsChoices}
@@ -148,6 +154,48 @@ leaf_plain s p seen (leaves.DeclareTemp name) f h = absurd h
 leaf_plain s p seen (leaves.AssignTemp name) f h = absurd h
 leaf_plain s p seen (leaves.Count text) f h = plain_else _ (leads s p text) _ (λ q. count_plain s seen _ f)
 leaf_plain s p seen (leaves.Choice text flags) f h = absurd h
+
+-- ---- content that stores offers nothing
+
+module _ (s : StoryTree) (choices : List (ChoiceOf Spot)) where
+  abbrev OffersNone : Effect → Type 0
+  OffersNone e = KeepsChoices s e choices choices
+
+  stored_none : (r : Result (Values × ThreadOf (List Part)) Fault) (f : Fields) → OffersNone (storing r f)
+  stored_none (Ok w) f = refl
+  stored_none (Err e) f = refl
+
+  popped_none : (o : Option (Value × List Value)) (so : Value × List Value → Effect) → ((r : Value × List Value) → OffersNone (so r)) → OffersNone (or_else StackEmpty o so)
+  popped_none None so none = refl
+  popped_none (Some r) so none = none r
+
+  pub declare_offers_none : (scope : Scope) (name : List ℕ) (seen : Context) (f : Fields) → OffersNone (declare scope name seen f)
+  declare_offers_none scope name seen f = popped_none (popped f.stack) _ (λ r. stored_none _ (record f { stack = r.1 }))
+
+  pub assign_offers_none : (name : List ℕ) (seen : Context) (f : Fields) → OffersNone (assign name seen f)
+  assign_offers_none name seen f = popped_none (popped f.stack) _ (λ r. stored_none _ (record f { stack = r.1 }))
+
+-- ---- content that offers stores nothing
+
+module _ (s : StoryTree) (threads : ThreadsOf Spot) where
+  abbrev StoresNone : Effect → Type 0
+  StoresNone e = Keeps s e threads threads
+
+  or_none : {A : Type 0} (r : Result A Fault) (so : A → Effect) → ((a : A) → StoresNone (so a)) → StoresNone (or_fault r so)
+  or_none (Ok a) so none = none a
+  or_none (Err f) so none = refl
+
+  else_none : {A : Type 0} (f : Fault) (o : Option A) (so : A → Effect) → ((a : A) → StoresNone (so a)) → StoresNone (or_else f o so)
+  else_none f None so none = refl
+  else_none f (Some a) so none = none a
+
+  offering_none : (p : List Part) (seen : Context) (o : Option (ChoiceOf (List Part))) (f : Fields) → StoresNone (offering s p seen o f)
+  offering_none p seen None f = refl
+  offering_none p seen (Some choice) f = or_none (added choice seen.choices) _ (λ choices. refl)
+
+  pub offer_stores_none : (p : List Part) (seen : Context) (text : List ℕ) (flags : ℕ) (f : Fields) → StoresNone (offer s p seen text flags f)
+  offer_stores_none p seen text flags f =
+      else_none BadTarget (lands s p text) _ (λ q. or_none (make flags q (was_visited s p seen text flags) seen.thread f.stack) _ (λ r. offering_none p seen r.0 (record f { stack = r.1 })))
 
 -- what holds whatever a call returns
 pub when_ok : {A : Type 0} (r : Result A Fault) (B : Type 0) → B → OnOk r B

@@ -34,11 +34,27 @@ pub closed_page : (line : List Mark) (sections : List Section) (n : ℕ) → 0 <
 unfolding page_with
 closed_page line sections n some = ap (page_with line n) (below_last sections some)
 
+pub closed_is : (line : List Mark) (xs below : List Section) (n : ℕ) (x : Section) → xs ≡ below ++ x ∷ [] → closed (page_of line xs n) ≡ page_of line below n
+closed_is line xs below n x is =
+    let turned : reverse xs ≡ x ∷ reverse below = ap reverse is ∙ reverse-append below (x ∷ []) in
+    rw turned refl
+
+-- something is open
+pub some_open : (sections there : List Section) → reverse sections ≡ there → 0 < length there → 0 < length sections
+some_open sections there turned some = omega (arith, some, length-reverse sections, ap (λ (s : List Section). length s) turned)
+
 -- what was lent comes back whole
 pub refilled : (xs slice ys : List Section) (n : ℕ) → n ≡ length xs → slice ≡ xs → length ys ≡ length slice → take n (ys ++ drop (length ys) xs) ≡ ys
 refilled xs slice ys n fits lent same =
     let kept : length ys ≡ length xs = same ∙ ap (λ (s : List Section). length s) lent in
     rw (drop_all (length ys) xs (omega arith), append-nil ys) (take_all n ys (omega arith))
+
+-- and nothing was changed in it
+pub stays_as : (line new_line : List Mark) (xs slice ys : List Section) (len n : ℕ) → len ≡ length xs → slice ≡ xs → length ys ≡ length slice → (new_line ≡ line) × (ys ≡ slice)
+    → page_of new_line (take len (ys ++ drop (length ys) xs)) n ≡ page_of line xs n
+stays_as line new_line xs slice ys len n fits lent same stays =
+    let items : take len (ys ++ drop (length ys) xs) ≡ xs = refilled xs slice ys len fits lent same ∙ stays.1 ∙ lent in
+    ap (λ (l : List Mark). page_of l (take len (ys ++ drop (length ys) xs)) n) stays.0 ∙ ap (λ (s : List Section). page_of line s n) items
 
 abbrev written : Page → Result Page Fault
 written page = Ok page
@@ -54,15 +70,30 @@ closed_ok ms line new_line xs slice ys popped len n same fits some kept gone is 
     ∙ (is.0
     ∙ ap (λ (s : List Section). written (page_of new_line s n)) left_over))
 
-unchanged : (r : Result Page Fault) (page next : Page) (g : Fault) (answer : Result (Unit {0}) Fault) → next ≡ page → IsErrAnd answer (λ f. f ≡ g) → Gives {A = Page} (Err g) r → Leaves r page next answer
+-- what was taken away was put back, since the mark found no room below it
+pub put_back : (line new_line : List Mark) (xs below slice ys back : List Section) (len n : ℕ) (x : Section) → len ≡ length below → slice ≡ below → length ys ≡ length slice → (new_line ≡ line) × (ys ≡ slice) → xs ≡ below ++ x ∷ []
+    → back ≡ take len (ys ++ drop (length ys) below) ++ x ∷ [] → page_of new_line back n ≡ page_of line xs n
+put_back line new_line xs below slice ys back len n x fits lent same stays is pushed =
+    let whole = refilled below slice ys len fits lent same in
+    let items : back ≡ xs = pushed ∙ ap (λ (s : List Section). s ++ x ∷ []) (whole ∙ stays.1 ∙ lent) ∙ sym is in
+    ap (λ (l : List Mark). page_of l back n) stays.0 ∙ ap (λ (s : List Section). page_of line s n) items
+
+-- memory may be refused for a mark
+pub asks_mark : (ms : List Mark) (page : Page) → asks_for (writes_marks ms page) ≡ true
+asks_mark ms page = by (is_crowded ms page) refl
+  where
+    by : (crowded : Bool) → is_crowded ms page ≡ crowded → asks_for (writes_marks ms page) ≡ true
+    by true full = rw full refl
+    by false full = rw full refl
+
+pub unchanged : (r : Result Page Fault) (page next : Page) (g : Fault) (answer : Result (Unit {0}) Fault) → next ≡ page → IsErrAnd answer (λ f. f ≡ g) → Gives {A = Page} (Err g) r → Leaves r page next answer
 unchanged r page next g (Err f) same told is = (subst (λ (e : Fault). Gives {A = Page} (Err e) r) (sym told) is, same)
 unchanged r page next g (Ok b) same told is = absurd told
 
 -- where the mark found no room all is as it was
 pub closed_err : (ms line new_line : List Mark) (xs slice ys : List Section) (len n : ℕ) (g : Fault) (answer : Result (Unit {0}) Fault) → slice ≡ xs → len ≡ length xs → 0 < length xs → length ys ≡ length slice → (new_line ≡ line) × (ys ≡ slice) → IsErrAnd answer (λ f. f ≡ g) → Leaves {A = Unit {0}} (writes_marks ms (page_of line (take (length slice - 1) slice) n)) (page_of line (take (length slice - 1) slice) n) (page_of new_line (take (length slice - 1) ys) n) (Err g) → Leaves {A = Unit {0}} (writes_marks ms (closed (page_of line xs n))) (page_of line xs n) (page_of new_line (take len (ys ++ drop (length ys) xs)) n) answer
 closed_err ms line new_line xs slice ys len n g answer same fits some kept stays told is =
-    let whole = refilled xs slice ys len fits same kept in
-    let as_before : page_of new_line (take len (ys ++ drop (length ys) xs)) n ≡ page_of line xs n = rw (whole, stays.1, same, stays.0) refl in
+    let as_before = stays_as line new_line xs slice ys len n fits same kept stays in
     let is_below : page_of line (take (length slice - 1) slice) n ≡ closed (page_of line xs n) = ap (λ (s : List Section). page_of line (take (length s - 1) s) n) same ∙ sym (closed_page line xs n some) in
     subst (λ (p : Page). Leaves {A = Unit {0}} (writes_marks ms p) (page_of line xs n) (page_of new_line (take len (ys ++ drop (length ys) xs)) n) answer) is_below (unchanged (writes_marks ms (page_of line (take (length slice - 1) slice) n)) (page_of line xs n) (page_of new_line (take len (ys ++ drop (length ys) xs)) n) g answer as_before told is.0)
 

@@ -125,6 +125,11 @@ goes-with e n was is None r s same held keeps more h = held
 goes-with e n was is (Some u) r s same held keeps more h =
     (held, subst (λ p. Keeps e p) (sym same) keeps, goes-more r (room_of e s) u.trail (output_back e is) more (subst (λ p. GoesBack r u.trail p) (sym same) h))
 
+-- where no mark stands
+pub goes-unmarked : (room : ℕ) (u : Option (Undo OutputPair)) (page : Page) → is_some u ≡ false → Held room page → GoesBack room (trail_of u) page
+goes-unmarked room None page none held = held
+goes-unmarked room (Some u) page none held = absurd (cc)
+
 -- what becomes of the page and of the trail
 pub goes-as : (r s : ℕ) (u v : Option (Undo OutputPair)) (p q : Page) → v ≡ u → q ≡ p → r ≤ s → GoesBack r (trail_of u) p → GoesBack s (trail_of v) q
 goes-as r s u v p q undo same more h =

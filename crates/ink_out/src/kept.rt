@@ -12,7 +12,6 @@ use std::alloc::{AllocError, Global};
 use std::marker::Model;
 
 /// A mark as it is kept. A contract sees the mark.
-#[derive(Drop)]
 pub(crate) struct Kept {
     pub(crate) form: Form,
 }
@@ -24,6 +23,14 @@ impl Model for Kept {
     ghost Value = { Mark };
 
     ghost view = { λ m. mark_of m.form };
+}
+
+/// Written out, so that wherever a mark is let go that is one call, and a proof there does not go through its forms.
+impl Drop for Kept {
+    #[inline(always)]
+    fn drop(self) {
+        let Kept { form: _ } = self;
+    }
 }
 
 /// Which mark it is.

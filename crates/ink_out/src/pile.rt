@@ -59,9 +59,16 @@ impl<'m> Held<'m> {
 
 /// The blanks and newlines since the last text. A contract sees them the last first. Most lines have a blank and a newline
 /// there at the most, which take no memory.
-#[derive(Drop)]
 pub(crate) struct Pile<'m> {
     items: SmallVec<Held<'m>, 2>,
+}
+
+/// Written out, so that wherever a pile is let go that is one call.
+impl Drop for Pile<'_> {
+    #[inline(always)]
+    fn drop(self) {
+        let Pile { items: _ } = self;
+    }
 }
 
 impl<'m> Model for Pile<'m> {

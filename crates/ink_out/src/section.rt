@@ -12,7 +12,7 @@ ghost use Rattle.ink_out.specs.declared.state.State.{State};
 ghost use Rattle.ink_out.specs.Kept.{said};
 ghost use Rattle.ink_out.specs.Stands.{IsStateOf, Sees, is_past};
 ghost use Rattle.ink_out.specs.Undo.{GoesBack, Held, output_back, with_open};
-ghost use Rattle.ink_trail.specs.Undo.{Trails, TrailsOrKeeps, but_last, spare, trail_of};
+ghost use Rattle.ink_trail.specs.Undo.{KeepsTrail, Trails, TrailsOrKeeps, but_last, spare, trail_of};
 
 use crate::cleaning::{is_clean, room_in};
 use crate::cutting::{Pieces, has_words};
@@ -33,12 +33,23 @@ use std::marker::Model;
 
 /// The marks that were written into the line, a string or a tag, the shown newlines that nothing can hide any more, and what
 /// the marks leave to decide. A contract sees the marks, the oldest first.
-#[derive(Drop)]
 pub struct Section {
     marks: Vec<Kept>,
     settled: Vec<usize>,
     state: State,
     enters: Enters,
+}
+
+/// Written out, so that wherever a section is let go that is one call, and a proof there does not go through its fields.
+impl Drop for Section {
+    fn drop(self) {
+        let Section {
+            marks: _,
+            settled: _,
+            state: _,
+            enters: _,
+        } = self;
+    }
 }
 
 impl Model for Section {
@@ -78,7 +89,7 @@ impl Section {
         self.enters.note(&mark, at)?;
         settle(&mut self.settled, &mark, newline);
         self.state.add(&mark, at, &self.enters);
-        self.marks.push(mark).unwrap();
+        self.marks.push_reserved(mark);
         Ok(())
     }
 
@@ -94,9 +105,7 @@ impl Section {
         ensures trail { (page : Page) → TrailsOrKeeps output_back (length pieces.items) (with_open self.old page) trail.old (with_open self.new page) trail.new result }
         ensures back { (page : Page) (room : ℕ) → Held room (with_open self.new page) → GoesBack room (trail_of trail.old.undo) (with_open self.old page) → GoesBack room (trail_of trail.new.undo) (with_open self.new page) }
     {
-        trail.ready(pieces.len())?;
-        self.marks.reserve(pieces.len())?;
-        self.settled.reserve(pieces.len())?;
+        make_room_for(&mut self.marks, &mut self.settled, trail, pieces.len())?;
         append(
             &mut self.marks,
             &mut self.settled,
@@ -317,6 +326,26 @@ fn is_filled_blank(mark: &Kept) -> bool
     }
 }
 
+// Makes room for so many marks more. The one error is a refused request for memory, and leaves all as it was.
+#[inline(always)]
+fn make_room_for(
+    marks: &mut Vec<Kept>,
+    settled: &mut Vec<usize>,
+    trail: &mut Trail<OutputPair>,
+    count: usize,
+) -> Result<(), AllocError>
+    ensures marks { marks.new.items ≡ marks.old.items }
+    ensures settled { settled.new.items ≡ settled.old.items }
+    ensures trail { KeepsTrail trail.old trail.new }
+    ensures room_of_marks { OnOk result (vec_len marks.new + count ≤ vec_capacity marks.new) }
+    ensures room_of_settled { OnOk result (vec_len settled.new + count ≤ vec_capacity settled.new) }
+    ensures spare { OnOk result (count ≤ spare trail.new) }
+{
+    trail.ready(count)?;
+    marks.reserve(count)?;
+    settled.reserve(count)
+}
+
 // Adds the marks of pieces, where there is room.
 fn append(
     marks: &mut Vec<Kept>,
@@ -339,7 +368,7 @@ fn append(
         trail.note(OutputPair::Wrote(*state), 1);
         settle(settled, &mark, state.tracker.newline);
         state.add(&mark, marks.len(), enters);
-        marks.push(mark).unwrap();
+        marks.push_reserved(mark);
     }
 }
 

@@ -1,13 +1,4 @@
-pub mod Making
-pub mod Standing
 pub mod Arrays
 pub mod Texts
-pub mod Leading
-pub mod Gathering
-pub mod Limits
 pub mod Numbering
-pub mod Joining
 pub mod Shown
-pub mod Gathers
-pub mod Asking
-pub mod Whole

@@ -1,6 +1,3 @@
 pub mod Words
-pub mod Building
 pub mod Counted
-pub mod Gathered
-pub mod Asks
 pub mod Parts

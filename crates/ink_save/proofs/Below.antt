@@ -5,7 +5,7 @@ use Rattle.std.proofs.lemmas.List.{take_all}
 use Rattle.ink_model.specs.Counts.{CountsOf}
 use Rattle.ink_model.specs.Places.{places}
 use Rattle.ink_model.specs.Tree.{StoryTree}
-use Rattle.ink_parts.specs.Counted.{AreBelow, AreOwn, counts_at, rows_at}
+use Rattle.ink_restore.specs.Counted.{AreBelow, AreOwn, counts_at, rows_at}
 use Rattle.ink_step.specs.Words.{counts_in, rows_below}
 use Rattle.ink_vars.specs.Slots.{rows_from}
 

@@ -8,8 +8,8 @@ use Rattle.ink_model.specs.Save.Reads.{Reads, Stands}
 use Rattle.ink_model.specs.Save.Unspelled.{layout_of, unspelled}
 use Rattle.ink_model.specs.Save.Unspelled as save
 use Rattle.ink_model.specs.Tree.{StoryTree}
-use Rattle.ink_parts.specs.Parts.{Restores, restored_as}
-use Rattle.ink_parts.specs.declared.restoring.Restored.{Restored}
+use Rattle.ink_restore.specs.Parts.{Restores, restored_as}
+use Rattle.ink_restore.specs.declared.restoring.Restored.{Restored}
 use Rattle.ink_save.specs.Loads.{Finds}
 use Rattle.ink_sound.proofs.Respelling.{aside_sound, reads_back, reads_so}
 use Rattle.ink_sound.proofs.Stories.{spelled_fits}

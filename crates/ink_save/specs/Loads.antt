@@ -7,7 +7,7 @@ use Rattle.ink_model.specs.Flows.{Game}
 use Rattle.ink_model.specs.Save.Asks.{load_asks}
 use Rattle.ink_model.specs.Save.Reads.{Reads, Stands}
 use Rattle.ink_model.specs.Tree.{StoryTree}
-use Rattle.ink_parts.specs.Building.{Builds}
+use Rattle.ink_restore.specs.Building.{Builds}
 use Rattle.ink_save.specs.declared.loading.SaveRefusal.{SaveRefusal}
 use Rattle.ink_save.specs.declared.loading.SaveRefusal.TheVariants as refusal
 use Rattle.ink_step.specs.Words.{game_of}

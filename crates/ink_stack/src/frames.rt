@@ -74,16 +74,22 @@ impl<P: Copy> Frames<P> {
         let _ = &self.headers;
     }
 
-    /// A copy. The one error is a refused request for memory.
+    /// A copy, in the memory of a spare list where that is large enough. The one error is a refused request for memory.
     #[inline(always)]
-    pub(crate) fn clone_in(&self, alloc: Global) -> Result<Frames<P>, AllocError>
+    pub(crate) fn clone_over(
+        &self,
+        alloc: Global,
+        spare: &mut Vec<Header<P>>,
+    ) -> Result<Frames<P>, AllocError>
         ensures copy { IfOk result (λ copy. copy.items ≡ self.now.items) }
         ensures memory { OnErr result (self.now.items ≢ []) }
     {
         if self.headers.len() == 0 {
             return Ok(Frames::new(alloc));
         }
-        let headers = Vec::from_slice(alloc, self.headers.as_slice())?;
+        let mut headers = mem::replace(spare, Vec::new(alloc));
+        headers.clear();
+        headers.extend_from_slice(self.headers.as_slice())?;
         let temps = copied(alloc, self.temps.as_slice())?;
         Ok(Frames {
             headers,
@@ -233,6 +239,19 @@ impl<P: Copy> Frames<P> {
         if let Some(header) = self.headers.pop() {
             take_last_into(&mut self.temps, self.headers.len(), &mut frame.temps);
             frame.header = header;
+        }
+    }
+
+    /// The frames go, and their list of headers becomes the spare one where it is the larger.
+    #[inline(always)]
+    pub(crate) fn give_list(self, spare: &mut Vec<Header<P>>) {
+        let Frames {
+            headers,
+            temps: _,
+            alloc: _,
+        } = self;
+        if headers.capacity() > spare.capacity() {
+            *spare = headers;
         }
     }
 

@@ -13,7 +13,7 @@ ghost use Rattle.ink_stack.specs.Quiet.{IsQuiet};
 ghost use Rattle.ink_stack.specs.Temps.{text_of};
 ghost use Rattle.ink_stack.specs.Words.{Changes, Grows};
 
-use crate::frame::{CallKind, Frame};
+use crate::frame::{CallKind, Frame, Header};
 use crate::frames::Frames;
 use crate::temps::TempName;
 use ink_model::{Fault, FrameKind, MAX_FRAMES, Value};
@@ -141,8 +141,22 @@ impl<P: Copy> Running<P> {
         ensures copy { IfOk result (λ copy. copy.thread ≡ self.now.thread) }
         ensures memory { OnErr result ((self.now.thread.frame.temps ≢ []) ⊎ (self.now.thread.below ≢ [])) }
     {
+        let mut spare = Vec::new(alloc);
+        self.clone_over(alloc, &mut spare)
+    }
+
+    /// The same, in the memory of a spare list where that is large enough.
+    #[inline(always)]
+    pub(crate) fn clone_over(
+        &self,
+        alloc: Global,
+        spare: &mut Vec<Header<P>>,
+    ) -> Result<Running<P>, AllocError>
+        ensures copy { IfOk result (λ copy. copy.thread ≡ self.now.thread) }
+        ensures memory { OnErr result ((self.now.thread.frame.temps ≢ []) ⊎ (self.now.thread.below ≢ [])) }
+    {
         let frame = self.frame.clone_in(alloc)?;
-        let below = self.below.clone_in(alloc)?;
+        let below = self.below.clone_over(alloc, spare)?;
         Ok(Running {
             frame,
             below,
@@ -151,6 +165,20 @@ impl<P: Copy> Running<P> {
             numbered: self.numbered,
             alloc,
         })
+    }
+
+    /// The thread ends, and its list of frames becomes the spare one where it is the larger.
+    #[inline(always)]
+    pub(crate) fn give_list(self, spare: &mut Vec<Header<P>>) {
+        let Running {
+            frame: _,
+            below,
+            previous: _,
+            quiet: _,
+            numbered: _,
+            alloc: _,
+        } = self;
+        below.give_list(spare);
     }
 
     pub(crate) fn go(&mut self, place: Option<P>)

@@ -184,6 +184,7 @@ impl<P: Copy> Threads<P> {
             running,
             below,
             trail: Trail::new(alloc),
+            spare: Vec::new(alloc),
             alloc,
         })
     }

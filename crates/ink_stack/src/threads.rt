@@ -12,7 +12,7 @@ ghost use Rattle.ink_stack.specs.Undo.{HasGone, HasMode, threads_back, threads_s
 ghost use Rattle.ink_stack.specs.Words.{Changes, Grows};
 ghost use Rattle.ink_trail.specs.Undo.{KeepsTrail, Notes, Trails, TrailsOrKeeps, trail_of};
 
-use crate::frame::CallKind;
+use crate::frame::{CallKind, Header};
 use crate::running::Running;
 use crate::temps::TempName;
 use crate::thread::Thread;
@@ -24,11 +24,13 @@ use std::marker::Model;
 use std::mem;
 
 /// Where flow is: threads, of which there is always one on top, 100 at the most; and while a mark stands, the trail of what they
-/// were. A contract sees those below the top one with the nearest first.
+/// were. A contract sees those below the top one with the nearest first. The list of frames of a thread that ended is kept as
+/// `spare`, so that the next copy of a thread need not ask for one.
 pub struct Threads<P> {
     pub(crate) running: Running<P>,
     pub(crate) below: Vec<Thread<P>>,
     pub(crate) trail: Trail<ThreadsPair<P>>,
+    pub(crate) spare: Vec<Header<P>>,
     pub(crate) alloc: Global,
 }
 
@@ -38,6 +40,7 @@ impl<P: Drop> Drop for Threads<P> {
             running: _,
             below: _,
             trail: _,
+            spare: _,
             alloc: _,
         } = self;
     }
@@ -70,6 +73,7 @@ impl<P: Copy> Threads<P> {
             running: Running::new(alloc, place),
             below: Vec::new(alloc),
             trail: Trail::new(alloc),
+            spare: Vec::new(alloc),
             alloc,
         }
     }
@@ -367,7 +371,7 @@ impl<P: Copy> Threads<P> {
         if self.trail.is_marked() {
             return self.push_thread_marked();
         }
-        push_copy(self.alloc, &self.running, &mut self.below)
+        push_copy(self.alloc, &self.running, &mut self.below, &mut self.spare)
     }
 
     // As `push_thread`, while a mark stands.
@@ -379,7 +383,7 @@ impl<P: Copy> Threads<P> {
         ensures stood { threads_stood self.new ≡ threads_stood self.old }
         ensures spare { threads_spare self.old ≤ threads_spare self.new + 1 }
     {
-        if let Err(fault) = push_copy(self.alloc, &self.running, &mut self.below) {
+        if let Err(fault) = push_copy(self.alloc, &self.running, &mut self.below, &mut self.spare) {
             return Err(fault);
         }
         let Ok(_) = self.trail.add(ThreadsPair::ThreadPushed, 1) else {
@@ -405,7 +409,8 @@ impl<P: Copy> Threads<P> {
         let Some(next) = self.below.pop() else {
             return false;
         };
-        self.running = next.run();
+        let ended = mem::replace(&mut self.running, next.run());
+        ended.give_list(&mut self.spare);
         true
     }
 
@@ -618,6 +623,7 @@ fn push_copy<P: Copy>(
     alloc: Global,
     running: &Running<P>,
     below: &mut Vec<Thread<P>>,
+    spare: &mut Vec<Header<P>>,
 ) -> Result<(), Fault>
     requires { length below.old.items < MAX_THREADS }
     ensures threads { Grows (doubled (threads_in running.now below.old.items)) (threads_in running.now below.old.items) (threads_in running.now below.new.items) result }
@@ -627,11 +633,12 @@ fn push_copy<P: Copy>(
     if below.len() >= MAX_THREADS - 1 {
         return Err(Fault::TooDeep);
     }
-    let Ok(copy) = running.clone_in(alloc) else {
+    let Ok(_) = below.reserve(1) else {
         return Err(Fault::OutOfMemory);
     };
-    let Ok(_) = below.push(Thread { running: copy }) else {
+    let Ok(copy) = running.clone_over(alloc, spare) else {
         return Err(Fault::OutOfMemory);
     };
+    below.push_reserved(Thread { running: copy });
     Ok(())
 }

@@ -10,6 +10,7 @@ use Rattle.ink_model.specs.Store.{Values}
 use Rattle.ink_model.specs.Tree.{StoryTree, leaf}
 use Rattle.ink_model.specs.declared.content.Leaf.{Leaf}
 use Rattle.ink_model.specs.declared.fault.Fault.{Fault}
+use Rattle.ink_model.specs.declared.scope.Scope.TheVariants.{Global, Temporary}
 use Rattle.ink_model.specs.declared.value.Value.{Value}
 use Rattle.ink_effects.specs.Marks.{takes_value}
 use Rattle.ink_effects.specs.Performs.{Keeps, KeepsChoices, Performs, fields_in, leading}
@@ -17,7 +18,7 @@ use Rattle.ink_effects.specs.Words.{Rest, rest_in, seen_by}
 use Rattle.ink_effects.specs.declared.transfer.Transfer.{Transfer}
 use Rattle.ink_effects.proofs.Landings.{leaf_landing}
 use Rattle.ink_effects.proofs.Stored.{fields_kept}
-use Rattle.ink_effects.proofs.Plain.{IsPlainLeaf, control_plain, keeps_plain, leaf_plain, offers_plain, when_ok}
+use Rattle.ink_effects.proofs.Plain.{IsPlainLeaf, assign_offers_none, control_plain, declare_offers_none, keeps_plain, leaf_plain, offer_stores_none, offers_plain, when_ok}
 use Rattle.ink_effects.proofs.leaf.perform_leaf.Goals as goal
 use Rattle.ink_effects.proofs.leaf.perform_leaf.Goals.{Start}
 use Rattle.ink_tree.specs.Nodes.{place_of}
@@ -99,6 +100,47 @@ returns-in-Control-clause-threads c =
     let w = (goal.at.returns-in-Control-clause-threads c).Start in
     keeps w _ _ _ _ c.in-Control.is
     (when_ok c.perform_control.result _ (keeps_plain (tree w) _ (before w) c.perform_control.new.threads.threads (control_plain (tree w) (place_of (tree w) c.args.here) (seen_by (tree w) (before w) (rest w)) c.in-Control.control (old w)) c.perform_control.ensures.threads))
+
+pub returns-in-Text-clause-effect : goal.returns-in-Text-clause-effect
+returns-in-Text-clause-effect c =
+    let w = (goal.at.returns-in-Text-clause-effect c).Start in
+    does w _ _ _ _ _ c.in-Text.is (c.after_text.ensures) (rw (c.is_evaluating-evaluating.ensures, c.fresh_depth.ensures) at (c.write_text.ensures.effect (old w).globals (tree w)))
+
+pub returns-in-Newline-clause-effect : goal.returns-in-Newline-clause-effect
+returns-in-Newline-clause-effect c =
+    let w = (goal.at.returns-in-Newline-clause-effect c).Start in
+    does w _ _ _ _ _ c.in-Newline.is (ap (leading c.write_newline.result) c.requires.on) (rw (c.is_evaluating-evaluating.ensures, c.fresh_depth-in-Newline.ensures) at (c.write_newline.ensures.effect (old w).globals (tree w)))
+
+pub returns-in-Glue-clause-effect : goal.returns-in-Glue-clause-effect
+returns-in-Glue-clause-effect c =
+    let w = (goal.at.returns-in-Glue-clause-effect c).Start in
+    does w _ _ _ _ _ c.in-Glue.is (ap (leading c.write_glue.result) c.requires.on) (rw c.is_evaluating-evaluating.ensures at (c.write_glue.ensures.effect (old w).fresh (old w).stack (old w).globals (tree w)))
+
+pub returns-in-Int-clause-effect : goal.returns-in-Int-clause-effect
+returns-in-Int-clause-effect c =
+    let w = (goal.at.returns-in-Int-clause-effect c).Start in
+    let is : to_z w32 (of_z w32 c.in-Int.number) ≡ c.in-Int.number = search (rules, to_z-of_z) in
+    does w _ _ _ _ _ c.in-Int.is (ap (leading c.push_value.result) c.requires.on) (rw (is, c.is_evaluating-evaluating.ensures) at (c.push_value.ensures.effect (old w).fresh (old w).page (old w).globals (tree w)))
+
+pub returns-in-Bool-clause-effect : goal.returns-in-Bool-clause-effect
+returns-in-Bool-clause-effect c =
+    let w = (goal.at.returns-in-Bool-clause-effect c).Start in
+    does w _ _ _ _ _ c.in-Bool.is (ap (leading c.push_value-in-Bool.result) c.requires.on) (rw c.is_evaluating-evaluating.ensures at (c.push_value-in-Bool.ensures.effect (old w).fresh (old w).page (old w).globals (tree w)))
+
+pub returns-in-Void-clause-effect : goal.returns-in-Void-clause-effect
+returns-in-Void-clause-effect c =
+    let w = (goal.at.returns-in-Void-clause-effect c).Start in
+    does w _ _ _ _ _ c.in-Void.is (ap (leading c.push_value-in-Void.result) c.requires.on) (rw c.is_evaluating-evaluating.ensures at (c.push_value-in-Void.ensures.effect (old w).fresh (old w).page (old w).globals (tree w)))
+
+pub returns-in-Target-clause-effect : goal.returns-in-Target-clause-effect
+returns-in-Target-clause-effect c =
+    let w = (goal.at.returns-in-Target-clause-effect c).Start in
+    does w _ _ _ _ _ c.in-Target.is (ap (leading c.push_target.result) c.requires.on) (rw c.is_evaluating-evaluating.ensures at (c.push_target.ensures.effect (old w).fresh (old w).page (old w).globals (tree w)))
+
+pub returns-in-Op-clause-effect : goal.returns-in-Op-clause-effect
+returns-in-Op-clause-effect c =
+    let w = (goal.at.returns-in-Op-clause-effect c).Start in
+    does w _ _ _ _ _ c.in-Op.is (ap (leading c.operate.result) c.requires.on) (c.operate.ensures.effect (old w).evaluating (old w).fresh (old w).page (old w).globals (tree w))
 
 pub returns-in-Tag-clause-effect : goal.returns-in-Tag-clause-effect
 returns-in-Tag-clause-effect c =
@@ -183,6 +225,34 @@ pub returns-in-Choice-clause-choices : goal.returns-in-Choice-clause-choices
 returns-in-Choice-clause-choices c =
     let w = (goal.at.returns-in-Choice-clause-choices c).Start in
     offers w _ _ _ _ c.in-Choice.is (c.offer.ensures.choices (rest w) (old w).evaluating (old w).fresh (old w).page (old w).globals)
+
+pub returns-in-Control-clause-choices : goal.returns-in-Control-clause-choices
+returns-in-Control-clause-choices c =
+    let w = (goal.at.returns-in-Control-clause-choices c).Start in
+    offers w _ _ _ _ c.in-Control.is (when_ok c.perform_control.result _ (offers_plain (tree w) _ c.args.choices.now.items (control_plain (tree w) (place_of (tree w) c.args.here) (seen_by (tree w) (before w) (rest w)) c.in-Control.control (old w))))
+
+pub returns-in-Declare-clause-choices : goal.returns-in-Declare-clause-choices
+returns-in-Declare-clause-choices c =
+    let w = (goal.at.returns-in-Declare-clause-choices c).Start in
+    offers w _ _ _ _ c.in-Declare.is (when_ok c.declare.result _ (declare_offers_none (tree w) c.args.choices.now.items Global c.in-Declare.name (seen_by (tree w) (before w) (rest w)) (old w)))
+
+pub returns-in-DeclareTemp-clause-choices : goal.returns-in-DeclareTemp-clause-choices
+returns-in-DeclareTemp-clause-choices c =
+    let w = (goal.at.returns-in-DeclareTemp-clause-choices c).Start in
+    offers w _ _ _ _ c.in-DeclareTemp.is (when_ok c.declare-in-DeclareTemp.result _ (declare_offers_none (tree w) c.args.choices.now.items Temporary c.in-DeclareTemp.name (seen_by (tree w) (before w) (rest w)) (old w)))
+
+pub returns-in-Assign-clause-choices : goal.returns-in-Assign-clause-choices
+returns-in-Assign-clause-choices c =
+    let w = (goal.at.returns-in-Assign-clause-choices c).Start in
+    elim c.in-Assign.is [
+      | inl is ↦ offers w _ _ _ _ is (when_ok c.assign.result _ (assign_offers_none (tree w) c.args.choices.now.items _ (seen_by (tree w) (before w) (rest w)) (old w)))
+      | inr is ↦ offers w _ _ _ _ is (when_ok c.assign.result _ (assign_offers_none (tree w) c.args.choices.now.items _ (seen_by (tree w) (before w) (rest w)) (old w)))
+    ]
+
+pub returns-in-Choice-clause-threads : goal.returns-in-Choice-clause-threads
+returns-in-Choice-clause-threads c =
+    let w = (goal.at.returns-in-Choice-clause-threads c).Start in
+    keeps w _ _ _ _ c.in-Choice.is (when_ok c.offer.result _ (offer_stores_none (tree w) (before w) (place_of (tree w) c.args.here) (seen_by (tree w) (before w) (rest w)) c.in-Choice.target c.in-Choice.flags (old w)))
 
 pub returns-in-Text-clause-threads : goal.returns-in-Text-clause-threads
 returns-in-Text-clause-threads c = kept_plain (goal.at.returns-in-Text-clause-threads c).Start _ _ c.after_text.result c.in-Text.is tt

@@ -17,7 +17,7 @@ loop-piece-preserved c =
     let settled = c.loop-piece.settled.items in
     let mark = c.into_mark-mark.result in
     let state = c.loop-piece.state in
-    let is : c.push.new.self.items ≡ marks ++ mark ∷ [] = search rules in
+    let is : c.push_reserved.new.self.items ≡ marks ++ mark ∷ [] = search rules in
     let at : c.len.result ≡ length (reverse marks) = let len : c.len.result ≡ length marks = search rules in len ∙ sym (length-reverse marks) in
     record {
       next = tt;
@@ -42,9 +42,9 @@ loop-piece-preserved c =
           (trails-trails output_back _ 1 _ (with_open marks page) _ _ c.loop-piece.trail _ (inv.trail page)
           (trails-one output_back (Wrote state) 1 _ _ _ _ (omega arith) (wrote_back state marks mark page) c.note.ensures.undo c.note.ensures.room)));
       back = λ h page room held went.
-          let all : marks ++ map piece_mark c.loop-piece.piece-iterator ≡ c.push.new.self.items ++ map piece_mark c.next.new.self = grind (arith, common_steps) in
-          let less : length (marks ++ mark ∷ []) ≤ length (c.push.new.self.items ++ map piece_mark c.next.new.self) =
-          omega (arith, length-append c.push.new.self.items (map piece_mark c.next.new.self), ap length is) in
+          let all : marks ++ map piece_mark c.loop-piece.piece-iterator ≡ c.push_reserved.new.self.items ++ map piece_mark c.next.new.self = grind (arith, common_steps) in
+          let less : length (marks ++ mark ∷ []) ≤ length (c.push_reserved.new.self.items ++ map piece_mark c.next.new.self) =
+          omega (arith, length-append c.push_reserved.new.self.items (map piece_mark c.next.new.self), ap length is) in
           let sees = inv.sees h in
           rw (is, c.note.ensures.undo)
           (goes-with (Wrote state) 1 (with_open marks page) (with_open (marks ++ mark ∷ []) page) c.loop-piece.trail.undo room room (wrote_back state marks mark page)

@@ -1,6 +1,6 @@
 use Rattle.std.proofs.Common.{IfSome, subst}
 use Rattle.ink_model.specs.Save.Unspelled.{game_of}
-use Rattle.ink_parts.specs.Counted.{AreOwn}
+use Rattle.ink_restore.specs.Counted.{AreOwn}
 use Rattle.ink_save.proofs.Reading.{finds_machine, finds_nothing}
 use Rattle.ink_spelling.specs.Layouts.{layout_as}
 use Rattle.ink_tree.specs.Nodes.{story_tree}

@@ -12,4 +12,4 @@ returns-then-len-clause-threads g c =
 pub returns-in_default-clause-threads : goal.returns-in_default-clause-threads
 returns-in_default-clause-threads g c =
     let items = c.args.below.now.items in
-    doubled_refused (threads_in c.args.running.now items) (omega (arith, length-reverse items, c.args.below.now.ok.0))
+    rw c.reserve.ensures.items (doubled_refused (threads_in c.args.running.now items) (omega (arith, length-reverse items, c.args.below.now.ok.0)))

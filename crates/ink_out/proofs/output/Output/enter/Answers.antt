@@ -1,12 +1,29 @@
-use Rattle.std.proofs.Common.{arith, refl}
+use Rattle.std.proofs.Common.{arith, refl, vec_capacity}
 use Rattle.ink_out.specs.Undo.{output_back, output_spare, output_stood}
 use Rattle.ink_out.specs.Writing.{page_of}
 use Rattle.ink_out.specs.declared.undo.OutputPair.TheVariants.{Numbered}
 use Rattle.ink_out.proofs.Closing.{refilled}
-use Rattle.ink_out.proofs.Undoing.{or_keeps}
+use Rattle.ink_out.proofs.Undoing.{goes-now, goes-with, or_keeps}
 use Rattle.ink_out.proofs.Marks.{spare_after, stood_after}
 use Rattle.ink_out.proofs.output.Output.enter.Goals as goal
 use Rattle.ink_trail.proofs.Undoing.{spare-trails, stood-trails, trails-one, trails-trails}
+
+pub invariant_of-self : goal.invariant_of-self
+invariant_of-self c =
+    let s = c.self.inside in
+    let whole = refilled s.sections.items c.deref_mut.result.now c.note_in.new.sections s.sections.len s.sections.ok.0 c.deref_mut.ensures.value c.note_in.auto.sections in
+    rw whole (c.in_err-note_in.ensures.within c.self.invariant.0, (rw c.deref_mut.ensures.value at (c.in_err-note_in.ensures.back s.next_enter (vec_capacity s.sections))) c.self.invariant.1)
+
+pub invariant_of-self-2 : goal.invariant_of-self-2
+invariant_of-self-2 c =
+    let s = c.self.inside in
+    let room = vec_capacity s.sections in
+    let whole = refilled s.sections.items c.deref_mut.result.now c.note_in.new.sections s.sections.len s.sections.ok.0 c.deref_mut.ensures.value c.note_in.auto.sections in
+    let back = (rw c.deref_mut.ensures.value at (c.in_ok-note_in.ensures.back s.next_enter room)) c.self.invariant.1 in
+    rw (whole, c.note_number.ensures.undo) (
+      c.in_ok-note_in.ensures.within c.self.invariant.0,
+      goes-with (Numbered s.next_enter) 1 (page_of c.note_in.new.line c.note_in.new.sections s.next_enter) _ c.note_in.new.trail.undo room room refl (goes-now room _ _ back) tt (omega arith) back,
+    )
 
 pub returns-in_err-note_in-clause-trail : goal.returns-in_err-note_in-clause-trail
 returns-in_err-note_in-clause-trail c =

@@ -7,7 +7,7 @@ pub invariant_of-self-2 : goal.invariant_of-self-2
 invariant_of-self-2 c =
     let s = c.self.inside in
     let before = reverse s.marks.items in
-    let marks : c.push.new.self.items ≡ s.marks.items ++ c.args.mark ∷ [] = search rules in
+    let marks : c.push_reserved.new.self.items ≡ s.marks.items ++ c.args.mark ∷ [] = search rules in
     let at : c.len-at.result ≡ length before = let len : c.len-at.result ≡ length s.marks.items = search rules in len ∙ sym (length-reverse s.marks.items) in
     rw marks
     (sees_more s.marks.items s.settled.items c.settle.new.settled.items s.state c.add.new.self s.enters c.note.new.self c.args.mark

@@ -43,6 +43,7 @@ invariant_of-self-2 g c =
     let now = held-now _ (trail_of c.self.inside.trail.undo) _ c.self.invariant.1 in
     let more : vec_capacity c.self.inside.below ≤ vec_capacity c.pop.new.self = omega (arith, c.pop.ensures.capacity) in
     let held = held-next _ c.self.inside.running c.run.result c.in-Some.next rest items (vec_capacity c.pop.new.self) c.in-Some.ensures.items c.run.ensures.within more now in
+    rw c.replace-ended.ensures.after
     (omega (arith, held.few, length-reverse rest), held-unmarked c.self.inside.trail.undo _ (threads_in c.run.result rest) (sym c.is_marked.ensures ∙ c.if-is_marked.false) held)
 
 pub returns : goal.returns
@@ -51,5 +52,5 @@ returns g c =
     let rest = c.pop.new.self.items in
     let dropped = dropped_is t c.in-Some.next rest c.self.inside.below.items c.in-Some.ensures.items in
     let trail = free 1 _ _ c.self.inside.trail (sym c.is_marked.ensures ∙ c.if-is_marked.false) in
-    rw (← c.self.view_is)
+    rw (← c.self.view_is, c.replace-ended.ensures.after)
     (record { dropped = rw dropped refl; new = rw dropped (ap (λ u. record { thread = u; below = reverse rest }) c.run.ensures.thread); trail = trail; stood = stood-of 1 _ _ trail; spare = spare-of 1 _ _ trail })

@@ -1,8 +1,0 @@
-use Rattle.std.proofs.Common.{drop}
-use Rattle.ink_tree.specs.Nodes.{story_tree}
-use Rattle.ink_parts.specs.Counted.{flag_of, least_of}
-use Rattle.ink_parts.proofs.Numbering.{Numbers}
-use Rattle.ink_parts.proofs.counting.build_rows.Given as goal
-
-abbrev pub invariant-loop-row : goal.invariant-loop-row
-invariant-loop-row l = Numbers (story_tree l.tree) (flag_of l.what) (least_of l.what) l.rows l.slots.items (drop l.row-index l.rows)

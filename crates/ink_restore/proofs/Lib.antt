@@ -1,0 +1,10 @@
+pub mod Making
+pub mod Standing
+pub mod Leading
+pub mod Gathering
+pub mod Limits
+pub mod Numbering
+pub mod Joining
+pub mod Gathers
+pub mod Asking
+pub mod Whole

@@ -1,0 +1,27 @@
+use Rattle.std.proofs.Common.{◌∙◌, ℕ, List, ap, map, refl, subst, sym, IsTrue}
+use Rattle.std.specs.List.{AllByRecursion}
+use Rattle.std.specs.declared.alloc.Global.{Global}
+use Rattle.std.specs.declared.vec.Vec.{Vec}
+use Rattle.ink_model.specs.Bytes.{fits_text}
+use Rattle.ink_model.specs.Frames.{map_thread}
+use Rattle.ink_model.specs.Save.Sound.{ThreadStands}
+use Rattle.ink_restore.specs.Building.{ChoiceAsks, ThreadAsks}
+use Rattle.ink_restore.proofs.Asking.{list_later, stands_asks}
+use Rattle.ink_restore.proofs.Making.{built}
+use Rattle.ink_spelling.proofs.Asking.{or_else}
+use Rattle.ink_tree.specs.Nodes.{place_of, story_tree}
+use Rattle.ink_restore.proofs.offering.SavedChoiceBuilt.build.Goals as goal
+
+abbrev Tag : List ℕ → Type 0
+Tag t = IsTrue (fits_text t)
+
+pub returns-in_err-clone_in-clause-memory : goal.returns-in_err-clone_in-clause-memory
+returns-in_err-clone_in-clause-memory c =
+    let s = story_tree c.args.tree.now in
+    let tags = built (λ (v : Vec (List ℕ) Global). map (λ t. t) v.items) (AllByRecursion Tag) _ c.self.inside.tags c.in_ok-tags.field-0 c.in-Some-2.tags c.as_slice.ensures c.in-Some-2.is c.in_ok-tags.ensures.builds in
+    let thread = built (map_thread (place_of s)) (ThreadStands s) c.self.inside.thread c.self.inside.thread c.in_ok-thread.field-0 c.in-Some-3.thread refl c.in-Some-3.is c.in_ok-thread.ensures.builds in
+    or_else _ (subst (ChoiceAsks s) c.self.view_is (
+      ap fits_text (sym c.as_str.ensures) ∙ sym c.text_fits.ensures ∙ c.if-not-text_fits.false,
+      c.in-Some.ensures.1,
+      list_later Tag Tag c.self.inside.tags (ThreadAsks s c.self.inside.thread) (λ t k. k) tags.1 (stands_asks s c.self.inside.thread thread.1),
+    ))

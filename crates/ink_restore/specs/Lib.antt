@@ -1,0 +1,5 @@
+pub mod Building
+pub mod Counted
+pub mod Gathered
+pub mod Asks
+pub mod Parts
