@@ -1,8 +1,8 @@
 #!/usr/bin/env python3
 """Where each rule of docs/ stands: its sentence, its definition, the contracts that carry it, their proofs, cases, and wrong bodies.
 
-    tests/rules.py [WORD..]      all rules, or those of these names, and of these what wrong bodies change; of a word that is no
-                                 name the rules that have it in their name or sentence
+    tests/rules.py [NAME..]      all rules, or those of these names, and of these what wrong bodies change; and the rules that have
+                                 all words of one of these in their name or sentence
 
 A rule is a sentence, or a row of a table, of a page of docs/, with its name behind it in brackets: 'Empty lines do not pile
 up. [empty-line]'. tests/rules/PAGE.txt has a paragraph for each rule of a page, in the order of the page: the name, and then
@@ -151,7 +151,7 @@ def sentence(before, head):
     """The last sentence of a text, with the one before it where it begins with a word that needs one. What stands in a list comes
     behind the sentence that heads the list."""
     sentences = re.split(r"(?<=[.:?]) (?=[A-Z`_])", MARK.sub("", before).replace("  ", " ").strip(" -*"))
-    leans = re.match(r"(It|Its|That|This|They|Their|These|Those|So|One|Such|Then|There|Else|Both|Each)\b", sentences[-1])
+    leans = re.match(r"(It|Its|That|This|They|Their|These|Those|So|One|Such|Then|There|Else|Both|Each|After|None)\b", sentences[-1])
     return " ".join([head] * bool(head) + sentences[-2 if leans and not head else -1:])
 
 
@@ -202,9 +202,9 @@ def show(rule, names, whole):
     return ["%s has no %s" % (name, kind) for kind in PLACES if kind not in [it for it, _ in names]], wrong
 
 
-def is_about(rule, word):
-    """Whether the name or the sentence of a rule has the word."""
-    return any(word.lower() in text.lower() for text in (rule[0], rule[2]))
+def is_about(rule, words):
+    """Whether the name and the sentence of a rule have all the words."""
+    return all(word in (rule[0] + " " + rule[2]).lower() for word in words.lower().split())
 
 
 def main():
@@ -214,7 +214,6 @@ def main():
     tables = {os.path.basename(it)[:-len(".txt")] for it in glob.glob(os.path.join(TOP, "tests", "rules", "*.txt"))}
     wrong += ["tests/rules/%s.txt: there is no docs/%s.md" % (it, it) for it in sorted(tables - pages)]
     rules_on = {page: rules_of_page("docs/%s.md" % page) for page in sorted(pages)}
-    words = [it for it in wanted if it not in [rule[0] for named in rules_on.values() for rule in named]]
     for page, named in rules_on.items():
         told = rules_of_table("tests/rules/%s.txt" % page) if page in tables else []
         if [it[0] for it in named] != [it[0] for it in told]:
@@ -225,7 +224,7 @@ def main():
             if rule[0] in rules:
                 wrong.append("%s: [%s] stands at %s too" % (rule[1], rule[0], rules[rule[0]]))
             rules[rule[0]] = rule[1]
-            if not wanted or rule[0] in wanted or any(is_about(rule, word) for word in words):
+            if not wanted or any(is_about(rule, words) for words in wanted):
                 lacking, false = show(rule, names_of.get(rule[0], []), rule[0] in wanted)
                 shown += 1
                 gaps, wrong = gaps + lacking, wrong + false
