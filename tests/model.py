@@ -5,7 +5,7 @@
                                                         2,000 runs of ./inkplay unless other ones are named; --reload has each session
                                                         saved before each of its commands and at its end, and each save loaded at once
     tests/model.py --stories N [--seed N]               prints that many random stories, one a line: small ones that are accepted
-    tests/model.py --twins                              prints the stories that it reads as cases of a table of twins for inktest
+    tests/model.py --twins                              prints the stories that it reads as cases of a table of twins for twintest
     tests/model.py --marks                              prints the table of marks that it reads with its answers, for marktest
 
 The model shares nothing with the program or its definitions. A line is what docs/RUNNING.md ("Lines") says it is: the model runs
@@ -2408,7 +2408,7 @@ def print_stories(count, seed):
             count -= 1
 
 
-# how many paths inktest spells from each content, beside the written ones
+# how many paths twintest spells from each content, beside the written ones
 SPELLED = 9
 # the most pairs of two places, or of a path and a place, that it compares for one story
 MOST_PAIRS = 100000
@@ -2425,7 +2425,7 @@ def expanded(text):
 
 
 def twin_case(text):
-    """A story as a case of a table of twins: how much of it inktest compares, and that all of it is alike."""
+    """A story as a case of a table of twins: how much of it twintest compares, and that all of it is alike."""
     root = json.loads(expanded(text))["root"]
     contents = [found(root, place) for place in places(root)]
     nodes = len(contents)

@@ -3,8 +3,8 @@
 
     tests/mutate.py [--minutes N] [--seed N] [--prog PROGRAM]      30 minutes, seed 1 and ./inkplay unless other ones are named
 
-Each run takes a story of the tables of crates/inktest/data, crates/playtest/data and crates/marktest/data with the lines of its
-session or some turns, and mostly changes it: bytes are flipped, doubled, taken out, repeated many times, or replaced by what is
+Each run takes a story of the tables of cases (docs/TABLES.md) with the lines of its session or some turns, and mostly changes it:
+bytes are flipped, doubled, taken out, repeated many times, or replaced by what is
 hard on parsers; or the JSON is read, and values of it are replaced, moved, repeated, wrapped or renamed. Saves are those that the
 program gave for the story; they are changed likewise, and loaded.
 
@@ -39,7 +39,7 @@ import toolchain
 MIB = 1 << 20
 MOST_SOURCE, MOST_INPUT, MOST_LINES = 64 << 10, 4 * MIB, 400
 MOST_TIMES, MOST_BYTES, KEPT, PLAIN_NOISE = 3, 60, 64 * MIB, 0.03
-TABLES = ("inktest", "playtest", "marktest")
+TABLES = ("inktest", "twintest", "playtest", "marktest")
 
 FAULTS = {"StackEmpty", "BadOperands", "Divide", "BadMode", "BadPop", "BadTarget", "BadPointer", "NotCounted", "UnsafeInString", "Unbound",
           "HostRefused", "StopInString", "TooDeep", "OutOfSteps", "OutOfMemory", "NoTemp"}

@@ -3,8 +3,8 @@
 libraries' public calls, which inktest, marktest and playtest make.
 
     tests/refuse_memory.py [--seconds N] [--program PROGRAM] [TABLE..]
-        for the tables some 480 seconds; the program is ./inkplay's, the tables are those of crates/inktest/data, but for the
-        twins, which say nothing of memory, of crates/marktest/data and of crates/playtest/data, unless others are named
+        for the tables some 480 seconds; the program is ./inkplay's, the tables are those of these programs unless others are
+        named; those of twintest say nothing of memory
 
 A small library, built here with cc and loaded in front of the C library, refuses the n-th request. For each story below n
 goes from 1 on until no request is left to refuse. Each run has to end as docs/PROTOCOL.md says: the named error for want of

@@ -3,7 +3,7 @@
 
     tests/saves.py [PROGRAM]      the program is ./inkplay unless another is named
 
-Each story in the tables of crates/inktest/data and crates/playtest/data is played, a session by its own lines and any other
+Each story in the tables of inktest, twintest and playtest is played, a session by its own lines and any other
 story by some lines, turns and jumps, and saved before each command and at the end. Then each save is loaded and saved again,
 which has to give the same bytes, and played on by the command that came next, which has to be answered as it was. A save with one
 flow is loaded in layout 1, too.
@@ -98,7 +98,7 @@ def table_sessions(path):
 def sessions():
     """The sessions of all tables; a story without lines of its own once."""
     seen = set()
-    for crate in ("inktest", "playtest"):
+    for crate in ("inktest", "twintest", "playtest"):
         folder = os.path.join(toolchain.TOP, "crates", crate, "data")
         for name in sorted(os.listdir(folder)):
             for story, lines in table_sessions(os.path.join(folder, name)):

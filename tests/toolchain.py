@@ -30,7 +30,7 @@ def program(crate, words=()):
 
 
 # Which program runs the tables whose names begin so (docs/TABLES.md).
-OF_TABLES = {"boxes": "playtest", "marks": "marktest", "parts": "marktest", "players": "playtest", "sessions": "playtest"}
+OF_TABLES = {"boxes": "playtest", "marks": "marktest", "parts": "marktest", "players": "playtest", "sessions": "playtest", "twins": "twintest"}
 
 
 def program_of(table):
@@ -41,5 +41,5 @@ def program_of(table):
 
 def table_programs():
     """The path of each program that runs tables, by its name, built."""
-    words = {"inktest": "data/operators.txt", "marktest": "data/marks.txt", "playtest": "data/boxes.txt"}
+    words = {"inktest": "data/operators.txt", "twintest": "data/twins_random.txt", "marktest": "data/marks.txt", "playtest": "data/boxes.txt"}
     return {name: program(name, [table]) for name, table in words.items()}

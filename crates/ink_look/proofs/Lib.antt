@@ -5,3 +5,4 @@ mod Searches
 mod LineEnding
 mod Marks
 mod Followed
+mod Settling

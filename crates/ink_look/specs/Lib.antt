@@ -3,3 +3,5 @@ pub mod Ends
 pub mod LineEnds
 pub mod Looking
 pub mod Ahead
+pub mod Extents
+pub mod Passages

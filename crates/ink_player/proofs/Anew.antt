@@ -1,5 +1,6 @@
 -- A player that goes on with another machine.
 use Rattle.std.proofs.Common.{◌≡◌, ◌∙◌, ap, inl, refl, sym, List, [], Bool, true, Option, None, Ok}
+use Rattle.ink_commands.specs.Telling.{TellsWatchers}
 use Rattle.ink_host.specs.Desk.{DeskView, watches}
 use Rattle.ink_host.specs.Telling.{Watching}
 use Rattle.ink_host.specs.declared.objects.Called.{Called}
@@ -11,7 +12,7 @@ use Rattle.ink_model.specs.Told.{told}
 use Rattle.ink_model.specs.declared.fault.Fault.{Fault}
 use Rattle.ink_model.specs.declared.host.Change.{Change}
 use Rattle.ink_model.specs.declared.host.Event.{Event}
-use Rattle.ink_player.specs.Words.{DealtOnce, PlayerView, TellsWatchers, condition_by, desk_of, fault_told, is_empty, state_of, story_of, told_from}
+use Rattle.ink_player.specs.Words.{DealtOnce, PlayerView, condition_by, desk_of, fault_told, is_empty, state_of, story_of, told_from}
 use Rattle.ink_player.proofs.Tellings.{globals-by, globals-told, none-left, told-done, told-state, with_parts}
 use Rattle.ink_step.specs.Words as step
 use Rattle.ink_step.specs.declared.machine.Machine.{Machine}

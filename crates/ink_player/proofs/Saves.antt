@@ -27,7 +27,7 @@ use Rattle.ink_model.specs.declared.fault.Halt.{Halt}
 use Rattle.ink_sound.specs.Kept.{ConditionFits, StoryFits}
 use Rattle.ink_sound.proofs.Orderly.{spelled_back}
 use Rattle.ink_sound.proofs.Respelling.{reads_one}
-use Rattle.ink_player.proofs.Tellings.{at_stamp}
+use Rattle.ink_commands.specs.States.{at_stamp}
 use Rattle.ink_player.specs.Loading.{TextReadsAsState}
 use Rattle.ink_player.specs.Saving.{IsOldSave, IsSave, IsSaveText, LoadsAs, NotLoaded, ReadsAsState, StandsIn}
 use Rattle.ink_player.specs.Words.{condition_by}

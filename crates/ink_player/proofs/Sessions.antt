@@ -24,8 +24,8 @@ use Rattle.ink_protocol.specs.Ends.{Falls, WritesText}
 use Rattle.ink_protocol.specs.Input.{Takes}
 use Rattle.ink_protocol.specs.Lines.{TakesLine, GivesLine}
 use Rattle.ink_player.specs.Extents.{GoesOn, running}
-use Rattle.ink_player.specs.declared.passages.Extent.{Extent}
-use Rattle.ink_player.specs.declared.passages.Extent.TheVariants as extent
+use Rattle.ink_look.specs.declared.passages.Extent.{Extent}
+use Rattle.ink_look.specs.declared.passages.Extent.TheVariants as extent
 use Rattle.ink_player.specs.Serving.{Answered, Answers, IsTold, RunEnds, Runs, ServesFront, ServesLine, ServesLineBy, ServesLines}
 use Rattle.ink_player.specs.Words.{CommandStopsAtRefusal, DealtByRun, DealtOf, Scene, changed}
 use Rattle.ink_protocol.specs.Spelled.{IsLine, spelled, Splits, IsFirst, IsLongInput, HasRoom}

@@ -1,26 +1,23 @@
 -- A player stands sound and at rest after each command: by the law of ink_sound that says so of commands, and of opening.
-use Rattle.std.proofs.Common.{◌≡◌, ◌∙◌, ◌||◌, ap, refl, subst, sym, inl, inr, ℕ, List, [], ◌∷◌, ◌++◌, Bool, true, false, bytes_eq, Option, None, Some, is_some, Result, Ok, Err, is_ok, OnOk, OnErr}
+use Rattle.std.proofs.Common.{◌≡◌, ◌∙◌, ◌||◌, ap, refl, subst, sym, inl, inr, ℕ, List, [], ◌∷◌, ◌++◌, Bool, true, false, Option, None, Some, is_some, Result, Ok, Err, is_ok}
 use Rattle.ink_model.specs.Answer.{Reply, Acts, Refuses, reply_of_landing}
-use Rattle.ink_model.specs.Choosing.{jump_place, jumped, open_choice}
+use Rattle.ink_model.specs.Choosing.{open_choice}
 use Rattle.ink_model.specs.Command as command
 use Rattle.ink_model.specs.Command.{Command}
 use Rattle.ink_model.specs.Configuration.{ChoiceOf, Configuration, can_go_on, settled, with_globals}
 use Rattle.ink_model.specs.Events.{Made, calls, later}
-use Rattle.ink_model.specs.Flows.{Aside, Game, alone, default_flow, has_room, in_flow, is_flow_name, one_flow, without_flow}
-use Rattle.ink_model.specs.FlowCommands.{DropsFlow, GoesToFlow}
+use Rattle.ink_model.specs.Flows.{Game, alone, one_flow}
 use Rattle.ink_model.specs.Host.{Bindings, Bound, nothing_bound, value_given}
 use Rattle.ink_model.specs.Opening.{opening}
 use Rattle.ink_model.specs.Run as run
 use Rattle.ink_model.specs.Save.Reads as rules
 use Rattle.ink_model.specs.Save.Sound.{AsideFits}
 use Rattle.ink_model.specs.Session.{Does, TellsDone, left_with, settable, telling}
-use Rattle.ink_model.specs.Named.{at}
-use Rattle.ink_model.specs.State.{State, Ready, in_game}
+use Rattle.ink_model.specs.State.{State, Ready}
 use Rattle.ink_model.specs.Store.{Values, store, stored}
 use Rattle.ink_model.specs.Told.{ToldAs, told}
 use Rattle.ink_model.specs.Tree.{StoryTree}
-use Rattle.ink_model.specs.Turns.{ChoosesBy, JumpsBy}
-use Rattle.ink_model.specs.Visits.{entering_around}
+use Rattle.ink_model.specs.Turns.{ChoosesBy}
 use Rattle.ink_model.specs.declared.fault.Fault.{Fault}
 use Rattle.ink_model.specs.declared.fault.Fault.TheVariants.{OutOfMemory}
 use Rattle.ink_model.specs.declared.fault.Refusal.{Refusal}
@@ -34,13 +31,16 @@ use Rattle.ink_step.specs.Marks.{Stood, choosing_lacks, entered_by, stood_of, tu
 use Rattle.ink_step.specs.Steps.{Chooses}
 use Rattle.ink_step.specs.Words.{aside_in, aside_of, config_of, game_of}
 use Rattle.ink_step.specs.declared.machine.Machine.{Machine}
-use Rattle.ink_player.specs.Extents.{EndsBy, GoesOn}
-use Rattle.ink_player.specs.declared.passages.Extent.{Extent}
-use Rattle.ink_player.specs.declared.passages.Extent.TheVariants as extent
-use Rattle.ink_player.specs.Words.{Stands, condition_by, fault_told, is_empty}
-use Rattle.ink_player.proofs.Flows.{drops-some, goes-by}
-use Rattle.ink_player.proofs.Jumps.{turn_free}
-use Rattle.ink_player.proofs.Tellings.{at_stamp, goes-where, nobody-told, sets}
+use Rattle.ink_commands.proofs.Jumps.{turn_free}
+use Rattle.ink_commands.proofs.Tellings.{nobody-told}
+use Rattle.ink_commands.specs.Paths.{JumpsTo}
+use Rattle.ink_commands.specs.States.{at_stamp, condition_by, state_in}
+use Rattle.ink_look.specs.Extents.{EndsBy}
+use Rattle.ink_look.specs.declared.passages.Extent.{Extent}
+use Rattle.ink_look.specs.declared.passages.Extent.TheVariants as extent
+use Rattle.ink_player.specs.Extents.{GoesOn}
+use Rattle.ink_player.specs.Words.{Stands, fault_told, is_empty}
+use Rattle.ink_player.proofs.Tellings.{goes-where, sets}
 
 -- names bound as they are, and nobody watches
 abbrev unwatched : Bound → Bindings
@@ -106,6 +106,23 @@ module _ (s : StoryTree) (story : StoryFits s) (opens : is_ok (opening s) ≡ tr
   stands-told m es true b old none free e mark fits aside = stands-free m es b none (e ∙ free) mark fits aside
   stands-told m es false b old none free e mark fits aside = stands-broken m es b OutOfMemory none e mark aside
 
+-- ---- commands that tell nobody and leave no mark
+
+module _ (s : StoryTree) (m n : Machine) (es : List Event) (b : Option Fault) (reply : Reply) (kept : Stands s es b m) (mark : stood_of n ≡ unmarked) where
+  stands-in : StateFits s (state_in s b n 0) → Stands s es b n
+  stands-in fit = record { taken = kept.taken; story = kept.story; opens = kept.opens; unmarked = mark; fits = fit.condition; aside = fit.aside }
+
+  stood : StateFits s (state_in s b m 0)
+  stood = record { condition = kept.fits; aside = kept.aside }
+
+  pub stands-after : (k : Command) → Does s (unwatched nothing_bound) [] (Some k) (state_in s b m 0) reply (state_in s b n 0) → Stands s es b n
+  stands-after k does = stands-in (does_fit s kept.story (unwatched nothing_bound) [] (Some k) (state_in s b m 0) reply (state_in s b n 0) does stood)
+
+  -- `jump`, for whose path memory may be refused
+  pub stands-jumped : (path : List ℕ) → JumpsTo s path (state_in s b m 0) reply (state_in s b n 0) → Stands s es b n
+  stands-jumped path (inl jumps) = stands-after (command.Jump path) (refl, jumps)
+  stands-jumped path (inr fails) = stands-in (subst (StateFits s) (sym fails.1.1) stood)
+
 module _ (s : StoryTree) (story : StoryFits s) where
   -- the same flows stand aside
   pub aside-stays : (m n : Machine) → aside_in n ≡ aside_in m → AsideFits s (aside_of s (aside_in m)) → AsideFits s (aside_of s (aside_in n))
@@ -117,48 +134,12 @@ module _ (s : StoryTree) (story : StoryFits s) where
   free-stands b c e h = subst (λ x. ConditionFits s (condition_by x c)) e h
 
   module _ (c : Configuration) (fits : ConditionFits s (Ready c)) where
-    -- one that tells nobody, with these flows aside
-    does_beside : (a : Aside) → AsideFits s a → (b : Bound) (es : List Event) (k : Command) (reply : Reply) (new : State)
-        → Does s (unwatched b) es (Some k) (at_stamp (Ready c) a 0) reply new → StateFits s new
-    does_beside a aside b es k reply new h = does_fit s story (unwatched b) es (Some k) (at_stamp (Ready c) a 0) reply new h (record { condition = fits; aside = aside })
-
+    -- one that tells nobody
     does : (b : Bound) (es : List Event) (k : Command) (reply : Reply) (new : State) → Does s (unwatched b) es (Some k) (at_stamp (Ready c) one_flow 0) reply new → ConditionFits s new.condition
-    does b es k reply new h = (does_beside one_flow (one_fits s) b es k reply new h).condition
-
-    -- in another flow
-    pub goes-stands : (a : Aside) → AsideFits s a → (name : List ℕ) (g : Game) → is_flow_name name ≡ true → has_room name a ≡ true
-        → g ≡ in_flow s name (record { now = c; aside = a }) → ConditionFits s (Ready g.now) × AsideFits s g.aside
-    goes-stands a aside name g is room there =
-        let new = at_stamp (Ready g.now) g.aside 0 in
-        let goes : GoesToFlow s name (at_stamp (Ready c) a 0) (Acts []) new =
-        goes-by s name (record { now = c; aside = a }) 0 (Acts []) new None true true refl is room (inl (refl, ap (λ x. in_game x (at_stamp (Ready c) a 0)) there)) in
-        let fit = does_beside a aside nothing_bound [] (command.Flow name) (Acts []) new (refl, goes) in
-        (fit.condition, fit.aside)
-
-    -- there or, where memory was refused, still where it was
-    pub flow-stands : {E : Type 0} (a : Aside) → AsideFits s a → (name : List ℕ) (g : Game) (r : Result (Unit {0}) E) → is_flow_name name ≡ true → has_room name a ≡ true
-        → OnOk r (g ≡ in_flow s name (record { now = c; aside = a })) → OnErr r (g ≡ record { now = c; aside = a }) → ConditionFits s (Ready g.now) × AsideFits s g.aside
-    flow-stands a aside name g (Ok u) is room there kept = goes-stands a aside name g is room there
-    flow-stands a aside name g (Err e) is room there kept = (subst (λ x. ConditionFits s (Ready x)) (sym (ap (λ (x : Game). x.now) kept)) fits, subst (AsideFits s) (sym (ap (λ (x : Game). x.aside) kept)) aside)
-
-    -- without one
-    pub drops-stands : (a : Aside) → AsideFits s a → (name : List ℕ) (g : Game) → is_some (at name a) ≡ true → bytes_eq name default_flow ≡ false
-        → g ≡ without_flow s name (record { now = c; aside = a }) → ConditionFits s (Ready g.now) × AsideFits s g.aside
-    drops-stands a aside name g is other there =
-        let new = at_stamp (Ready g.now) g.aside 0 in
-        let drops : DropsFlow s name (at_stamp (Ready c) a 0) (Acts []) new =
-        drops-some s name (record { now = c; aside = a }) 0 (Acts []) new None false refl is other (refl, ap (λ x. in_game x (at_stamp (Ready c) a 0)) there) in
-        let fit = does_beside a aside nothing_bound [] (command.Drop name) (Acts []) new (refl, drops) in
-        (fit.condition, fit.aside)
+    does b es k reply new h = (does_fit s story (unwatched b) es (Some k) (at_stamp (Ready c) one_flow 0) reply new h (record { condition = fits; aside = one_fits s })).condition
 
     pub choose-stands : (n : ℕ) (d : Configuration) (r : Result (Unit {0}) Refusal) → Chooses s false (open_choice n c) c d r → ConditionFits s (Ready d)
     choose-stands n d r h = does nothing_bound [] (command.Choose n) (reply_of_landing r) (at_stamp (Ready d) one_flow 0) (refl, choice_taken s (open_choice n c) c d r h)
-
-    pub jump-stands : {E : Type 0} (path : List ℕ) (q : List Part) (d : Configuration) (r : Result (Unit {0}) E) → jump_place s path ≡ Some q
-        → OnOk r (d ≡ entering_around s (jumped q c)) → OnErr r (d ≡ c) → ConditionFits s (Ready d)
-    jump-stands path q d (Ok u) e h k = does nothing_bound [] (command.Jump path) (Acts []) (at_stamp (Ready d) one_flow 0)
-        (refl, subst (λ o. JumpsBy s o c (at_stamp (Ready c) one_flow 0) (Acts []) (at_stamp (Ready d) one_flow 0)) (sym e) (inl (refl, ap (λ x. at_stamp (Ready x) one_flow 0) h)))
-    jump-stands path q d (Err x) e h k = subst (λ y. ConditionFits s (Ready y)) (sym k) fits
 
     pub set-stands : (name : List ℕ) (g : Given) → settable g ≡ true → is_some (stored name c.shared.globals) ≡ true
         → ConditionFits s (Ready (with_globals (store name (value_given g) c.shared.globals) c))

@@ -1,10 +1,14 @@
 -- What a command comes to that may call or tell the objects of a host.
-use Rattle.std.proofs.Common.{◌≡◌, ◌≢◌, ◌⊎◌, ◌∙◌, ap, sym, refl, subst, inl, inr, cond, ℕ, ℤ, List, [], ◌∷◌, ◌++◌, map, filter, Bool, true, false, bytes_eq, ◌&&◌, ◌||◌, if◌then◌else◌, Option, Some, None, IfSome, is_some, Result, Ok, Err, IfOk, OnOk, OnErr, is_ok, MatchBool, append-nil}
+use Rattle.std.proofs.Common.{◌≡◌, ◌≢◌, ◌⊎◌, ◌∙◌, ap, sym, refl, subst, inl, inr, ℕ, ℤ, List, [], ◌∷◌, ◌++◌, Bool, true, false, bytes_eq, ◌||◌, if◌then◌else◌, Option, Some, None, IfSome, is_some, Result, Ok, Err, IfOk, OnOk, OnErr, is_ok, MatchBool, append-nil}
+use Rattle.ink_commands.specs.States.{at_stamp, condition_by}
+use Rattle.ink_commands.specs.Visits.{FindsVisits, TellsVisits}
 use Rattle.ink_host.specs.Desk.{DeskView, Grew, Resting, Rows, at, bound_by, each, put, watches, without}
 use Rattle.ink_host.specs.declared.objects.Called.{Called}
 use Rattle.ink_host.specs.Telling.{IsRound, Watching, log_of, rests}
 use Rattle.ink_host.proofs.Laws.{bound-same, grew-grew, grew-none, watches-same}
 use Rattle.ink_look.specs.Ends.{EndsWith}
+use Rattle.ink_look.specs.Extents.{EndsBy, FallsShortBy, RunsBy}
+use Rattle.ink_look.specs.declared.passages.Extent.{Extent}
 use Rattle.ink_model.specs.Answer.{Reply, Acts, Breaks, Counts, Refuses, Tells, reply_of_visits}
 use Rattle.ink_model.specs.Configuration.{Configuration, can_go_on, settled, with_globals}
 use Rattle.ink_model.specs.Events.{Made, calls, later}
@@ -17,7 +21,7 @@ use Rattle.ink_model.specs.Session as rules
 use Rattle.ink_model.specs.Session.{BreaksBy, FailsAllocation, Keeps, RunsTo, Set, SetsIn, TellsDone, TellsOrKeeps, condition_told, reply_told, settable, telling}
 use Rattle.ink_model.specs.State.{State, Condition, Ready, Broken, globals_of}
 use Rattle.ink_model.specs.Store.{Values, store, stored}
-use Rattle.ink_model.specs.Told.{ToldAs, change_of, is_other, is_told, told}
+use Rattle.ink_model.specs.Told.{ToldAs, told}
 use Rattle.ink_model.specs.Tree.{StoryTree}
 use Rattle.ink_model.specs.declared.fault.Fault.{Fault}
 use Rattle.ink_model.specs.declared.fault.Fault.TheVariants.{OutOfMemory}
@@ -28,47 +32,14 @@ use Rattle.ink_model.specs.declared.host.Event.{Event}
 use Rattle.ink_model.specs.declared.host.Given.{Given}
 use Rattle.ink_model.specs.declared.passage.Passage.{Passage}
 use Rattle.ink_model.specs.declared.value.Value.{Value}
-use Rattle.ink_player.specs.Extents.{EndsBy, FallsShortBy, GoesFrom, GoesOn, RunsBy}
-use Rattle.ink_player.specs.Visits.{FindsVisits, TellsVisits}
-use Rattle.ink_player.specs.Words.{DealtByRun, DealtOnce, PlayerView, TellsOnce, TellsWatchers, all_told, aside_seen, bindings, condition_by, desk_of, fault_told, is_empty, state_of, story_of, told_from}
-use Rattle.ink_player.specs.declared.passages.Extent.{Extent}
+use Rattle.ink_player.specs.Extents.{GoesFrom, GoesOn}
+use Rattle.ink_player.specs.Words.{DealtByRun, DealtOnce, PlayerView, TellsOnce, all_told, aside_seen, bindings, desk_of, fault_told, is_empty, state_of, story_of, told_from}
 use Rattle.ink_step.specs.declared.machine.Machine.{Machine}
 use Rattle.ink_step.specs.Words.{aside_in, aside_of, config_of}
 
--- ---- what is told
+-- ---- the globals of a player
 
--- all that is told of is watched
-pub told-watched : (w : List ℕ → Bool) (start now : Values) → filter (λ c. w c.name) (told w start now) ≡ told w start now
-told-watched w start [] = refl
-told-watched w start (e ∷ es) = by (w e.0) (is_other (stored e.0 start) e.1) refl (told-watched w start es)
-  where
-    by : (b o : Bool) → w e.0 ≡ b → filter (λ c. w c.name) (told w start es) ≡ told w start es
-        → filter (λ c. w c.name) (map change_of (cond (b && o) (e ∷ filter (is_told w start) es) (filter (is_told w start) es)))
-        ≡ map change_of (cond (b && o) (e ∷ filter (is_told w start) es) (filter (is_told w start) es))
-    by true true h k =
-        ap (λ x. cond x (change_of e ∷ filter (λ c. w c.name) (told w start es)) (filter (λ c. w c.name) (told w start es))) h ∙ ap (λ cs. change_of e ∷ cs) k
-    by true false h k = k
-    by false o h k = k
-
--- of one global, where it is not watched or has this value
-pub told-nothing : (w : List ℕ → Bool) (start : Values) (name : List ℕ) (v : Value) → is_told w start (name, v) ≡ false → told w start ((name, v) ∷ []) ≡ []
-told-nothing w start name v h = ap (λ b. map change_of (cond b ((name, v) ∷ []) [])) h
-
-pub told-one : (w : List ℕ → Bool) (start : Values) (name : List ℕ) (v : Value) → is_told w start (name, v) ≡ true → told w start ((name, v) ∷ []) ≡ change_of (name, v) ∷ []
-told-one w start name v h = ap (λ b. map change_of (cond b ((name, v) ∷ []) [])) h
-
-pub told-some : (w : List ℕ → Bool) (start : Values) (name : List ℕ) (v : Value) → is_told w start (name, v) ≡ true → told w start ((name, v) ∷ []) ≢ []
-told-some w start name v h none =
-    let one = told-one w start name v h in absurd (cc)
-
--- nothing was told
-abbrev pub nobody-told : (n : ℕ) → ToldAs n [] true []
-nobody-told n = record { answers = []; one_each = refl; events = refl; all_told = refl }
-
-pub nobody-round : {O : Type 0} (state : O → Watching) (n : ℕ) (rows : Rows O) → IsRound state n [] [] (nobody-told n).answers rows rows
-nobody-round state n rows = refl
-
--- of a broken player too
+-- of a broken one too
 pub globals-by : (b : Option Fault) (c : Configuration) → globals_of (condition_by b c) ≡ c.shared.globals
 globals-by None c = refl
 globals-by (Some f) c = refl
@@ -89,9 +60,6 @@ done-told true reply es h = h
 done-told false reply es h = refl
 
 -- ---- commands over a state
-
-abbrev pub at_stamp : Condition → Aside → ℕ → State
-at_stamp c a n = record { condition = c; aside = a; stamp = n }
 
 -- a passage with what happened
 abbrev telling_of : Passage → List Event → Reply
@@ -197,15 +165,6 @@ module _ {P F O : Type 0} (turn_log : F → List Called) (state : O → Watching
 
   pub run-none : (cs : List Change) (a : DeskView P F O) (r : Refusal) → DealtByRun turn_log state cs a [] (Refuses r) a
   run-none cs a r = record { grew = grown-none a; made = []; saw = []; events = refl; tells = inl (refl, refl) }
-
-  -- all that was to be told is watched
-  pub tells-all : {E : Type 0} (r : Result Bool E) (d0 d1 : DeskView P F O) (start now : Values) (cs : List Change) → cs ≡ told (watches d0.watchers) start now
-      → TellsWatchers turn_log state d0 cs (filter (λ c. watches d0.watchers c.name) cs) r d1
-      → (let ds = told (watches d0.watchers) start now in TellsWatchers turn_log state d0 ds ds r d1)
-  tells-all r d0 d1 start now cs is tells =
-      let w = watches d0.watchers in
-      subst (λ ds. TellsWatchers turn_log state d0 (told w start now) ds r d1) (told-watched w start now)
-      (subst (λ ds. TellsWatchers turn_log state d0 ds (filter (λ c. w c.name) ds) r d1) is tells)
 
   -- names stay bound as they are, and the same are watched
   pub bindings-same : (meaning : P → List Value → Option Given) (a b : DeskView P F O) (es : List Event)

@@ -1,42 +1,18 @@
--- How far a running command goes, and how it ends there (docs/RUNNING.md, "Runs", "Lines").
-use Rattle.std.specs.Prelude.{◌≡◌, ◌⊎◌, List, Bool, true, false, Option, Some, Result, Err}
-use Rattle.ink_look.specs.Ends.{EndsWith}
+-- The commands that run a story, by how far they go (docs/PROTOCOL.md, "Sessions").
+use Rattle.std.specs.Prelude.{List, Bool, true, false, Option, Some}
+use Rattle.ink_look.specs.Extents.{EndsBy, FallsShortBy}
+use Rattle.ink_look.specs.declared.passages.Extent.{Extent}
+use Rattle.ink_look.specs.declared.passages.Extent.TheVariants as extent
 use Rattle.ink_model.specs.Answer.{Reply}
 use Rattle.ink_model.specs.Command as command
 use Rattle.ink_model.specs.Command.{Command}
-use Rattle.ink_model.specs.Configuration.{Configuration}
-use Rattle.ink_model.specs.Host.{Bindings, Bound}
-use Rattle.ink_model.specs.Line.{EndsLine}
-use Rattle.ink_model.specs.Memory.{FallsShort, LineFallsShort}
-use Rattle.ink_model.specs.Run.{EndsThrough, Made, RunEnd}
+use Rattle.ink_model.specs.Host.{Bindings}
 use Rattle.ink_model.specs.Session.{RunsFrom, RunsTo}
 use Rattle.ink_model.specs.State.{Condition, State}
-use Rattle.ink_model.specs.Store.{Values}
 use Rattle.ink_model.specs.Tree.{StoryTree}
-use Rattle.ink_model.specs.declared.fault.Fault.{Fault}
-use Rattle.ink_model.specs.declared.fault.Fault.TheVariants.{OutOfMemory}
 use Rattle.ink_model.specs.declared.host.Event.{Event}
 use Rattle.ink_protocol.specs.declared.command.LineCommand.{LineCommand}
 use Rattle.ink_protocol.specs.declared.command.LineCommand.TheVariants as line
-use Rattle.ink_player.specs.declared.passages.Extent.{Extent}
-use Rattle.ink_player.specs.declared.passages.Extent.TheVariants as extent
-
--- an end to which it comes
-abbrev pub EndsBy : Extent → StoryTree → Bound → Configuration → List Made → RunEnd → Type 0
-EndsBy extent.Line = EndsLine
-EndsBy extent.Stop = EndsThrough
-
--- the globals that it leaves where memory was refused on the way
-abbrev pub FallsShortBy : Extent → StoryTree → Bound → Configuration → List Made → Values → Type 0
-FallsShortBy extent.Line = LineFallsShort
-FallsShortBy extent.Stop = FallsShort
-
--- what is handed out of the configuration that is kept, and which of them ask for memory for it
-module _ {A : Type 0} (hands : Configuration → A) (asks : Configuration → Bool) where
-  -- It comes to its end, with these calls made; or memory was refused to it, and it leaves these globals.
-  abbrev pub RunsBy : Extent → StoryTree → Bound → Configuration → List Made → Configuration → Result A Fault → Type 0
-  RunsBy x s b old made new result = ((end : RunEnd) × EndsBy x s b old made end × EndsWith hands asks end new result)
-      ⊎ ((result ≡ Err OutOfMemory) × FallsShortBy x s b old made new.shared.globals)
 
 -- the command that goes so far, with its events: `continue`, or `through`
 abbrev pub GoesFrom : Extent → StoryTree → Bindings → List Event → Condition → State → Reply → State → Type 0

@@ -2,10 +2,7 @@ pub mod Words
 pub mod Ends
 pub mod Serving
 pub mod Playing
-pub mod Paths
-pub mod Visits
 pub mod Saving
 pub mod Loading
-pub mod Passages
 pub mod Extents
 pub mod Printed

@@ -1,5 +1,5 @@
 -- What a player stands for, and what happens between it and the objects of its host.
-use Rattle.std.specs.Prelude.{◌≡◌, ◌≢◌, ◌⊎◌, ℕ, List, [], ◌∷◌, ◌++◌, Bool, true, false, Option, None, Some, Result, Ok, Err, is_ok}
+use Rattle.std.specs.Prelude.{◌≡◌, ◌⊎◌, ℕ, List, [], ◌∷◌, ◌++◌, Bool, true, false, Option, None, Some, is_ok}
 use Rattle.ink_check.specs.Words.{story_tree}
 use Rattle.ink_check.specs.declared.story.Story.{Story}
 use Rattle.ink_host.specs.Desk.{DeskView, Grew, Rows, bound_by, each, watches}
@@ -8,13 +8,12 @@ use Rattle.ink_host.specs.declared.objects.Called.{Called}
 use Rattle.ink_model.specs.Answer.{Reply, Tells, Acts, Breaks}
 use Rattle.ink_model.specs.Command as command
 use Rattle.ink_model.specs.Command.{Command}
-use Rattle.ink_model.specs.Configuration.{Configuration}
 use Rattle.ink_model.specs.Events.{Made, calls, later}
 use Rattle.ink_model.specs.Flows.{Aside}
 use Rattle.ink_model.specs.Host.{Bindings, value_given}
 use Rattle.ink_model.specs.Opening.{opening}
 use Rattle.ink_model.specs.Save.Sound.{AsideFits}
-use Rattle.ink_model.specs.State.{State, Condition, Ready, Broken, globals_of}
+use Rattle.ink_model.specs.State.{State, globals_of}
 use Rattle.ink_model.specs.Store.{Values}
 use Rattle.ink_model.specs.Told.{ToldAs, told}
 use Rattle.ink_model.specs.Tree.{StoryTree}
@@ -26,6 +25,7 @@ use Rattle.ink_model.specs.declared.host.Given.{Given}
 use Rattle.ink_model.specs.declared.value.Value.{Value}
 use Rattle.ink_sound.specs.Kept.{ConditionFits, StoryFits}
 use Rattle.ink_step.specs.Marks.{stood_of, unmarked}
+pub use Rattle.ink_commands.specs.States.{condition_by}
 use Rattle.ink_effects.specs.Refusals.{KeepsRefusals, StopsAtRefusal}
 use Rattle.ink_step.specs.Words.{aside_in, aside_of, config_of}
 use Rattle.ink_step.specs.declared.machine.Machine.{Machine}
@@ -51,10 +51,6 @@ is_empty (x ∷ xs) = false
 abbrev pub fault_told : Bool → Option Fault → Option Fault
 fault_told true broken = broken
 fault_told false broken = Some OutOfMemory
-
-abbrev pub condition_by : Option Fault → Configuration → Condition
-condition_by None c = Ready c
-condition_by (Some f) c = Broken f c.shared.globals
 
 -- A player between calls: every event was taken, its story is as the laws of saves ask and opens without a fault, no mark stands in
 -- its machine, the flows that are not current are sound and at rest, and so is where it stands, unless a fault broke it.
@@ -144,10 +140,3 @@ module _ {P F O : Type 0} where
   -- The same; and one turn function at the most was refused memory, once, and then the command broke the player with OutOfMemory.
   abbrev pub DealtOf : (F → List Called) → (F → ℕ) → (O → Watching) → Option Command → Scene P F O → List Event → Reply → Scene P F O → Type 0
   DealtOf turn_log refusals state k old es reply new = DealtBy turn_log state k old es reply new × CommandStopsAtRefusal refusals old.desk new.desk reply
-
-  -- The watchers were told these changes, those of them that are watched: all of them, or all but those for which a watcher found
-  -- no memory. Or memory was refused for telling, with something to tell, and nothing has changed.
-  abbrev pub TellsWatchers : {E : Type 0} → (F → List Called) → (O → Watching) → DeskView P F O → List Change → List Change → Result Bool E → DeskView P F O → Type 0
-  TellsWatchers turn_log state old cs watched (Ok all) new = (es : List Event) × (t : ToldAs old.next watched all es)
-      × IsRound state old.next cs watched t.answers old.watchers new.watchers × Grew turn_log (log_of state) old es new
-  TellsWatchers turn_log state old cs watched (Err e) new = (watched ≢ []) × (new ≡ old)

@@ -3,14 +3,10 @@
 #![tactic(auto)]
 
 mod end;
-mod passages;
-mod path;
 mod player;
 mod playing;
 mod saving;
 mod session;
-mod telling;
-mod visits;
 
 pub use end::{PlayEnd, PlayFault};
 pub use ink_check::{Story, check};

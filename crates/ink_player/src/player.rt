@@ -8,14 +8,12 @@ ghost use Rattle.ink_model.specs.Configuration.{Configuration, with_globals};
 ghost use Rattle.ink_model.specs.Host as host;
 ghost use Rattle.ink_model.specs.Opening.{opening, opened};
 ghost use Rattle.ink_model.specs.Flows.{Game, current_name};
-ghost use Rattle.ink_model.specs.Flows as rules;
 ghost use Rattle.ink_model.specs.FlowCommands.{DropsFlow, GoesToFlow, TellsFlows};
 ghost use Rattle.ink_model.specs.Save.Reads.{Stands as GameStands};
 ghost use Rattle.ink_model.specs.Session.{BeginsAnew, Continue, Through, Set, Get, Load, Restart, Save, TellsOrKeeps, reply_told, settable};
 ghost use Rattle.ink_model.specs.State.{Ready, is_running, fault_in, globals_of};
 ghost use Rattle.ink_model.specs.Store.{store, stored};
 ghost use Rattle.ink_model.specs.Told.{told};
-ghost use Rattle.ink_model.specs.Tree.{StoryTree};
 ghost use Rattle.ink_model.specs.Turns.{Choose, ShowsChoices};
 ghost use Rattle.ink_model.specs.declared.host.Event.{Event as Happening};
 ghost use Rattle.ink_model.specs.declared.host.Given.{Given as Gift};
@@ -30,18 +28,17 @@ ghost use Rattle.serde_json.specs.Data.{Data};
 ghost use Rattle.serde_json.specs.View.{view};
 ghost use Rattle.serde_json.specs.Written.{compact_text};
 
-use crate::passages::{Extent, run_to};
-use crate::path::landing_by;
 use crate::saving::{loaded, loaded_text, saved, saved_text, story_fits};
-use crate::telling::{tell_between, tell_changed, tell_one};
-use crate::visits::visits_by;
 use ink_check::Story;
-use ink_host::{Bound, Desk, PureFn, TurnFn, Watcher};
-use ink_model::{
-    Event, Fault, Given, Halt, MAX_FLOWS, MAX_TEXT, Passage, Refusal, Seq, Shown, Text, Value,
-    value_given,
+use ink_commands::{
+    drop_flow, go_to_flow, jump, reopened, tell_between, tell_changed, tell_one, visits_by,
 };
-use ink_step::{DEFAULT_FLOW, Machine, Unopened, is_flow_name};
+use ink_host::{Bound, Desk, PureFn, TurnFn, Watcher};
+use ink_look::{Extent, run_to};
+use ink_model::{
+    Event, Fault, Given, Halt, MAX_TEXT, Passage, Refusal, Seq, Shown, Text, Value, value_given,
+};
+use ink_step::{Machine, Unopened};
 use serde_json::Value as Json;
 use std::alloc::{AllocError, Global};
 use std::fmt;
@@ -106,13 +103,13 @@ impl<P, F, O> fmt::Display for OpenFault<P, F, O> {
 
 impl<P: PureFn, F: TurnFn, O: Watcher> Player<P, F, O> {
     ghost use Rattle.ink_check.specs.Words.{story_tree};
+    ghost use Rattle.ink_commands.specs.Paths.{JumpsTo};
+    ghost use Rattle.ink_commands.specs.Visits.{TellsVisits};
     ghost use Rattle.ink_model.specs.Store.{Values};
     ghost use Rattle.ink_step.specs.Steps.{FailsToOpen};
     ghost use Rattle.ink_model.specs.Save.Reads.{Reads};
     ghost use Rattle.ink_player.specs.Loading.{LoadsText, TextReads, TextReadsAsState};
-    ghost use Rattle.ink_player.specs.Paths.{JumpsTo};
     ghost use Rattle.ink_player.specs.Saving.{IsOldSave, LoadsAs, ReadsAsState};
-    ghost use Rattle.ink_player.specs.Visits.{TellsVisits};
 
     /// Opens a story at its start, with the globals that it declares (docs/RUNNING.md, "Opening"). No object is
     /// called or told; events that are left on the desk go, and stamps begin at 0. The fault is that of the declarations, or
@@ -347,17 +344,13 @@ impl<P: PureFn, F: TurnFn, O: Watcher> Player<P, F, O> {
         ensures story { story_of self.new ≡ story_of self.old }
         ensures desk { desk_of self.new ≡ desk_of self.old }
     {
-        if let Some(reason) = self.broken {
-            return Err(Refusal::Broken(reason));
-        }
-        let place = match landing_by(self.alloc, &self.story, path) {
-            Ok(place) => place,
-            Err(refusal) => return Err(refusal),
-        };
-        let Ok(()) = self.machine.jump(&self.story, place) else {
-            return Err(Refusal::OutOfMemory);
-        };
-        Ok(())
+        jump(
+            self.alloc,
+            &mut self.machine,
+            &self.story,
+            self.broken,
+            path,
+        )
     }
 
     /// Where the story stands, as a JSON value, which has no float (docs/SAVES.md). No other value loads as this game, except its
@@ -445,9 +438,9 @@ impl<P: PureFn, F: TurnFn, O: Watcher> Player<P, F, O> {
         ensures rest { Resting (rests O.state) (desk_of self.old).watchers → Resting (rests O.state) (desk_of self.new).watchers }
         ensures story { story_of self.new ≡ story_of self.old }
     {
-        match Machine::open(self.alloc, &self.story) {
+        match reopened(self.alloc, &self.story) {
             Ok(machine) => self.begin_anew(machine),
-            Err(_) => Err(Halt::Refused(Refusal::OutOfMemory)),
+            Err(reason) => Err(Halt::Refused(reason)),
         }
     }
 
@@ -480,19 +473,7 @@ impl<P: PureFn, F: TurnFn, O: Watcher> Player<P, F, O> {
         ensures story { story_of self.new ≡ story_of self.old }
         ensures desk { desk_of self.new ≡ desk_of self.old }
     {
-        if let Some(earlier) = self.broken {
-            return Err(Refusal::Broken(earlier));
-        }
-        if !is_flow_name(name) {
-            return Err(Refusal::BadValue);
-        }
-        if !has_room(&self.machine, name) {
-            return Err(Refusal::TooManyFlows);
-        }
-        let Ok(()) = self.machine.flow(&self.story, name) else {
-            return Err(Refusal::OutOfMemory);
-        };
-        Ok(())
+        go_to_flow(&mut self.machine, &self.story, self.broken, name)
     }
 
     /// Takes the flow of a name away; all others stay as they are. Where it is the current one, the first becomes that. Takes no
@@ -504,17 +485,7 @@ impl<P: PureFn, F: TurnFn, O: Watcher> Player<P, F, O> {
         ensures story { story_of self.new ≡ story_of self.old }
         ensures desk { desk_of self.new ≡ desk_of self.old }
     {
-        if let Some(before) = self.broken {
-            return Err(Refusal::Broken(before));
-        }
-        if !self.machine.has_flow(name) {
-            return Err(Refusal::NoSuchFlow);
-        }
-        if name == DEFAULT_FLOW {
-            return Err(Refusal::DefaultFlow);
-        }
-        self.machine.drop_flow(name);
-        Ok(())
+        drop_flow(&mut self.machine, self.broken, name)
     }
 
     /// The name of the current flow; of a broken player, as it was when the fault came. Takes no memory.
@@ -686,11 +657,4 @@ fn is_settable(value: &Given) -> bool
         Given::Text(text) => text.get().as_str().len() <= MAX_TEXT,
         Given::Void => false,
     }
-}
-
-/// Whether there is a flow of this name, or one more may be made.
-fn has_room(machine: &Machine, name: &str) -> bool
-    ensures { (s : StoryTree) → result ≡ rules.has_room name.now (game_of s machine.now).aside }
-{
-    machine.has_flow(name) || machine.flow_count() < MAX_FLOWS
 }

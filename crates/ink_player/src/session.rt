@@ -21,9 +21,9 @@ ghost use Rattle.ink_model.specs.Unread.{TextFails};
 ghost use Rattle.ink_model.specs.declared.limits.TheConstants.{MAX_INPUT};
 ghost use Rattle.serde_json.specs.Data.{Data};
 
-use crate::passages::Extent;
 use crate::player::Player;
 use ink_host::{PureFn, TurnFn, Watcher};
+use ink_look::Extent;
 use ink_model::{Event, Given, Halt, MAX_INPUT, MAX_LINE, Passage, Refusal, Seq};
 use ink_protocol::{
     Ahead, Lent, Line, LineCommand, Outcome, RunFault, Sink, Source, answer_text, fixed_answer,

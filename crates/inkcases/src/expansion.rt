@@ -42,12 +42,20 @@ fn expand_form(alloc: Global, into: &mut Vec<u8>, form: &str) -> Result<(), Allo
 fn numbered(alloc: Global, into: &mut Vec<u8>, text: &str, count: usize) -> Result<(), AllocError> {
     for number in 0..count {
         let number = format!(in alloc; "{number}")?;
-        for (index, piece) in text.split('№').enumerate() {
-            if index > 0 {
-                into.extend_from_slice(number.as_str().as_bytes())?;
-            }
-            into.extend_from_slice(piece.as_bytes())?;
-        }
+        push_numbered(into, text, number.as_str())?;
+    }
+    Ok(())
+}
+
+/// A text with a number at each `№`.
+fn push_numbered(into: &mut Vec<u8>, text: &str, number: &str) -> Result<(), AllocError> {
+    let mut pieces = text.split('№');
+    if let Some(first) = pieces.next() {
+        into.extend_from_slice(first.as_bytes())?;
+    }
+    for piece in pieces {
+        into.extend_from_slice(number.as_bytes())?;
+        into.extend_from_slice(piece.as_bytes())?;
     }
     Ok(())
 }

@@ -3,6 +3,7 @@
 #![tactic(auto)]
 
 mod answer;
+mod content;
 mod expansion;
 mod lines;
 mod report;
@@ -10,16 +11,11 @@ mod table;
 mod tally;
 mod words;
 
-pub use answer::{Answer, NoAnswer, append, compared, counted, first_word, text, told};
+pub use answer::NoAnswer;
+pub use content::{show_content, show_leaf};
 pub use expansion::{expand, expanded};
-pub use lines::{
-    Answers, Questions, ask_below, ask_lines, ask_stories, first_line, is_comment,
-    question_and_answer, run_lines, run_stories,
-};
+pub use lines::{Questions, ask_below, ask_lines, ask_stories, first_line, is_comment};
 pub use report::Report;
 pub use table::{Table, Tables, run_tables};
-pub use tally::{Tally, Verdict};
-pub use words::{
-    decoded, encode, encoded, given_of, number, part_of, parts_of, refused, show_given, show_parts,
-    show_value, shown_parts, shown_value, text_of, value_of,
-};
+pub use tally::Tally;
+pub use words::{decoded, first_word, given_of, number, part_of, parts_of, text_of, value_of};

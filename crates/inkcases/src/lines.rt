@@ -1,58 +1,11 @@
 //! Tables with a case a line: a question, ` => ` and the answer that is wanted.
 
-use crate::answer::{Answer, NoAnswer, compared};
+use crate::answer::NoAnswer;
 use crate::expansion::expanded;
 use crate::report::Report;
 use crate::table::Table;
-use crate::tally::{Tally, Verdict};
-use std::alloc::{AllocError, Global};
-
-/// What answers the questions of a table.
-pub trait Answers {
-    /// The answer to a question about a story, which is empty where the table has none.
-    fn answer(&self, alloc: Global, story: &str, question: &str) -> Answer;
-}
-
-/// Runs the cases of a table.
-pub fn run_lines<A: Answers>(
-    rt: &impl Print,
-    alloc: Global,
-    answers: &A,
-    table: Table<'_>,
-    tally: &mut Tally,
-) {
-    run_below(rt, alloc, answers, table, ("", table.text), tally);
-}
-
-/// Runs the cases of a table of stories: `= STORY` stands above the questions about it.
-pub fn run_stories<A: Answers>(
-    rt: &impl Print,
-    alloc: Global,
-    answers: &A,
-    table: Table<'_>,
-    tally: &mut Tally,
-) {
-    for part in table.text.split("\n= ").skip(1) {
-        run_below(rt, alloc, answers, table, first_line(part), tally);
-    }
-}
-
-// Runs the cases below a story.
-fn run_below<A: Answers>(
-    rt: &impl Print,
-    alloc: Global,
-    answers: &A,
-    table: Table<'_>,
-    (story, text): (&str, &str),
-    tally: &mut Tally,
-) {
-    for line in text.lines() {
-        if !is_comment(line) {
-            let verdict = verdict(alloc, answers, story, line);
-            tally.count(rt, table.file, line, &verdict);
-        }
-    }
-}
+use crate::tally::Tally;
+use std::alloc::Global;
 
 /// What answers the questions of a table.
 pub trait Questions {
@@ -82,7 +35,9 @@ pub fn ask_stories<Q: Questions>(
     table: Table<'_>,
     tally: &mut Tally,
 ) {
-    for part in table.text.split("\n= ").skip(1) {
+    let mut parts = table.text.split("\n= ");
+    let _front = parts.next();
+    for part in parts {
         ask_below(rt, alloc, questions, table, first_line(part), tally);
     }
 }
@@ -135,19 +90,8 @@ pub fn is_comment(line: &str) -> bool {
     line.is_empty() || line.starts_with("//")
 }
 
-fn verdict<A: Answers>(
-    alloc: Global,
-    answers: &A,
-    story: &str,
-    line: &str,
-) -> Result<Verdict, AllocError> {
-    let line = expanded(alloc, line)?;
-    let (question, wanted) = question_and_answer(&line);
-    compared(alloc, answers.answer(alloc, story, question), wanted)
-}
-
 /// The question and the wanted answer of a line.
-pub fn question_and_answer(line: &[u8]) -> (&str, &str) {
+fn question_and_answer(line: &[u8]) -> (&str, &str) {
     let line = str::from_utf8(line).unwrap_or("no text");
     line.rsplit_once(" => ").unwrap_or((line, "an answer"))
 }

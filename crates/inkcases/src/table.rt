@@ -39,8 +39,10 @@ pub fn run_tables<T: Tables>(
                     run_table::<T>(rt, alloc, file, &mut tally);
                 }
             }
-            for file in arguments.iter().skip(1) {
-                run_table::<T>(rt, alloc, file.as_str(), &mut tally);
+            if let Some(named) = arguments.as_slice().get(1..) {
+                for file in named {
+                    run_table::<T>(rt, alloc, file.as_str(), &mut tally);
+                }
             }
         }
         Err(_) => tally.refuse(),

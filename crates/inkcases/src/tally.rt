@@ -1,18 +1,10 @@
 //! How the cases of the tables went.
 
 use crate::report::Report;
-use std::alloc::AllocError;
 use std::io;
 
 /// The longest that is printed of what came.
 const MOST_PRINTED: usize = 400;
-
-/// What came of one case. `Differs` has what came.
-#[derive(Drop)]
-pub enum Verdict {
-    Holds,
-    Differs(String),
-}
 
 /// How many cases there were, and of them those that failed and those that found no memory.
 #[derive(Drop)]
@@ -29,25 +21,6 @@ impl Tally {
             cases: 0,
             failed: 0,
             refused: 0,
-        }
-    }
-
-    /// Counts a case of a file, and prints it where it fails.
-    pub fn count(
-        &mut self,
-        rt: &impl Print,
-        file: &str,
-        case: &str,
-        verdict: &Result<Verdict, AllocError>,
-    ) {
-        match verdict {
-            Ok(Verdict::Holds) => self.cases = self.cases.saturating_add(1),
-            Ok(Verdict::Differs(came)) => {
-                let came = came.get(..MOST_PRINTED).unwrap_or(came.as_str());
-                let _ = println!(rt; "{file}: {case}: came {came}");
-                self.fail();
-            }
-            Err(_) => self.refuse(),
         }
     }
 

@@ -2,11 +2,16 @@
 //! number, `true`, `false`, `void`, `^TEXT`, `->PATH`, `&NAME:FRAME` or `#TEXT`. A place is its parts joined by dots, or
 //! `root`.
 
-use crate::answer::{Answer, NoAnswer};
-use ink_model::{Cause, Given, Part, ReadRefusal, Shared, Text, Value};
-use ink_path::{print_path, read_path};
+use crate::answer::NoAnswer;
+use ink_model::{Given, Part, Shared, Text, Value};
+use ink_path::read_path;
 use std::alloc::{AllocError, Global};
 use std::str::FromStr;
+
+/// A word of a question, and what stands behind it.
+pub fn first_word(question: &str) -> (&str, &str) {
+    question.split_once(' ').unwrap_or((question, ""))
+}
 
 /// A text of a table.
 pub fn decoded(alloc: Global, word: &str) -> Result<String, AllocError> {
@@ -20,26 +25,6 @@ pub fn decoded(alloc: Global, word: &str) -> Result<String, AllocError> {
         })?;
     }
     Ok(text)
-}
-
-/// A text as a table has it.
-pub fn encoded(alloc: Global, text: &str) -> Result<String, AllocError> {
-    let mut word = String::new(alloc);
-    encode(&mut word, text)?;
-    Ok(word)
-}
-
-/// Writes a text behind a word as a table has it.
-pub fn encode(word: &mut String, text: &str) -> Result<(), AllocError> {
-    for character in text.chars() {
-        word.push(match character {
-            ' ' => '_',
-            '\t' => '~',
-            '\n' => '|',
-            other => other,
-        })?;
-    }
-    Ok(())
 }
 
 /// A value of a table.
@@ -91,26 +76,6 @@ where
     }
 }
 
-/// A value as a table has it.
-pub fn shown_value(alloc: Global, value: &Value) -> Answer {
-    let mut word = String::new(alloc);
-    show_value(alloc, &mut word, value)?;
-    Ok(word)
-}
-
-/// Writes a value behind a text.
-pub fn show_value(alloc: Global, word: &mut String, value: &Value) -> Result<(), AllocError> {
-    match value {
-        Value::Int(number) => write!(word, "{number}"),
-        Value::Bool(truth) => write!(word, "{truth}"),
-        Value::Void => word.push_str("void"),
-        Value::Text(text) => show_text(word, '^', text.get()),
-        Value::Tag(text) => show_text(word, '#', text.get()),
-        Value::Pointer(frame, name) => write!(word, "&{}:{frame}", name.get().as_str()),
-        Value::Target(path) => write!(word, "->{}", print_path(alloc, path.get())?.as_str()),
-    }
-}
-
 /// What a host gives.
 pub fn given_of(value: Value) -> Result<Given, NoAnswer> {
     match value {
@@ -120,21 +85,6 @@ pub fn given_of(value: Value) -> Result<Given, NoAnswer> {
         Value::Void => Ok(Given::Void),
         _other => Err(NoAnswer::NoQuestion),
     }
-}
-
-/// Writes what a host gave behind a text.
-pub fn show_given(word: &mut String, given: &Given) -> Result<(), AllocError> {
-    match given {
-        Given::Int(number) => write!(word, "{number}"),
-        Given::Bool(truth) => write!(word, "{truth}"),
-        Given::Void => word.push_str("void"),
-        Given::Text(text) => show_text(word, '^', text.get()),
-    }
-}
-
-fn show_text(word: &mut String, mark: char, text: &Text) -> Result<(), AllocError> {
-    word.push(mark)?;
-    encode(word, text.as_str())
 }
 
 /// The parts of a place of a table.
@@ -154,52 +104,4 @@ pub fn part_of(alloc: Global, part: &str) -> Result<Part, AllocError> {
         Ok(index) => Ok(Part::Index(index)),
         Err(_) => Ok(Part::Name(Text::from_str(alloc, part)?)),
     }
-}
-
-/// A place as a table has it.
-pub fn shown_parts(alloc: Global, parts: &[Part]) -> Answer {
-    let mut text = String::new(alloc);
-    show_parts(&mut text, parts)?;
-    Ok(text)
-}
-
-/// Writes a place behind a text.
-pub fn show_parts(text: &mut String, parts: &[Part]) -> Result<(), AllocError> {
-    if parts.is_empty() {
-        return text.push_str("root");
-    }
-    for (index, part) in parts.iter().enumerate() {
-        if index > 0 {
-            text.push('.')?;
-        }
-        show_part(text, part)?;
-    }
-    Ok(())
-}
-
-fn show_part(text: &mut String, part: &Part) -> Result<(), AllocError> {
-    match part {
-        Part::Index(index) => write!(text, "{index}"),
-        Part::Name(name) => text.push_str(name.as_str()),
-    }
-}
-
-/// A refusal: its cause, and its place where that is not the root.
-pub fn refused(alloc: Global, refusal: &ReadRefusal) -> Answer {
-    if refusal.cause == Cause::OutOfMemory {
-        return Err(NoAnswer::OutOfMemory);
-    }
-    let mut said = String::new(alloc);
-    show_refusal(&mut said, refusal)?;
-    Ok(said)
-}
-
-fn show_refusal(said: &mut String, refusal: &ReadRefusal) -> Result<(), AllocError> {
-    write!(said, "{}", refusal.cause)?;
-    let parts = refusal.place.parts();
-    if !parts.is_empty() {
-        said.push(' ')?;
-        show_parts(said, parts)?;
-    }
-    Ok(())
 }

@@ -5,18 +5,11 @@
 //! are any. The status is 0 where none failed.
 #![tactic(auto)]
 
-mod alike;
-mod content;
 mod operators;
 mod output;
 mod paths;
 mod reading;
-mod spelling;
 mod stories;
-mod twin;
-mod twins;
-mod walks;
-mod written;
 
 use inkcases::{
     NoAnswer, Questions, Report, Table, Tables, Tally, ask_lines, ask_stories, run_tables,
@@ -25,7 +18,7 @@ use std::alloc::Global;
 use std::process::ExitCode;
 
 /// The tables that are read where none are named.
-const TABLES: [&str; 12] = [
+const TABLES: [&str; 8] = [
     "operators.txt",
     "operators_large.txt",
     "output.txt",
@@ -34,10 +27,6 @@ const TABLES: [&str; 12] = [
     "reading.txt",
     "stories.txt",
     "stories_large.txt",
-    "twins.txt",
-    "twins_edges.txt",
-    "twins_large.txt",
-    "twins_random.txt",
 ];
 
 /// What kind of cases a table has.
@@ -48,17 +37,15 @@ enum Kind {
     Paths,
     Reading,
     Stories,
-    Twins,
 }
 
 /// How the names of files begin, and the kinds that this tells.
-const KINDS: [(&str, Kind); 6] = [
+const KINDS: [(&str, Kind); 5] = [
     ("operators", Kind::Operators),
     ("output", Kind::Output),
     ("paths", Kind::Paths),
     ("reading", Kind::Reading),
     ("stories", Kind::Stories),
-    ("twins", Kind::Twins),
 ];
 
 impl Tables for Kind {
@@ -88,7 +75,6 @@ impl Questions for Kind {
             Kind::Paths => paths::answer(said, question),
             Kind::Reading => reading::answer(said, question),
             Kind::Stories => stories::answer(said, story, question),
-            Kind::Twins => twins::answer(said, question),
         }
     }
 }

@@ -1,6 +1,5 @@
 //! Reading: the forms of content, and stories that are refused, and some at the limits that are not.
 
-use crate::content::show_content;
 use ink_check::check;
 use ink_json::read_story;
 use ink_model::choice_flags::{
@@ -8,7 +7,7 @@ use ink_model::choice_flags::{
 };
 use ink_model::flags::{counts_at_start, counts_visits, notes_turns};
 use ink_model::{Part, ReadRefusal};
-use inkcases::{NoAnswer, Report, first_word, number};
+use inkcases::{NoAnswer, Report, first_word, number, show_content};
 
 /// `form CONTENT` is answered by what the content is read as, alone in the root's list, and `older CONTENT` by what it is read
 /// as in a story of version 20. The others are answered by `read`, or

@@ -1,11 +1,10 @@
 //! A story's content and places by calls of its tree, and where its paths lead.
 
-use crate::content::{show_content, show_leaf};
 use ink_check::{Story, check};
 use ink_json::read_story;
 use ink_model::{Path, Shared};
 use ink_tree::{NodeId, Spot, Tree, read_path};
-use inkcases::{NoAnswer, Report, expanded, first_word, number, parts_of};
+use inkcases::{NoAnswer, Report, expanded, first_word, number, parts_of, show_content, show_leaf};
 use std::alloc::AllocError;
 
 /// The most containers that are told one by one.

@@ -1,9 +1,11 @@
-use Rattle.std.proofs.Common.{◌∙◌, ap, true, Ok, Err}
+use Rattle.std.proofs.Common.{◌∙◌, ap, refl, true, Ok, Err}
+use Rattle.ink_model.specs.declared.limits.TheConstants.{MAX_STORY}
 use Rattle.ink_player.specs.Words.{bindings}
-use Rattle.ink_protocol.specs.Ends.{after_call}
+use Rattle.ink_protocol.specs.Ends.{after_call, is_read, is_write}
 use Rattle.ink_player.proofs.Endings.{ends_from, fails_not, fails_once}
 use Rattle.ink_player.proofs.Playings.{is_last_line, no_story, unopened, unopened_last, plays_last, plays_on, plays_short, opens_as}
 use Rattle.ink_player.proofs.Sessions.{runs_for}
+use Rattle.ink_player.proofs.Failures.{open_failed, story_failed, story_unwritten}
 use Rattle.ink_player.proofs.playing.serve_story.Goals as goal
 
 pub returns-in-Err-clause-plays : goal.returns-in-Err-clause-plays
@@ -63,3 +65,23 @@ returns-clause-ends g c =
     (is_last_line _ _ _ _ c.in-Last.line.items c.in-Err-open_story-2.end.fault c.new-ahead.ensures (rw c.in-Last.is at c.in-Ok.ensures.gives)
     (opens_as _ _ (Err c.in-Err-open_story-2.end) c.deref-in-Last.ensures.value c.in-Err-open_story-2.ensures.opens))
     (rw c.in-Last.is at c.in-Ok.ensures.ends)
+
+-- ---- whose failure it was
+
+pub returns-in-Err-clause-source : goal.returns-in-Err-clause-source
+returns-in-Err-clause-source g c = story_failed c.in-Err.fault c.fault_of-fault.result _ _ _ _ c.fault_of-fault.ensures c.in-Err.ensures.cause c.in-Err.ensures.name
+
+pub returns-in-Err-clause-sink : goal.returns-in-Err-clause-sink
+returns-in-Err-clause-sink g c = story_unwritten _ _ _ _ MAX_STORY c.in-Err.fault c.fault_of-fault.result _ _ c.fault_of-fault.ensures c.in-Err.ensures.gives
+
+pub returns-in-Err-open_story-clause-source : goal.returns-in-Err-open_story-clause-source
+returns-in-Err-open_story-clause-source g c = open_failed is_read _ c.in-Err-open_story.end.fault _ _ _ _ c.in-Err-open_story.ensures.opens c.in-Ok.ensures.cause c.in-Ok.ensures.name
+
+pub returns-in-Err-open_story-clause-sink : goal.returns-in-Err-open_story-clause-sink
+returns-in-Err-open_story-clause-sink g c = open_failed is_write _ c.in-Err-open_story.end.fault _ _ _ _ c.in-Err-open_story.ensures.opens refl refl
+
+pub returns-clause-source : goal.returns-clause-source
+returns-clause-source g c = open_failed is_read _ c.in-Err-open_story-2.end.fault _ _ _ _ c.in-Err-open_story-2.ensures.opens c.in-Ok.ensures.cause c.in-Ok.ensures.name
+
+pub returns-clause-sink : goal.returns-clause-sink
+returns-clause-sink g c = open_failed is_write _ c.in-Err-open_story-2.end.fault _ _ _ _ c.in-Err-open_story-2.ensures.opens refl refl

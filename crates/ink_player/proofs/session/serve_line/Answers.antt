@@ -1,7 +1,9 @@
 use Rattle.std.proofs.Common.{◌<◌, ◌≡◌, length, Ok, Err, sym, vec_len, arith}
 use Rattle.std.proofs.lemmas.Bool.{eqb-false, eqb-true}
+use Rattle.ink_model.specs.declared.limits.TheConstants.{MAX_LINE}
 use Rattle.ink_player.proofs.Endings.{ends_not, ends_once}
 use Rattle.ink_player.proofs.Sessions.{no_last, no_line, none_left, whole_unserved, last_unserved, last_served, answers_as}
+use Rattle.ink_player.proofs.Failures.{unfailed, unwritten}
 use Rattle.ink_player.proofs.session.serve_line.Goals as goal
 
 pub returns-in-Err-clause-next : goal.returns-in-Err-clause-next
@@ -46,3 +48,16 @@ returns-in_default-answer_line-clause-ends g c = rw c.in-Last.is at c.in-Ok.ensu
 
 pub returns-then-is_empty-clause-ends : goal.returns-then-is_empty-clause-ends
 returns-then-is_empty-clause-ends g c = rw c.in-Last.is at c.in-Ok.ensures.ends
+
+-- ---- whose failure it was
+
+pub returns-in-Err-clause-sink : goal.returns-in-Err-clause-sink
+returns-in-Err-clause-sink g c = unwritten _ _ _ _ MAX_LINE c.in-Err.fault _ _ c.in-Err.ensures.gives
+
+pub returns-in-Err-answer_line-clause-source : goal.returns-in-Err-answer_line-clause-source
+returns-in-Err-answer_line-clause-source g c =
+    unfailed g.F.TurnFn.log g.F.TurnFn.refusals g.O.Watcher.state _ _ _ _ _ _ _ c.in-Err-answer_line.fault _ _ _ _ c.in-Err-answer_line.ensures.answers c.in-Ok.ensures.cause c.in-Ok.ensures.name
+
+pub returns-in-Err-answer_line-2-clause-source : goal.returns-in-Err-answer_line-2-clause-source
+returns-in-Err-answer_line-2-clause-source g c =
+    unfailed g.F.TurnFn.log g.F.TurnFn.refusals g.O.Watcher.state _ _ _ _ _ _ _ c.in-Err-answer_line-2.fault _ _ _ _ c.in-Err-answer_line-2.ensures.answers c.in-Ok.ensures.cause c.in-Ok.ensures.name

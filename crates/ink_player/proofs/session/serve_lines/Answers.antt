@@ -1,6 +1,6 @@
 use Rattle.std.proofs.Common.{◌∙◌, ap, refl, true, Ok, Err}
 use Rattle.ink_model.specs.Command.{command_of}
-use Rattle.ink_protocol.specs.Ends.{after_call}
+use Rattle.ink_protocol.specs.Ends.{after_call, is_read, is_write}
 use Rattle.ink_player.proofs.Dealing.{command_binds}
 use Rattle.ink_player.proofs.Endings.{ends_from}
 use Rattle.ink_player.proofs.Sessions.{runs_more}
@@ -47,3 +47,23 @@ returns-in-Ok-Done-clause-ends g c = rw c.in-Ok-Done.field-0-is at c.in-Ok-Done.
 
 pub returns-in-Err-clause-ends : goal.returns-in-Err-clause-ends
 returns-in-Err-clause-ends g c = ends_from c.in-Err.fault _ _ _ c.lines.invariant.read_ends c.in-Err.ensures.ends
+
+-- ---- what is as it was, and whose failure it was
+
+pub returns-in-Ok-Done-clause-rest : goal.returns-in-Ok-Done-clause-rest
+returns-in-Ok-Done-clause-rest g c = λ rest. c.in-Ok-Done.ensures.rest (c.lines.invariant.rest rest)
+
+pub returns-in-Err-clause-rest : goal.returns-in-Err-clause-rest
+returns-in-Err-clause-rest g c = λ rest. c.in-Err.ensures.rest (c.lines.invariant.rest rest)
+
+pub returns-in-Ok-Done-clause-source : goal.returns-in-Ok-Done-clause-source
+returns-in-Ok-Done-clause-source g c = (c.in-Ok-Done.ensures.source.0 ∙ c.lines.invariant.read_cause, c.in-Ok-Done.ensures.source.1 ∙ c.lines.invariant.source_name)
+
+pub returns-in-Err-clause-source : goal.returns-in-Err-clause-source
+returns-in-Err-clause-source g c = (c.in-Err.ensures.source.0 ∙ ap (after_call (is_read c.in-Err.fault)) c.lines.invariant.read_cause, c.in-Err.ensures.source.1 ∙ c.lines.invariant.source_name)
+
+pub returns-in-Ok-Done-clause-sink : goal.returns-in-Ok-Done-clause-sink
+returns-in-Ok-Done-clause-sink g c = (c.in-Ok-Done.ensures.sink.0 ∙ c.lines.invariant.write_cause, c.in-Ok-Done.ensures.sink.1 ∙ c.lines.invariant.sink_name)
+
+pub returns-in-Err-clause-sink : goal.returns-in-Err-clause-sink
+returns-in-Err-clause-sink g c = (c.in-Err.ensures.sink.0 ∙ ap (after_call (is_write c.in-Err.fault)) c.lines.invariant.write_cause, c.in-Err.ensures.sink.1 ∙ c.lines.invariant.sink_name)

@@ -20,12 +20,12 @@ returns-in-Ok-clause-does g c =
       does.2,
     )
 
-pub returns-clause-does : goal.returns-clause-does
-returns-clause-does g c =
+pub returns-in-Err-clause-does : goal.returns-in-Err-clause-does
+returns-in-Err-clause-does g c =
     let p : PlayerView g.row.P.Denot g.row.F.Denot g.row.O.Denot = record { story = c.self.inside.story; desk = c.self.inside.desk; machine = c.self.inside.machine; broken = c.self.inside.broken } in
     rw (sym c.self.view_is) (
       [],
-      restart-refused (story_of p) (bindings g.P.PureFn.meaning (desk_of p)) (state_of p) _ _ c.self.invariant.opens c.in-Err.ensures.err,
+      restart-refused (story_of p) (bindings g.P.PureFn.meaning (desk_of p)) (state_of p) c.in-Err.reason c.in-Err.ensures.err.0 c.in-Err.ensures.err.1,
       once-none g.F.TurnFn.log g.O.Watcher.state (desk_of p),
     )
 

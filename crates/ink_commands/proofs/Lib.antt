@@ -1,0 +1,5 @@
+mod Paths
+pub mod Tellings
+mod Going
+pub mod Jumps
+mod Openings

@@ -1,0 +1,4 @@
+pub mod Telling
+pub mod States
+pub mod Paths
+pub mod Visits

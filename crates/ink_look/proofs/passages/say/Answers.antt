@@ -1,0 +1,16 @@
+use Rattle.ink_check.specs.Words.{story_tree}
+use Rattle.ink_host.specs.Desk.{bound_by}
+use Rattle.ink_look.specs.declared.lines.LineEnd.TheVariants as line_end
+use Rattle.ink_look.proofs.Settling.{line_says}
+use Rattle.ink_look.proofs.passages.say.Goals as goal
+use Rattle.ink_step.specs.Words.{config_of}
+
+pub returns-in-Stop-clause-runs : goal.returns-in-Stop-clause-runs
+returns-in-Stop-clause-runs g c = rw c.in-Stop.is c.through.ensures.runs
+
+pub returns-in-Fault-clause-runs : goal.returns-in-Fault-clause-runs
+returns-in-Fault-clause-runs g c =
+    let s = story_tree c.args.story.now in
+    let b = bound_by g.P.PureFn.meaning c.args.desk.now.functions in
+    let ran = c.in-Fault.ensures.line in
+    rw c.in-Line.is (ran.0, ran.1, line_says s b (config_of s c.args.machine.now) ran.0 (config_of s c.line.new.machine) (line_end.Fault c.in-Fault.fault) ran.2)

@@ -1,6 +1,0 @@
-use Rattle.std.proofs.Common.{rules, ◌∙◌}
-use Rattle.ink_player.proofs.Paths.{absolute_leads}
-use Rattle.ink_player.proofs.path.absolute_spot.Goals as goal
-
-pub returns : goal.returns
-returns c = c.resolve.ensures ∙ absolute_leads _ _ _ (search rules)
