@@ -1,6 +1,6 @@
 -- A list of what is made, element by element.
-use Rattle.std.proofs.Common.{◌≡◌, ◌∙◌, ◌⊎◌, inl, sym, ap, ◌+◌, List, [], ◌∷◌, ◌++◌, map, subst, Option, Some, None}
-use Rattle.std.proofs.lemmas.List.{append-nil}
+use Rattle.std.proofs.Common.{◌≡◌, ◌∙◌, ◌⊎◌, inl, sym, ap, ℕ, ◌+◌, ◌<◌, ◌≤◌, length, List, [], ◌∷◌, ◌++◌, drop, get_or, map, subst, Option, Some, None}
+use Rattle.std.proofs.lemmas.List.{append-nil, drop_all, drop_more}
 use Rattle.std.specs.List.{AllByRecursion}
 use Rattle.ink_restore.specs.Building.{Builds, FirstAsks}
 
@@ -60,6 +60,23 @@ module _ {A B : Type 0} (f : A → B) (fits : B → Type 0) where
   done : (whole : List B) (made : List A) → Making whole made [] → (map f made ≡ whole) × AllByRecursion fits whole
   done whole made m = (sym (append-nil (map f made)) ∙ m.joined, m.enough tt)
 
-  pub first_asks : (asks : B → Type 0) (whole : List B) (made : List A) (x : B) (rest : List B) → fits x ⊎ asks x → Making whole made (x ∷ rest) → FirstAsks fits asks whole
+  first_asks : (asks : B → Type 0) (whole : List B) (made : List A) (x : B) (rest : List B) → fits x ⊎ asks x → Making whole made (x ∷ rest) → FirstAsks fits asks whole
   first_asks asks whole [] x rest h m = subst (FirstAsks fits asks) m.joined h
   first_asks asks whole (o ∷ os) x rest h m = first_fits fits asks whole m.begun
+
+  -- by the index of the first that is left
+  module _ (whole : List B) (made : List A) (i : ℕ) (d : B) where
+    at_first : i < length whole → Making whole made (drop i whole) → Making whole made (get_or whole i d ∷ drop (i + 1) whole)
+    at_first lt m = subst (Making whole made) (drop_more whole i d lt) m
+
+    pub making_more : i < length whole → (a : A) → f a ≡ get_or whole i d → fits (get_or whole i d) → Making whole made (drop i whole) → Making whole (made ++ a ∷ []) (drop (i + 1) whole)
+    making_more lt a is h m = one_more whole made a (get_or whole i d) (drop (i + 1) whole) is h (at_first lt m)
+
+    pub making_refused : i < length whole → (fits (get_or whole i d) → ⊥) → Making whole made (drop i whole) → AllByRecursion fits whole → ⊥
+    making_refused lt never m = refused whole made (get_or whole i d) (drop (i + 1) whole) never (at_first lt m)
+
+    pub making_asks : i < length whole → (asks : B → Type 0) → fits (get_or whole i d) ⊎ asks (get_or whole i d) → Making whole made (drop i whole) → FirstAsks fits asks whole
+    making_asks lt asks h m = first_asks asks whole made (get_or whole i d) (drop (i + 1) whole) h (at_first lt m)
+
+  pub making_done : (whole : List B) (made : List A) (i : ℕ) → length whole ≤ i → Making whole made (drop i whole) → (map f made ≡ whole) × AllByRecursion fits whole
+  making_done whole made i le m = done whole made (subst (Making whole made) (drop_all i whole le) m)

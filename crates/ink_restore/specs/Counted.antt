@@ -1,5 +1,5 @@
 -- What is counted.
-use Rattle.std.specs.Prelude.{⊤, ℕ, ◌<◌, List, [], ◌∷◌, length, Bool, Option, Some, None}
+use Rattle.std.specs.Prelude.{⊤, ℕ, ◌<◌, List, [], ◌∷◌, length, Bool}
 use Rattle.ink_model.specs.Counts.{CountsOf}
 use Rattle.ink_model.specs.Flags.{counts_visits, notes_turns}
 use Rattle.ink_model.specs.Places.{places}

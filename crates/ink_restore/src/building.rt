@@ -27,7 +27,6 @@ pub trait Built {
 
 /// What is made of each of these; none where one does not fit. The one error is a refused request for memory, which is made once
 /// the first one fits, or asks for some.
-#[tactic(auto, using(crate::proofs::Making::first_asks))]
 pub(crate) fn build_all<T: Built>(
     alloc: Global,
     tree: &Tree,
