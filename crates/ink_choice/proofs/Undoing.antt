@@ -1,5 +1,6 @@
 -- What is put back of choices, and that there is room for it.
-use Rattle.std.proofs.Common.{◌≡◌, ◌∙◌, ◌≤◌, ◌<◌, ℕ, zero, suc, List, [], ◌∷◌, ◌++◌, Option, Some, None, false, is_some, ap, arith, get_or, length, subst, sym}
+use Rattle.std.proofs.Common.{◌≡◌, ◌∙◌, ◌≤◌, ◌<◌, ◌+◌, ℕ, zero, suc, List, [], ◌∷◌, ◌++◌, Option, Some, None, false, is_some, ap, arith, drop, get_or, length, refl, subst, sym, take}
+use Rattle.std.proofs.lemmas.List.{drop_all, length-append, take-append-drop, take_all}
 use Rattle.std.specs.List.{insert, remove}
 use Rattle.ink_model.specs.Configuration.{ChoiceOf}
 use Rattle.ink_trail.proofs.Ending.{but_last-snoc}
@@ -45,6 +46,14 @@ pub taken_back : {A : Type 0} → (xs : List A) (i : ℕ) (x : A) → i < length
 taken_back [] i x h is = absurd (omega (arith, h))
 taken_back (y ∷ xs) zero x h is = ap (λ z. z ∷ xs) is
 taken_back (y ∷ xs) (suc i) x h is = ap (λ zs. y ∷ zs) (taken_back xs i x (omega (arith, h)) is)
+
+-- behind the end
+pub put_at_end : {A : Type 0} → (xs : List A) (i : ℕ) (x : A) → length xs ≤ i → xs ++ x ∷ [] ≡ insert xs i x
+put_at_end xs i x h = rw (take_all i xs h, drop_all i xs h) refl
+
+pub one_longer : {A : Type 0} → (xs : List A) (i : ℕ) (x : A) → length (insert xs i x) ≡ length xs + 1
+one_longer xs i x =
+    omega (arith, length-append (take i xs) (x ∷ drop i xs), length-append (take i xs) (drop i xs), ap length (take-append-drop i xs))
 
 pub added_back : {P : Type 0} → (cs ds : List (ChoiceOf P)) (c : ChoiceOf P) → ds ≡ cs ++ c ∷ [] → choices_back Added ds ≡ cs
 added_back cs ds c is = ap but_last is ∙ but_last-snoc cs c
