@@ -10,7 +10,8 @@ ghost use Rattle.ink_step.specs.Words.{globals_of, start_of};
 
 use ink_host::{Change, Desk, PureFn, TellFault, TurnFn, Watcher};
 use ink_model::{Seq, Text, Value};
-use ink_step::{Machine, told_between};
+use ink_step::Machine;
+use ink_told::told_between;
 use ink_value::same_value;
 use std::alloc::{AllocError, Global};
 

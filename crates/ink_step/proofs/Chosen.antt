@@ -3,7 +3,7 @@ use Rattle.std.proofs.Common.{◌≡◌, ◌∙◌, ◌⊎◌, inl, inr, ap, sym
 use Rattle.ink_choice.proofs.Nth.{taken_visible}
 use Rattle.ink_choice.specs.Words.{Takes}
 use Rattle.ink_model.specs.Choices.{none_visible, only_invisible, taken, visible}
-use Rattle.ink_model.specs.Choosing.{chosen, default_asks, default_choice, open_choice, stopped_by, taken_up}
+use Rattle.ink_model.specs.Choosing.{chosen, default_asks, default_choice, jumped, open_choice, stopped_by, taken_up}
 use Rattle.ink_model.specs.Configuration.{ChoiceOf, Configuration, can_go_on, map_choice}
 use Rattle.ink_model.specs.Counts.{CountsOf, one_more}
 use Rattle.ink_model.specs.Entered.{entered_places}
@@ -138,6 +138,18 @@ module _ (s : StoryTree) (x : ChoiceOf (List Part)) (old mid : Configuration) (s
   chosen_lands new is next entering =
       is ∙ ap (up_in mid turn) entering ∙ ap (λ t. up_in mid t (all_visited s t entered_by mid.shared.counts)) next
       ∙ ap (λ c. up_in c (one_more c.shared.turn) (all_visited s (one_more c.shared.turn) entered_by c.shared.counts)) same
+
+-- the configuration of a jump, with a turn and counts
+abbrev pub jumped_in : List Part → Configuration → ℕ → CountsOf (List Part) → Configuration
+jumped_in q c t cts = let d = jumped q c in record d { shared = record d.shared { counts = cts; turn = t } }
+
+-- the same after the containers around had been entered in the next turn
+module _ (s : StoryTree) (q : List Part) (old mid : Configuration) (same : mid ≡ old) (counts : CountsOf (List Part)) (turn : ℕ) where
+  pub jump_lands : (new : Configuration) → new ≡ jumped_in q mid turn counts → turn ≡ one_more mid.shared.turn → counts ≡ all_visited s turn (entered_places s None q) mid.shared.counts
+      → new ≡ entering_around s (jumped q old)
+  jump_lands new is next entering =
+      is ∙ ap (jumped_in q mid turn) entering ∙ ap (λ t. jumped_in q mid t (all_visited s t (entered_places s None q) mid.shared.counts)) next
+      ∙ ap (λ c. entering_around s (jumped q c)) same
 
 -- ---- memory that is refused
 

@@ -7,7 +7,6 @@ pub mod Stopping
 pub mod Moments
 pub mod Growing
 pub mod Runnings
-pub mod Telling
 pub mod Openings
 pub mod Unnumbered
 pub mod Goings

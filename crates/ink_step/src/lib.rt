@@ -21,4 +21,3 @@ pub use machine::Machine;
 pub use opening::Unopened;
 pub use own::OwnPair;
 pub use parts::{Fields, Parts};
-pub use told::told_between;

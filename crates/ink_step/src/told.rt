@@ -1,15 +1,14 @@
-//! What watchers are to be told of globals (docs/HOST.md, "Telling").
+//! What watchers are to be told of a machine's globals (docs/HOST.md, "Telling").
 
-ghost use Rattle.std.specs.Prelude.{◌≡◌, ◌≢◌, ◌++◌, ◌∷◌, [], IfOk, OnErr, OnOk, option_map};
+ghost use Rattle.std.specs.Prelude.{◌≡◌, ◌≢◌, [], IfOk, OnErr};
 ghost use Rattle.ink_host.specs.Desk.{watches};
-ghost use Rattle.ink_model.specs.Told.{is_other, told};
+ghost use Rattle.ink_model.specs.Told.{told};
 
 use crate::machine::Machine;
 use ink_host::{Desk, PureFn, TurnFn, Watcher};
-use ink_model::{Change, Seq, Text, Value};
-use ink_value::same_value;
-use ink_vars::Globals;
-use std::alloc::{AllocError, Global};
+use ink_model::{Change, Seq};
+use ink_told::told_since;
+use std::alloc::AllocError;
 
 impl Machine {
     ghost use Rattle.ink_step.specs.Words.{globals_of, start_of};
@@ -24,67 +23,6 @@ impl Machine {
         ensures told { IfOk result (λ changes. changes ≡ told (watches desk.now.watchers) (start_of self.now) (globals_of self.now)) }
         ensures memory { OnErr result (told (watches desk.now.watchers) (start_of self.now) (globals_of self.now) ≢ []) }
     {
-        if !desk.has_watchers() {
-            return Ok(Seq::new(self.alloc));
-        }
-        let numbers = self
-            .shared
-            .globals
-            .changed(self.alloc, |name| desk.watches(name))?;
-        let mut told = Vec::new(self.alloc);
-        for number in &numbers {
-            if let Some((name, value)) = self.shared.globals.pair(*number) {
-                add_change(self.alloc, &mut told, name, value)?;
-            }
-        }
-        Ok(Seq::from_vec(told))
+        told_since(self.alloc, &self.shared.globals, desk)
     }
-}
-
-/// The watched globals of the new ones that have another value than among the old ones, or are not there, in order of declaration.
-/// The one error is a refused request for memory, which is made only where there are such globals.
-pub fn told_between<P: PureFn, T: TurnFn, W: Watcher>(
-    alloc: Global,
-    old: &Globals,
-    new: &Globals,
-    desk: &Desk<P, T, W>,
-) -> Result<Seq<Change>, AllocError>
-    ensures told { IfOk result (λ changes. changes ≡ told (watches desk.now.watchers) old.now.rows new.now.rows) }
-    ensures memory { OnErr result (told (watches desk.now.watchers) old.now.rows new.now.rows ≢ []) }
-{
-    let mut told = Vec::new(alloc);
-    for number in 0..new.len() {
-        if let Some((name, value)) = new.pair(number) {
-            if desk.watches(name) && is_other(old.get(name), value) {
-                add_change(alloc, &mut told, name, value)?;
-            }
-        }
-    }
-    Ok(Seq::from_vec(told))
-}
-
-/// Whether there was no value, or another one.
-fn is_other(was: Option<&Value>, value: &Value) -> bool
-    ensures { result ≡ is_other (option_map (λ v. v.now) was.entry) value.now }
-{
-    match was {
-        Some(was) => !same_value(was, value),
-        None => true,
-    }
-}
-
-/// Adds a change, with copies of name and value. The one error is a refused request for memory.
-fn add_change(
-    alloc: Global,
-    told: &mut Vec<Change>,
-    name: &str,
-    value: &Value,
-) -> Result<(), AllocError>
-    ensures { OnOk result (told.new.items ≡ told.old.items ++ record { name = name.now; value = value.now } ∷ []) }
-{
-    told.push(Change {
-        name: Text::from_str(alloc, name)?,
-        value: value.clone_in(alloc)?,
-    })?;
-    Ok(())
 }

@@ -4,7 +4,7 @@ use Rattle.ink_host.specs.Desk.{Grew}
 use Rattle.ink_host.specs.Telling.{IsRound, log_of}
 use Rattle.ink_model.specs.Told.{ToldAs}
 use Rattle.ink_model.specs.declared.host.Event.{Event}
-use Rattle.ink_step.proofs.Telling.{told_nobody}
+use Rattle.ink_told.proofs.Telling.{told_nobody}
 use Rattle.ink_step.specs.Words.{globals_of, start_of}
 use Rattle.ink_commands.proofs.Tellings.{nobody-round, nobody-told}
 use Rattle.ink_commands.proofs.telling.tell_changed.Goals as goal

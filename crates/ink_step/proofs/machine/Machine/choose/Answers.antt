@@ -156,3 +156,6 @@ returns-in-Ok-Some-clause-mark c =
     let counted = ap (λ o. record (stood_of c.make_choosing_room.new.self) { counts = o }) c.in-Ok.ensures.mark in
     let taken = ap (λ o. record (stood_of c.make_choosing_room.new.self) { choices = o; counts = counts_stood c.enter_landed.new.counts }) c.in-Ok-Some.ensures.stood in
     c.take_up_next-in-Ok-Some.ensures.mark ∙ taken ∙ counted ∙ c.make_choosing_room.ensures.mark
+
+pub returns-in-Err-clause-mark : goal.returns-in-Err-clause-mark
+returns-in-Err-clause-mark c = ap (λ o. record (stood_of c.make_choosing_room.new.self) { counts = o }) c.in-Err.ensures.mark ∙ c.make_choosing_room.ensures.mark

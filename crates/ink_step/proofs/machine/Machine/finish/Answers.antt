@@ -18,3 +18,21 @@ returns-in-Call-clause-ends c =
 pub returns-in-Return-clause-ends : goal.returns-in-Return-clause-ends
 returns-in-Return-clause-ends c =
     subst (λ t. Finishes (story_tree c.args.story.now) c.args.self.now t c.finish_return.new.self c.finish_return.result) (sym c.in-Return.is) c.finish_return.ensures.ends
+
+pub returns-in-Next-clause-ends : goal.returns-in-Next-clause-ends
+returns-in-Next-clause-ends c =
+    subst (λ t. Finishes (story_tree c.args.story.now) c.args.self.now t c.finish_next.new.self c.finish_next.result) (sym c.in-Next.is) c.finish_next.ensures.ends
+
+pub returns-in-Fork-clause-ends : goal.returns-in-Fork-clause-ends
+returns-in-Fork-clause-ends c =
+    subst (λ t. Finishes (story_tree c.args.story.now) c.args.self.now t c.finish_fork.new.self c.finish_fork.result) (sym c.in-Fork.is) c.finish_fork.ensures.ends
+
+pub returns-in-Done-clause-ends : goal.returns-in-Done-clause-ends
+returns-in-Done-clause-ends c =
+    subst (λ t. Finishes (story_tree c.args.story.now) c.args.self.now t c.finish_done.new.self c.finish_done.result) (sym c.in-Done.is) c.finish_done.ensures.ends
+
+pub returns-in-Store-clause-ends : goal.returns-in-Store-clause-ends
+returns-in-Store-clause-ends c = c.finish_stored.ensures.ends
+
+pub returns-in-End-clause-ends : goal.returns-in-End-clause-ends
+returns-in-End-clause-ends c = c.finish_other.ensures.ends

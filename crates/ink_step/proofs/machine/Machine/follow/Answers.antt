@@ -1,4 +1,4 @@
-use Rattle.std.proofs.Common.{[], ◌||◌, ◌∙◌, ◌≡◌, Bool, Err, None, Ok, Result, ap, false, refl, rules, subst, sym, true}
+use Rattle.std.proofs.Common.{[], ◌||◌, ◌∙◌, ◌≡◌, ◌≤◌, Bool, Err, None, Ok, Result, ap, arith, false, refl, rules, subst, sym, true}
 use Rattle.ink_check.specs.Words.{story_tree}
 use Rattle.ink_model.specs.Configuration.{ended, with_safe, with_threads}
 use Rattle.ink_model.specs.Effect.{Effect, fields_of}
@@ -11,6 +11,7 @@ use Rattle.ink_model.specs.Threads.{dropped}
 use Rattle.ink_model.specs.Tree.{StoryTree}
 use Rattle.ink_model.specs.declared.fault.Fault.{Fault}
 use Rattle.ink_model.specs.declared.fault.Fault.TheVariants.{OutOfMemory}
+use Rattle.ink_stack.specs.Undo.{threads_spare}
 use Rattle.ink_step.specs.Marks.{pressed, stood_of}
 use Rattle.ink_effects.specs.Performs.{Performs, unstored}
 use Rattle.ink_moves.specs.Reaches.{ReachesAs, written}
@@ -18,6 +19,7 @@ use Rattle.ink_step.specs.Steps.{StepEnds}
 use Rattle.ink_step.specs.Words.{aside_in, config_of, start_of}
 use Rattle.ink_moves.specs.declared.flow.StepEnd.{StepEnd}
 use Rattle.ink_step.specs.declared.machine.Machine.{Machine}
+use Rattle.ink_effects.proofs.Plain.{when_ok}
 use Rattle.ink_step.proofs.Follows.{ends_more, ends_pressed, ends_reached, goes_after_text, goes_done, goes_forking, goes_nowhere, last_alike}
 use Rattle.ink_step.proofs.Landed.{goes_back, goes_into, goes_on, goes_storing, goes_there}
 use Rattle.ink_step.proofs.Marks.{pressed_choices, pressed_fresh, pressed_own}
@@ -213,3 +215,29 @@ returns-in_ok-change_safe-in-Done-clause-mark c =
     let here : stood_of (record mid { flow = record mid.flow { threads = c.done.new.threads; stack = c.done.new.stack }; output = c.done.new.output }) ≡ stood_of mid =
     rw (c.done.ensures.threads_mark, c.done.ensures.stack_mark, c.done.ensures.output_mark) refl in
     here ∙ c.change_safe.ensures.mark
+
+-- ---- room that is left
+
+pub returns-in-Next-clause-enough : goal.returns-in-Next-clause-enough
+returns-in-Next-clause-enough c = when_ok c.go_on.result (2 ≤ threads_spare c.go_on.new.self.flow.threads) (omega (arith, c.go_on.ensures.enough))
+
+pub returns-in-Store-clause-enough : goal.returns-in-Store-clause-enough
+returns-in-Store-clause-enough c = when_ok c.go_on-in-Store.result (2 ≤ threads_spare c.go_on-in-Store.new.self.flow.threads) (omega (arith, c.go_on-in-Store.ensures.enough))
+
+pub returns-in_ok-end_freshness-in-Wrote-clause-enough : goal.returns-in_ok-end_freshness-in-Wrote-clause-enough
+returns-in_ok-end_freshness-in-Wrote-clause-enough c = when_ok c.go_on-in-Wrote.result (2 ≤ threads_spare c.go_on-in-Wrote.new.self.flow.threads) (omega (arith, c.go_on-in-Wrote.ensures.enough))
+
+pub returns-in-Land-clause-enough : goal.returns-in-Land-clause-enough
+returns-in-Land-clause-enough c = when_ok c.go_to.result (2 ≤ threads_spare c.go_to.new.self.flow.threads) (omega (arith, c.go_to.ensures.spare, c.requires.room))
+
+pub returns-in-Call-clause-enough : goal.returns-in-Call-clause-enough
+returns-in-Call-clause-enough c = when_ok c.go_into.result (2 ≤ threads_spare c.go_into.new.self.flow.threads) (omega (arith, c.go_into.ensures.spare, c.requires.room))
+
+pub returns-in-Return-clause-enough : goal.returns-in-Return-clause-enough
+returns-in-Return-clause-enough c = when_ok c.go_back.result (2 ≤ threads_spare c.go_back.new.self.flow.threads) (omega (arith, c.go_back.ensures.enough))
+
+pub returns-in-Fork-clause-enough : goal.returns-in-Fork-clause-enough
+returns-in-Fork-clause-enough c = when_ok c.fork.result (2 ≤ threads_spare c.fork.new.threads) (omega (arith, c.fork.ensures.enough))
+
+pub returns-in_ok-change_safe-in-Done-clause-enough : goal.returns-in_ok-change_safe-in-Done-clause-enough
+returns-in_ok-change_safe-in-Done-clause-enough c = when_ok c.done.result (2 ≤ threads_spare c.done.new.threads) (omega (arith, c.done.ensures.enough))

@@ -1,4 +1,4 @@
-use Rattle.std.proofs.Common.{◌&&◌, ◌||◌, ◌∙◌, ◌≡◌, Err, Ok, option_map, refl, rules, subst, sym, true}
+use Rattle.std.proofs.Common.{◌&&◌, ◌||◌, ◌∙◌, ◌≡◌, Err, Ok, cond, option_map, refl, rules, subst, sym, true}
 use Rattle.ink_check.specs.Words.{story_tree}
 use Rattle.ink_model.specs.Flow.{returned}
 use Rattle.ink_model.specs.Frames.{map_threads}
@@ -10,10 +10,10 @@ use Rattle.ink_effects.specs.Performs.{landing_of}
 use Rattle.ink_moves.specs.Reaches.{ReachesAs, written}
 use Rattle.ink_step.specs.Steps.{StepEnds}
 use Rattle.ink_step.specs.Words.{config_of, counts_in}
-use Rattle.ink_model.specs.Visits.{adds_rows, around}
+use Rattle.ink_model.specs.Visits.{adds_rows, around, entering_around}
 use Rattle.ink_step.proofs.Marks.{pressed_landing}
 use Rattle.ink_step.proofs.Follows.{or_where}
-use Rattle.ink_step.proofs.Landed.{lands_broken, lands_short, returned_lands}
+use Rattle.ink_step.proofs.Landed.{lands, lands_broken, lands_short, returned_lands}
 use Rattle.ink_step.proofs.machine.Machine.go_back.Goals as goal
 use Rattle.ink_tree.specs.Nodes.{place_of}
 
@@ -71,6 +71,28 @@ returns-in_err-enter_around-clause-ends c =
     (landing s enters (returned (next_place s) kind (place_to goal)) old) machine.shared.globals.rows new r) (sym is)
     (lands_short s (pressed s left) _ old new machine.shared.globals.rows ts w f short.globals enters _ end
     (returned_lands (next_place s) kind goal old.flow.threads (written_in old)) reached short.fault adds)
+
+pub returns-clause-ends : goal.returns-clause-ends
+returns-clause-ends c =
+    let s = story_tree c.args.story.now in
+    let machine = c.args.self.now in
+    let old = config_of s machine in
+    let kind = c.args.kind in
+    let goal = option_map (landing_of s) c.args.to in
+    let back = c.give_back.new in
+    let mid = record machine { flow = record machine.flow { threads = back.threads; stack = back.stack }; output = back.output } in
+    let after = c.enter_around.new.self in
+    let ts = map_threads (place_of s) back.threads.threads in
+    let w = written back.stack back.output in
+    let end = c.in_ok-end.end in
+    let went = subst (λ t. let us = map_threads (place_of t) machine.flow.threads.threads in let q = option_map (place_of t) c.place_to.result in
+    ReachesAs (returned_asks (next_place t) kind q us (written_in old)) (returned (next_place t) kind q us (written_in old)) (map_threads (place_of t) back.threads.threads) w (Ok end))
+    c.tree.ensures.tree c.in_ok-end.ensures.flow in
+    let reached = subst (λ q. ReachesAs (returned_asks (next_place s) kind q old.flow.threads (written_in old)) (returned (next_place s) kind q old.flow.threads (written_in old)) ts w (Ok end))
+    (c.place_to.ensures s) went in
+    let entered_there = subst (λ t. config_of t after ≡ cond c.may_enter.result (entering_around t (config_of t mid)) (config_of t mid)) c.tree-2.ensures.tree c.in_ok-enter_around.ensures.ok in
+    let entered = subst (λ b. config_of s after ≡ cond b (entering_around s (config_of s mid)) (config_of s mid)) (c.may_enter.ensures s) entered_there in
+    lands s (pressed s after) _ old (config_of s after) machine.shared.globals.rows ts w (may_enter goal) _ end (returned_lands (next_place s) kind goal old.flow.threads (written_in old)) reached entered
 
 -- ---- what stays
 

@@ -1,4 +1,4 @@
-use Rattle.std.proofs.Common.{◌≡◌, ◌&&◌, ◌||◌, OnOk, Some, ap, is_some, option_map, subst, sym}
+use Rattle.std.proofs.Common.{◌≡◌, ◌&&◌, ◌||◌, OnOk, Some, ap, is_some, option_map, refl, subst, sym}
 use Rattle.ink_check.specs.Words.{story_tree}
 use Rattle.ink_model.specs.Effect.{context_of, fields_of}
 use Rattle.ink_model.specs.Memory.{content_asks}
@@ -43,3 +43,6 @@ returns-in-Some-clause-choices c =
     let seen = context_of (config_of s machine) in
     let old = fields_of (config_of s machine) in
     subst (λ o. OnOk c.perform_leaf.result (KeepsChoices s (effect s p o seen old) machine.flow.choices.items c.perform_leaf.new.choices.items)) (sym (leaf_found (goal.at.returns-in-Some-clause-choices c).In-Some)) c.perform_leaf.ensures.choices
+
+pub returns-in-Some-clause-mark : goal.returns-in-Some-clause-mark
+returns-in-Some-clause-mark c = rw (c.perform_leaf.ensures.threads_mark, c.perform_leaf.ensures.stack_mark, c.perform_leaf.ensures.choices_mark, c.perform_leaf.ensures.output_mark) refl

@@ -3,11 +3,11 @@ use Rattle.ink_host.specs.Desk.{watches}
 use Rattle.ink_model.specs.Store.{stored}
 use Rattle.ink_model.specs.Told.{change_of, is_other, told}
 use Rattle.ink_vars.proofs.Noting.{on_error}
-use Rattle.ink_step.proofs.Telling.{told_past, told_same, told_some, told_there, told_unwatched}
-use Rattle.ink_step.proofs.told.told_between.Goals.{in-Some+then-watches+then-is_other+in_ok-add_change, in-Some+else-watches, else-watches-via-then-watches+else-is_other, else-watches-via-else-watches, in_default}
-use Rattle.ink_step.proofs.told.told_between.Given as given
-use Rattle.ink_step.proofs.told.told_between.Goals as goal
-use Rattle.ink_step.proofs.told.told_between.Goals.{Then-is_other}
+use Rattle.ink_told.proofs.Telling.{told_past, told_same, told_some, told_there, told_unwatched}
+use Rattle.ink_told.proofs.told.told_between.Goals.{in-Some+then-watches+then-is_other+in_ok-add_change, in-Some+else-watches, else-watches-via-then-watches+else-is_other, else-watches-via-else-watches, in_default}
+use Rattle.ink_told.proofs.told.told_between.Given as given
+use Rattle.ink_told.proofs.told.told_between.Goals as goal
+use Rattle.ink_told.proofs.told.told_between.Goals.{Then-is_other}
 
 -- there is something to be told
 is_there : (g : given.Over) (c : Then-is_other g) → told (watches c.args.desk.now.watchers) c.args.old.now.rows c.args.new.now.rows ≢ []

@@ -4,30 +4,29 @@ use Rattle.ink_host.specs.Desk.{watches}
 use Rattle.ink_model.specs.Told.{told}
 use Rattle.ink_model.specs.declared.value.Value.{Value}
 use Rattle.ink_vars.proofs.Noting.{on_error}
-use Rattle.ink_step.specs.Words.{globals_of, start_of}
-use Rattle.ink_step.proofs.Telling.{told_at, told_changed, told_next, told_nobody, told_some_at, told_some_of}
-use Rattle.ink_step.proofs.machine.Machine.told.Goals.{in-Some+in_ok-add_change, in_default}
-use Rattle.ink_step.proofs.machine.Machine.told.Given as given
-use Rattle.ink_step.proofs.machine.Machine.told.Goals as goal
-use Rattle.ink_step.proofs.machine.Machine.told.Goals.{After-from_vec, In-Some}
+use Rattle.ink_told.proofs.Telling.{told_at, told_changed, told_next, told_nobody, told_some_at, told_some_of}
+use Rattle.ink_told.proofs.told.told_since.Goals.{in-Some+in_ok-add_change, in_default}
+use Rattle.ink_told.proofs.told.told_since.Given as given
+use Rattle.ink_told.proofs.told.told_since.Goals as goal
+use Rattle.ink_told.proofs.told.told_since.Goals.{After-from_vec, In-Some}
 
 pub returns-then-not-has_watchers-clause-told : goal.returns-then-not-has_watchers-clause-told
 returns-then-not-has_watchers-clause-told g c =
-    c.new.ensures ∙ told_nobody c.args.desk.now.watchers (start_of c.args.self.now) (globals_of c.args.self.now) (sym c.has_watchers.ensures ∙ c.if-not-has_watchers.true)
+    c.new.ensures ∙ told_nobody c.args.desk.now.watchers c.args.globals.now.start c.args.globals.now.rows (sym c.has_watchers.ensures ∙ c.if-not-has_watchers.true)
 
 pub returns-in_err-numbers-clause-memory : goal.returns-in_err-numbers-clause-memory
 returns-in_err-numbers-clause-memory g c =
     let watched = watches c.args.desk.now.watchers in
     on_error c.from_residual.result
-    (told_some_of (globals_of c.args.self.now) watched (start_of c.args.self.now) (c.in_err-numbers.ensures.memory watched (λ name answer k. search rules)))
+    (told_some_of c.args.globals.now.rows watched c.args.globals.now.start (c.in_err-numbers.ensures.memory watched (λ name answer k. search rules)))
 
 -- something is told where a number was found
-is_there : (g : given.Over) (c : In-Some g) → told (watches c.args.desk.now.watchers) (start_of c.args.self.now) (globals_of c.args.self.now) ≢ []
+is_there : (g : given.Over) (c : In-Some g) → told (watches c.args.desk.now.watchers) c.args.globals.now.start c.args.globals.now.rows ≢ []
 is_there g c =
     let watched = watches c.args.desk.now.watchers in
     let ns = c.deref-number-items.result.now in
     let within : c.loop-number.number-index < length ns = omega (arith, c.loop-number-test.true) in
-    told_some_at (globals_of c.args.self.now) watched (start_of c.args.self.now) ns c.loop-number.number-index
+    told_some_at c.args.globals.now.rows watched c.args.globals.now.start ns c.loop-number.number-index
     (c.deref-number-items.ensures.value ∙ c.in_ok-numbers.ensures.numbers watched (λ name answer k. search rules)) within
 
 pub returns-in_err-add_change-clause-memory : goal.returns-in_err-add_change-clause-memory
@@ -36,7 +35,7 @@ returns-in_err-add_change-clause-memory g c =
 
 pub loop-number-preserved : goal.loop-number-preserved
 loop-number-preserved g c =
-    let now = c.args.self.now.shared.globals.rows in
+    let now = c.args.globals.now.rows in
     let ns = c.deref-number-items.result.now in
     let i = c.loop-number.number-index in
     let so_far = c.loop-number.told.items in
@@ -52,15 +51,15 @@ loop-number-preserved g c =
     ]
 
 -- all that was picked was told
-all_at : (g : given.Over) (c : After-from_vec g) → c.from_vec.result ≡ told_at c.args.self.now.shared.globals.rows c.deref-number-items.result.now
+all_at : (g : given.Over) (c : After-from_vec g) → c.from_vec.result ≡ told_at c.args.globals.now.rows c.deref-number-items.result.now
 all_at g c =
     let ns = c.deref-number-items.result.now in
     let past : length ns ≤ c.loop-number.number-index = omega (arith, c.loop-number-test.false) in
-    c.from_vec.ensures ∙ c.loop-number.invariant ∙ ap (told_at c.args.self.now.shared.globals.rows) (take_all c.loop-number.number-index ns past)
+    c.from_vec.ensures ∙ c.loop-number.invariant ∙ ap (told_at c.args.globals.now.rows) (take_all c.loop-number.number-index ns past)
 
 pub returns-clause-told : goal.returns-clause-told
 returns-clause-told g c =
     let watched = watches c.args.desk.now.watchers in
-    let now = globals_of c.args.self.now in
+    let now = c.args.globals.now.rows in
     all_at g (goal.at.returns-clause-told g c).After-from_vec
-    ∙ ap (told_at now) (c.deref-number-items.ensures.value ∙ c.in_ok-numbers.ensures.numbers watched (λ name answer k. search rules)) ∙ told_changed now watched (start_of c.args.self.now)
+    ∙ ap (told_at now) (c.deref-number-items.ensures.value ∙ c.in_ok-numbers.ensures.numbers watched (λ name answer k. search rules)) ∙ told_changed now watched c.args.globals.now.start

@@ -1,7 +1,7 @@
 use Rattle.std.proofs.Common.{◌≡◌, take}
 use Rattle.ink_host.specs.Desk.{watches}
 use Rattle.ink_model.specs.Told.{told}
-use Rattle.ink_step.proofs.told.told_between.Given as goal
+use Rattle.ink_told.proofs.told.told_between.Given as goal
 
 abbrev pub invariant-loop-number : goal.invariant-loop-number
 invariant-loop-number g l = l.told.items ≡ told (watches l.desk.watchers) l.old.rows (take l.number l.new.rows)

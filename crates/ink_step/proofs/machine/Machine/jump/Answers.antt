@@ -1,0 +1,51 @@
+use Rattle.std.proofs.Common.{◌≡◌, ◌∙◌, ◌⊎◌, ◌*◌, ◌||◌, length, ap, subst, true, false, map, None, Some}
+use Rattle.ink_check.specs.Words.{story_tree}
+use Rattle.ink_model.specs.Configuration.{Configuration, map_choice}
+use Rattle.ink_model.specs.Entered.{entered_places}
+use Rattle.ink_model.specs.Frames.{map_threads, on_top, put_in}
+use Rattle.ink_model.specs.Visits.{adds_rows, all_visited}
+use Rattle.ink_stack.specs.Undo.{threads_stood}
+use Rattle.ink_step.specs.Marks.{choices_lack, counts_lack, lacks, own_lacks, stood_of, threads_lack, turn_lacks}
+use Rattle.ink_step.specs.Words.{config_of, counts_in}
+use Rattle.ink_step.proofs.Chosen.{asks_or_lacks, jump_lands, jumped_in}
+use Rattle.ink_step.proofs.machine.Machine.jump.Goals as goal
+use Rattle.ink_tree.specs.Nodes.{place_of}
+use Rattle.ink_vars.specs.Undo.{counts_spare, counts_stood}
+
+pub returns-in-Ok-clause-ok : goal.returns-in-Ok-clause-ok
+returns-in-Ok-clause-ok c =
+    let s = story_tree c.args.story.now in
+    let old = config_of s c.args.self.now in
+    let mid = c.make_choosing_room.new.self in
+    let here = config_of s mid in
+    let place = c.args.place in
+    let q = place_of s place in
+    let turn = c.next-turn.result in
+    let after = c.enter_landed.new.counts.rows in
+    let counts = counts_in s after in
+    let entering = subst (λ t. counts_in t after ≡ all_visited t turn (entered_places t None (place_of t place)) (counts_in t mid.shared.counts.rows)) c.tree.ensures.tree c.in-Ok.ensures.ok in
+    let turned : Configuration → Configuration = λ d. record d { shared = record d.shared { turn = turn } } in
+    let there = jumped_in q here turn counts in
+    let cleared = ap (λ cs. record there { flow = record there.flow { threads = map_threads (place_of s) c.put.new.self.threads; choices = map (map_choice (place_of s)) cs } }) c.clear.ensures.items in
+    let alone = ap (λ ts. record there { flow = record there.flow { threads = map_threads (place_of s) ts } }) (c.put.ensures.threads ∙ ap (on_top (put_in (Some place))) c.reset.ensures.threads) in
+    jump_lands s q old here (c.make_choosing_room.ensures.config s) counts turn _
+    (ap (config_of s) c.set_turn.ensures.set ∙ ap (λ m. turned (config_of s m)) c.set_safe.ensures.set ∙ cleared ∙ alone) c.next-turn.ensures entering
+
+pub returns-in-Ok-clause-mark : goal.returns-in-Ok-clause-mark
+returns-in-Ok-clause-mark c =
+    let stood = stood_of c.make_choosing_room.new.self in
+    let counted = ap (λ o. record stood { counts = o }) c.in-Ok.ensures.mark in
+    let alone = ap (λ o. record stood { threads = o; counts = counts_stood c.enter_landed.new.counts }) (c.put.ensures.stood ∙ c.reset.ensures.stood) in
+    let cleared = ap (λ o. record stood { threads = threads_stood c.put.new.self; choices = o; counts = counts_stood c.enter_landed.new.counts }) c.clear.ensures.stood in
+    c.set_turn.ensures.mark ∙ c.set_safe.ensures.mark ∙ cleared ∙ alone ∙ counted ∙ c.make_choosing_room.ensures.mark
+
+pub returns-in-Err-clause-memory : goal.returns-in-Err-clause-memory
+returns-in-Err-clause-memory c =
+    let s = story_tree c.args.story.now in
+    let mid = c.make_choosing_room.new.self in
+    let left = c.enter_landed.new.counts in
+    let new = record mid { shared = record mid.shared { counts = left } } in
+    let ps = entered_places s None (place_of s c.args.place) in
+    let refused = subst (λ t. let rs = entered_places t None (place_of t c.args.place) in (adds_rows t rs (counts_in t mid.shared.counts.rows) ≡ true) ⊎ (lacks (counts_stood left) (counts_spare left) (4 * length rs) ≡ true)) c.tree.ensures.tree c.in-Err.ensures.memory in
+    let short = asks_or_lacks false (threads_lack 2 new) (choices_lack 2 new) (own_lacks 2 new) (counts_lack (4 * length ps) new) (adds_rows s ps (config_of s mid).shared.counts) refused in
+    subst (λ d. (turn_lacks (length ps) new || adds_rows s ps d.shared.counts) ≡ true) (c.make_choosing_room.ensures.config s) short

@@ -1,6 +1,0 @@
-use Rattle.std.proofs.Common.{◌≡◌, take}
-use Rattle.ink_step.proofs.Telling.{told_at}
-use Rattle.ink_step.proofs.machine.Machine.told.Given as goal
-
-abbrev pub invariant-loop-number : goal.invariant-loop-number
-invariant-loop-number g l = l.told.items ≡ told_at l.self.shared.globals.rows (take l.number-index l.number-items)

@@ -1,0 +1,6 @@
+//! What watchers are to be told of globals.
+#![tactic(auto)]
+
+mod told;
+
+pub use told::{told_between, told_since};
