@@ -1,7 +1,7 @@
 -- A value that is put in the place of those on top of a stack.
 use Rattle.std.proofs.Common.{◌≡◌, ◌∙◌, ◌+◌, ◌-◌, ◌<◌, ◌≤◌, ap, sym, subst, refl, arith, ◌&&◌, ℕ, suc, List, [], ◌∷◌, ◌++◌, length, drop, take, get_or, length-append, nat_le, nat_lt, if◌then◌else◌, Bool, true, false, not, Option, Some, None, option_map, Result, Ok, Err}
 use Rattle.std.proofs.lemmas.Bool.{le-leb, leb-true, lt-ltb}
-use Rattle.std.proofs.lemmas.List.{drop_all, take_all, take_more}
+use Rattle.std.proofs.lemmas.List.{take_all, take_more}
 use Rattle.ink_model.specs.Choices.{has_any}
 use Rattle.ink_model.specs.Effect.{Fields, Moves, Fails, or_fault, pushing}
 use Rattle.ink_model.specs.Host.{fits_given, value_given}
@@ -33,17 +33,6 @@ parts_of n vs over left there = by (nat_le n (length vs)) there
     by : (b : Bool) → (let r : Option (List Value × List Value) = if b then Some (drop (length vs - n) vs, take (length vs - n) vs) else None in r ≡ Some (over, left)) → (over ≡ drop (length vs - n) vs) × (left ≡ take (length vs - n) vs) × (b ≡ true)
     by true h = let same = some_same _ _ h in (sym (ap (λ r. r.0) same), sym (ap (λ r. r.1) same), refl)
     by false h = absurd (cc)
-
--- nothing lies on top
-module _ (vs over left : List Value) (there : arguments_on 0 vs ≡ Some (over, left)) where
-  whole : length vs ≤ length vs - 0
-  whole = omega arith
-
-  pub none_over : over ≡ []
-  none_over = (parts_of 0 vs over left there).0 ∙ drop_all (length vs - 0) vs whole
-
-  pub all_left : left ≡ vs
-  all_left = (parts_of 0 vs over left there).1 ∙ take_all (length vs - 0) vs whole
 
 -- one more lies on top
 module _ (n : ℕ) (vs over left mid : List Value) (enough : suc n ≤ length vs) (there : arguments_on (suc n) vs ≡ Some (over, left)) (dropped : option_map (λ r. r.1) (arguments_on n vs) ≡ Some mid) where

@@ -1,5 +1,5 @@
 -- Taking bytes of what was read ahead.
-use Rattle.std.proofs.Common.{◌≡◌, ℕ, ◌+◌, ◌-◌, ◌<◌, ◌≤◌, max, List, [], ◌∷◌, ◌++◌, length, take, drop, get_or, suc, Bool, true, false, ◌||◌, ◌==◌, Option, Some, None, MatchOption, Ok, Err, ap, ◌∙◌, sym, refl, subst, inl, arith, append_assoc, append-nil, length-append, length-drop, length-take, take-append-drop}
+use Rattle.std.proofs.Common.{◌≡◌, ℕ, ◌+◌, ◌-◌, ◌<◌, ◌≤◌, max, List, [], ◌∷◌, ◌++◌, length, take, drop, get_or, suc, Bool, true, false, ◌||◌, ◌==◌, Option, Some, None, MatchOption, Ok, Err, ap, ◌∙◌, sym, refl, subst, inl, arith, append_assoc, append-nil, length-append, length-take, take-append-drop}
 use Rattle.std.proofs.Math.Seq.{drop-cons}
 use Rattle.std.proofs.lemmas.Bool.{eqb-true}
 use Rattle.std.proofs.lemmas.List.{drop-take, get_or-take, take_all}
@@ -14,18 +14,11 @@ use Rattle.ink_protocol.specs.Spelled.{HasRoom}
 use Rattle.ink_protocol.specs.declared.fault.RunFault.{RunFault}
 use Rattle.ink_protocol.specs.declared.fault.RunFault.TheVariants as fault
 
--- there is a byte from `at` to `end`
-pub some_there : (at end : ℕ) (chunk : List ℕ) → at < end → end ≤ length chunk → drop at (take end chunk) ≡ [] → ⊥
-some_there at end chunk h k e = omega (arith, ap length e, length-drop at (take end chunk), length-take end chunk)
-
 -- what was read and not yet taken, as a slice of the chunk
 pub as_slice : (chunk unread : List ℕ) (at end : ℕ) → at ≤ end → drop at (take end chunk) ≡ unread → take (end - at) (drop at chunk) ≡ unread
 as_slice chunk unread at end h e =
     let whole : at + (end - at) ≡ end = omega arith in
     sym (drop-take at (end - at) chunk) ∙ ap (λ n. drop at (take n chunk)) whole ∙ e
-
-pub count_unread : (chunk unread : List ℕ) (at end : ℕ) → at ≤ end → end ≤ length chunk → drop at (take end chunk) ≡ unread → end - at ≡ length unread
-count_unread chunk unread at end h k e = omega (arith, ap length e, length-drop at (take end chunk), length-take end chunk)
 
 pub takes_trans : (a b c : Option (List ℕ)) (o m n : Buffered) (x y : List ℕ) → Takes a b o m x → Takes b c m n y → Takes a c o n (x ++ y)
 takes_trans a b c o m n x y t u = record {

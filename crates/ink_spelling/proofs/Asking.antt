@@ -7,8 +7,8 @@ use Rattle.ink_model.specs.Frames.{ThreadOf, ThreadsOf}
 use Rattle.ink_model.specs.declared.place.Part.{Part}
 use Rattle.ink_model.specs.declared.value.Value.{Value as Spelled}
 use Rattle.ink_model.specs.Save.Asks.{both_ask, choice_asks, counts_ask, items_ask, list_asks, load_asks, members_ask, none_asks, pair_asks, rows_ask, spelled_asks, take_asks, text_asks, thread_asks, threads_ask, turn_asks, value_asks}
-use Rattle.ink_spelling.proofs.Lists.{first_is, member_is}
-use Rattle.json_tape.specs.Shape.{first_item, first_member}
+use Rattle.ink_spelling.proofs.Lists.{member_is}
+use Rattle.json_tape.specs.Shape.{first_member}
 use Rattle.ink_spelling.specs.Words.{two_ask, two_in}
 use Rattle.ink_model.specs.Save.Unspelled.{Layout, First, Second, Spelled as Game, all_of, choice_of, count_of, format_of, from_threads, from_turn, layout_of, list_of, next_named, pair_of, place_of, spelled_by, take, text_of, thread_in, threads_with, truth_of, unspelled_by, value_of}
 
@@ -21,19 +21,6 @@ or_true false = refl
 -- these are all elements, or memory was asked for
 abbrev pub ItemsAsked : {A : Type 0} → (Data → Option A) → (Data → Bool) → Items → Items → Type 0
 ItemsAsked f asks all left = (left ≡ all) ⊎ (items_ask f asks all ≡ true)
-
-module _ {A : Type 0} (f : Data → Option A) (asks : Data → Bool) (all left : Items) (d : Data) (es : Items) (h : Some (d, es) ≡ first_item left) where
-  asked_there : asks d || is_some (f d) ≡ true → ItemsAsked f asks all left → items_ask f asks all ≡ true
-  asked_there so (inl same) = subst (λ l. items_ask f asks l ≡ true) (sym (first_is left d es h) ∙ same) so
-  asked_there so (inr asked) = asked
-
-  -- an element is read
-  pub item_kept : (x : A) → Some x ≡ f d → ItemsAsked f asks all left → items_ask f asks all ≡ true
-  item_kept x e asked = asked_there (rw (sym e) (or_true (asks d))) asked
-
-  -- an element asks
-  pub item_asked : asks d ≡ true → ItemsAsked f asks all left → items_ask f asks all ≡ true
-  item_asked e asked = asked_there (rw e refl) asked
 
 -- ---- pairs
 
@@ -56,9 +43,6 @@ module _ (all left : Members) (k : List ℕ) (d : Data) (ns : Members) (h : Some
 
   pub row_kept : (v : Spelled) → Some v ≡ value_of d → RowsAsked all left → rows_ask all ≡ true
   row_kept v e asked = row_there (rw (sym e) (or_true (value_asks d))) asked
-
-  pub row_asked : value_asks d ≡ true → RowsAsked all left → rows_ask all ≡ true
-  row_asked e asked = row_there (rw e refl) asked
 
 -- what holds, holds at an error
 pub or_else : {A E : Type 0} {P : Type 0} (r : Result A E) → P → OnErr r P

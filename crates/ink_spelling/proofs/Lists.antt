@@ -64,10 +64,6 @@ module _ {A : Type 0} (f : Data → Option A) (made : List A) (whole : Option (L
   pub left_none : None ≡ f d → left f made ds ≡ whole → None ≡ whole
   left_none e all = ap after e ∙ sym (ap (left f made) (first_is ds d es h)) ∙ all
 
-pub left_all : {A : Type 0} (f : Data → Option A) (made : List A) (whole : Option (List A)) (ds : Items) → None ≡ first_item ds → left f made ds ≡ whole → Some made ≡ whole
-left_all f made whole no_items h all = sym (ap Some (ended made)) ∙ all
-left_all f made whole (item d es) h all = absurd cc
-
 -- ---- rows of members
 
 -- what is read in the end, of the rows that are made and of the members that are left
@@ -80,13 +76,6 @@ module _ (made : List (List ℕ × Value)) (whole : Option (List (List ℕ × Va
 
   pub rows_more : (v : Value) → Some v ≡ value_of d → rows_left made ms ≡ whole → rows_left (made ++ ((k, v) ∷ [])) ns ≡ whole
   rows_more v e all = sym (joined made (k, v) (rows_of ns)) ∙ ap behind e ∙ sym (ap (rows_left made) (member_is ms k d ns h)) ∙ all
-
-  pub rows_none : None ≡ value_of d → rows_left made ms ≡ whole → None ≡ whole
-  rows_none e all = ap behind e ∙ sym (ap (rows_left made) (member_is ms k d ns h)) ∙ all
-
-pub rows_all : (made : List (List ℕ × Value)) (whole : Option (List (List ℕ × Value))) (ms : Members) → None ≡ first_member ms → rows_left made ms ≡ whole → Some made ≡ whole
-rows_all made whole no_members h all = sym (ap Some (ended made)) ∙ all
-rows_all made whole (member k d ns) h all = absurd cc
 
 -- ---- pairs
 

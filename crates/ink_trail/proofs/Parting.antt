@@ -1,6 +1,5 @@
 -- A part that keeps a trail, and is put back by it.
-use Rattle.std.proofs.Common.{◌≡◌, ◌∙◌, ◌≤◌, ◌<◌, ◌^◌, ℕ, List, [], ◌∷◌, length, Bool, true, false, Option, Some, None, is_some, ap, arith, refl, subst, sym}
-use Rattle.ink_trail.specs.Parts.{PutsBack}
+use Rattle.std.proofs.Common.{◌≡◌, ◌≤◌, ◌<◌, ◌^◌, ℕ, List, [], ◌∷◌, length, true, Option, Some, None, is_some, arith, refl, subst}
 use Rattle.ink_trail.specs.Stays.{Stays}
 use Rattle.ink_trail.specs.Undo.{TrailView, Undo, spare, spare_of, stood, trail_of, undone}
 
@@ -27,11 +26,6 @@ module _ {E : Type 0} where
 -- ---- the last pair
 
 module _ {E D : Type 0} (back : E → D → D) where
-  -- nothing is left to put back
-  pub put-none : (b : Bool) (was is : D) (old new : TrailView E) → b ≡ false → PutsBack back b was old is new → is ≡ stood back old was
-  put-none true was is old new none h = absurd (cc)
-  put-none false was is old new none h = h.1 ∙ sym (ap (λ es. undone back es was) h.0)
-
   none_back : (es : List E) (d : D) → length es ≡ 0 → d ≡ undone back es d
   none_back [] d none = refl
   none_back (e ∷ es) d none = absurd (omega (arith, none))

@@ -1,7 +1,7 @@
 -- Laws of what is put back.
-use Rattle.std.proofs.Common.{◌≡◌, ◌∙◌, Bool, false, if◌then◌else◌, ◌≤◌, ◌<◌, ◌+◌, ℕ, List, [], ◌∷◌, ◌++◌, length, true, is_some, IsSome, Option, Some, None, unwrap_or, Result, Ok, Err, ap, arith, refl, sym}
+use Rattle.std.proofs.Common.{◌≡◌, ◌∙◌, Bool, false, if◌then◌else◌, ◌≤◌, ◌+◌, ℕ, List, [], ◌∷◌, ◌++◌, length, true, is_some, Option, Some, None, unwrap_or, Result, Ok, Err, ap, arith, refl, sym}
 use Rattle.std.proofs.lemmas.List.{append_assoc, length-append}
-use Rattle.ink_trail.specs.Undo.{KeepsTrail, LacksRoom, Notes, TrailView, Trails, TrailsOrKeeps, Undo, spare, spare_of, stood, stood_at, stood_of, trail_of, undone, with_count, with_pair, writes_of}
+use Rattle.ink_trail.specs.Undo.{KeepsTrail, Notes, TrailView, Trails, TrailsOrKeeps, Undo, spare, spare_of, stood, stood_at, stood_of, trail_of, undone, with_count, with_pair, writes_of}
 
 -- ---- how many pairs more fit
 
@@ -19,14 +19,6 @@ module _ {E : Type 0} where
 
   pub spare-kept : (old new : TrailView E) → KeepsTrail old new → spare old ≤ spare new
   spare-kept old new kept = omega (arith, spare-less 0 old new (ap is_some kept.0) (omega (arith, kept.1)))
-
-  by_lacks : (n : ℕ) (u : Option (Undo E)) (r : ℕ) → IsSome u → r < n → spare_of u r < n
-  by_lacks n None r some h = absurd (cc)
-  by_lacks n (Some u) r some h = h
-
-  pub spare-lacks : (n : ℕ) (t : TrailView E) → LacksRoom n t → spare t < n
-  unfolding spare
-  spare-lacks n t h = by_lacks n t.undo t.room h.0 h.1
 
 module _ {E D : Type 0} (back : E → D → D) where
   pub undone-++ : (es fs : List E) (d : D) → undone back (es ++ fs) d ≡ undone back fs (undone back es d)
@@ -249,11 +241,3 @@ module _ {E D : Type 0} (back : E → D → D) where
       back_by : (u : Option (Undo E)) → undone back (trail_of u) d ≡ unwrap_or (stood_of back u d) d
       back_by None = refl
       back_by (Some u) = refl
-
-  -- there is no room
-  pub stood-lacks : (n : ℕ) (t : TrailView E) (d : D) → LacksRoom n t → (is_some (stood_at back t d) ≡ true) × (spare t < n)
-  stood-lacks n t d h = (stood-marked t d ∙ some_by t.undo h.0, spare-lacks n t h)
-    where
-      some_by : (u : Option (Undo E)) → IsSome u → is_some u ≡ true
-      some_by None some = absurd (cc)
-      some_by (Some u) some = refl
