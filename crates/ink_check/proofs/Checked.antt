@@ -1,11 +1,11 @@
 -- What the check of a story comes to, place by place.
-use Rattle.std.proofs.Common.{◌≡◌, ℕ, suc, ◌+◌, ◌-◌, ◌<◌, Bool, true, false, List, [], ◌∷◌, ◌++◌, get_or, map, length, take, drop, refl, sym, ap, ap₂, ◌∙◌, arith, Option, Some, None, Ok, Err}
+use Rattle.std.proofs.Common.{◌≡◌, ℕ, suc, ◌+◌, ◌-◌, ◌<◌, ◌≤◌, Bool, true, false, List, [], ◌∷◌, ◌++◌, get_or, map, length, take, drop, refl, sym, ap, ap₂, ◌∙◌, arith, Option, Some, None, Ok, Err}
 use Rattle.std.specs.Borrow.{Bor}
 use Rattle.std.specs.List.{filter, slice_get}
 use Rattle.std.specs.Option.{option_and_then, option_map, unwrap_or}
 use Rattle.std.proofs.Math.ListN.{get_or-map}
 use Rattle.std.proofs.Math.Seq.{drop-cons}
-use Rattle.std.proofs.lemmas.List.{map-append, take_more}
+use Rattle.std.proofs.lemmas.List.{drop_all, map-append, take_all, take_more}
 use Rattle.std.proofs.lemmas.Option.{unwrap_or-slice_get}
 use Rattle.ink_model.specs.Acceptance.{accepted, bad_path, bad_places, good_content, has_bad_path}
 use Rattle.ink_model.specs.Path.{ends_in_index}
@@ -70,6 +70,9 @@ good_next s n h good = ap (filter (has_bad_path s)) (drop_next (places s) n h) �
 bad_next : (s : StoryTree) (n : ℕ) → n < length (places s) → is_good s (node_place s (node n)) ≡ false → bad_from s n ≡ node_place s (node n) ∷ bad_from s (n + 1)
 bad_next s n h bad = ap (filter (has_bad_path s)) (drop_next (places s) n h) ∙ rw bad refl
 
+pub none_left : (s : StoryTree) (n : ℕ) → length (places s) ≤ n → bad_from s n ≡ []
+none_left s n h = ap (filter (has_bad_path s)) (drop_all n (places s) h)
+
 bad_here : (s : StoryTree) (n : ℕ) → n < length (places s) → bad_places s ≡ bad_from s n → is_good s (node_place s (node n)) ≡ false → accepted s ≡ Err (bad_path (node_place s (node n)))
 unfolding accepted
 bad_here s n h so_far bad = rw (so_far ∙ bad_next s n h bad) refl
@@ -110,6 +113,9 @@ module _ {X : Type 0} (s : StoryTree) (kept : Link → Option X) (said : List Pa
       ∙ ap (λ p. map said (take n (places s)) ++ p ∷ []) is
       ∙ sym (map-append said (take n (places s)) (node_place s (node n) ∷ []))
       ∙ ap (map said) (sym (take_next (places s) n h))
+
+  pub all_linked : (n : ℕ) (ls new : List Link) → new ≡ ls → length (places s) ≤ n → map kept ls ≡ map said (take n (places s)) → map kept new ≡ map said (places s)
+  all_linked n ls new is h so_far = ap (map kept) is ∙ so_far ∙ ap (map said) (take_all n (places s) h)
 
   module _ (ls : List Link) (same : map kept ls ≡ map said (places s)) where
     first_link : kept (get_or ls 0 Nothing) ≡ said []

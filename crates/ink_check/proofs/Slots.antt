@@ -1,8 +1,8 @@
 -- Slots, and the links that they stand for.
 use Rattle.std.proofs.Common.{◌≡◌, ◌∙◌, ℕ, suc, ◌+◌, ◌-◌, ◌<◌, ◌≤◌, List, [], ◌∷◌, ◌++◌, All, ap, ap₂, arith, get_or, get_or-append-add, length, refl, sym}
 use Rattle.std.proofs.Math.ListN.{get_or-append, get_or-map}
-use Rattle.std.proofs.lemmas.List.{get_or_default, map-append}
-use Rattle.std.proofs.lemmas.List.Elements.{All-head, All-tail}
+use Rattle.std.proofs.lemmas.List.{get_or_default, length-append, map-append}
+use Rattle.std.proofs.lemmas.List.Elements.{All-head, All-push, All-tail, All-weaker}
 use Rattle.ink_check.specs.Links.{AreSlots, link_in, spread}
 use Rattle.ink_check.specs.declared.link.Link.{Link}
 use Rattle.ink_check.specs.declared.link.Link.TheVariants.{Nothing}
@@ -28,6 +28,11 @@ module _ (links : List Link) (l : Link) where
   pub with_link : (slots : List ℕ) (n : ℕ) → AreSlots links slots → n ≡ length links + 1 → spread (links ++ l ∷ []) (slots ++ n ∷ []) ≡ spread links slots ++ l ∷ []
   with_link slots n h is =
       map-append (link_in (links ++ l ∷ [])) slots (n ∷ []) ∙ ap₂ (λ xs x. xs ++ x ∷ []) (same slots h.0) (ap (link_in (links ++ l ∷ [])) is ∙ last)
+
+pub slots_more : (links now : List Link) (slots new : List ℕ) (n : ℕ) → new ≡ slots ++ n ∷ [] → length links ≤ length now → length now ≤ length links + 1 → n ≤ length now → AreSlots links slots → AreSlots now new
+slots_more links now slots new n is more few within h =
+    let kept = All-weaker (λ slot. slot ≤ length links) (λ slot. slot ≤ length now) (λ slot k. omega (arith, k, more)) slots h.0 in
+    rw is (All-push (λ slot. slot ≤ length now) slots n kept within, omega (arith, length-append slots (n ∷ []), h.1, few))
 
 -- ---- looking up
 

@@ -2,7 +2,7 @@
 
 ghost use Rattle.std.specs.Prelude.{◌≡◌, ◌⊎◌, [], map, Some, IfOk, IfErr, Ok, Err};
 ghost use Rattle.ink_check.specs.Links.{counted_place, number_of, pushed_of, pushed_path, target_place};
-ghost use Rattle.ink_check.specs.Names.{variable_number};
+ghost use Rattle.ink_check.specs.Names.{names as story_names, variable_number};
 ghost use Rattle.ink_check.specs.Outcome.{Follows, IsFirstBad, IsRefusedFor};
 ghost use Rattle.ink_check.specs.Words.{story_tree};
 ghost use Rattle.ink_json.specs.Story.{tree};
@@ -53,10 +53,27 @@ fn written_links(alloc: Global, tree: &Tree) -> Result<Links, Failure<NodeId>>
     ensures err { IfErr result (λ failure. IsFirstBad (nodes.story_tree tree.now) failure) }
 {
     let names = variable_names(alloc, tree)?;
+    links_of(alloc, tree, &names)
+}
+
+// The same, with the names of the story's variables.
+fn links_of(alloc: Global, tree: &Tree, names: &Names) -> Result<Links, Failure<NodeId>>
+    requires { names.now ≡ story_names (nodes.story_tree tree.now) }
+    ensures good { IfOk result (λ _. bad_places (nodes.story_tree tree.now) ≡ []) }
+    ensures leading { let s = nodes.story_tree tree.now in
+        IfOk result (λ links. map (target_place s) links ≡ map (written_target s) (places s)) }
+    ensures counting { let s = nodes.story_tree tree.now in
+        IfOk result (λ links. map (counted_place s) links ≡ map (counted_container s) (places s)) }
+    ensures pushing { let s = nodes.story_tree tree.now in
+        IfOk result (λ links. map pushed_of links ≡ map (λ p. pushed_path (at s p)) (places s)) }
+    ensures numbering { let s = nodes.story_tree tree.now in
+        IfOk result (λ links. map number_of links ≡ map (variable_number s) (places s)) }
+    ensures err { IfErr result (λ failure. IsFirstBad (nodes.story_tree tree.now) failure) }
+{
     let mut links = Links::with_capacity(alloc, tree.len())?;
     for number in 0..tree.len() {
         let node = NodeId { number };
-        let link = node_link(alloc, tree, &names, node)?;
+        let link = node_link(alloc, tree, names, node)?;
         links.add(link)?;
     }
     links.trim();

@@ -4,3 +4,4 @@ pub mod Depths
 pub mod Nth
 pub mod Undoing
 pub mod Settling
+pub mod Offered

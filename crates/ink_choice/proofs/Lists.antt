@@ -1,15 +1,28 @@
 -- Lists of choices, seen one after another.
-use Rattle.std.proofs.Common.{◌≡◌, ◌≢◌, ◌∙◌, ℕ, zero, suc, ◌+◌, ◌<◌, ◌≤◌, Bool, true, false, not, ◌||◌, cond, if◌then◌else◌, List, [], ◌∷◌, ◌++◌, length, map, get_or, slice_get, take, drop, Option, Some, None, Ok, Err, option_map, ap, sym, refl, append_assoc, add-one, arith, inl, inr}
+use Rattle.std.proofs.Common.{◌≡◌, ◌≢◌, ◌⊎◌, ◌∙◌, ℕ, zero, suc, ◌+◌, ◌<◌, ◌≤◌, Bool, true, false, not, ◌||◌, cond, if◌then◌else◌, List, [], ◌∷◌, ◌++◌, length, map, get_or, slice_get, take, drop, Option, Some, None, Result, Ok, Err, Vec, vec_capacity, vec_len, nat_le, ◌==◌, option_map, ap, sym, refl, append_assoc, add-one, subst, arith, inl, inr}
 use Rattle.std.specs.List.{filter, remove}
-use Rattle.std.proofs.lemmas.Bool.{cases_Bool, le-ltb, lt-ltb, not-false, not-true}
-use Rattle.std.proofs.lemmas.List.{drop_more, take_more}
+use Rattle.std.specs.Result.{OnErr}
+use Rattle.std.proofs.lemmas.Bool.{cases_Bool, le-leb, le-ltb, lt-leb, lt-ltb, not-false, not-true}
+use Rattle.std.proofs.lemmas.List.{append-nil, drop_all, drop_more, take_more}
 use Rattle.std.proofs.lemmas.Option.{slice_get-get_or}
 use Rattle.ink_choice.specs.Words.{Adds, FindsIndex, Takes}
-use Rattle.ink_model.specs.Choices.{added, behind, none_visible, shown, shown_choice, taken, taken_of, visible}
+use Rattle.ink_model.specs.Choices.{added, behind, none_visible, only_invisible, shown, shown_choice, taken, taken_of, visible}
 use Rattle.ink_model.specs.Configuration.{ChoiceOf}
+use Rattle.ink_model.specs.declared.fault.Fault.{Fault}
 use Rattle.ink_model.specs.declared.fault.Fault.TheVariants.{OutOfMemory, TooDeep}
 use Rattle.ink_model.specs.declared.limits.TheConstants.{MAX_CHOICES}
 use Rattle.ink_model.specs.declared.passage.Shown.{Shown}
+
+-- an index within a list is within its length
+pub in_list : {A L : Type 0} (v : Vec A L) (xs : List A) (i : ℕ) → v.items ≡ xs → i < length xs → i < vec_len v
+in_list v xs i same h = omega (arith, v.ok.0, ap length same, h)
+
+pub room_left : {A L : Type 0} (v : Vec A L) (xs : List A) → v.items ≡ xs → length xs < vec_capacity v → vec_len v < vec_capacity v
+room_left v xs same h = omega (arith, v.ok.0, ap length same, h)
+
+pub on_err : {T E X : Type 0} (r : Result T E) → X → OnErr r X
+on_err (Ok t) x = tt
+on_err (Err e) x = x
 
 module _ {P : Type 0} where
   -- ---- the first of the rest
@@ -82,6 +95,9 @@ module _ {P : Type 0} where
           ∙ ap (option_map (after (take i cs))) (here (get_or cs i d) (drop (i + 1) cs) h)
           ∙ ap (λ k. Some (get_or cs i d, take i cs ++ drop k cs)) (add-one i)
 
+  pub passed_all : (test : ChoiceOf P → Bool) (n left i : ℕ) (cs : List (ChoiceOf P)) → length cs ≤ i → Passed test n left i cs → taken_of test n cs ≡ None
+  passed_all test n left i cs all p = p.is ∙ ap (λ xs. option_map (after (take i cs)) (taken_of test left xs)) (drop_all i cs all)
+
   pub took : (n i : ℕ) (cs new : List (ChoiceOf P)) (x : ChoiceOf P) (any : Bool) → any ≡ none_visible cs → FindsIndex (λ c. any || not c.hidden) n cs (Some i)
       → x ≡ get_or cs i x → new ≡ remove cs i → Takes (taken n cs) cs new (Ok (Some x))
   took n i cs new x any same found is left =
@@ -128,6 +144,21 @@ module _ {P : Type 0} where
     pub some_shown : not x.hidden ≡ true → visible cs ≢ []
     some_shown h = any_visible cs i x inside (ap (λ c. c.hidden) (sym is) ∙ not-true x.hidden h)
 
+  -- all were seen
+  pub all_shown : (done : List Shown) (seen cs : List (ChoiceOf P)) (i : ℕ) → done ++ shown (drop i seen) ≡ shown seen → length seen ≤ i → seen ≡ cs → done ≡ shown cs
+  all_shown done seen cs i is all same = sym (append-nil done) ∙ ap (λ xs. done ++ shown xs) (sym (drop_all i seen all)) ∙ is ∙ ap shown same
+
+  pub only_hidden : (cs : List (ChoiceOf P)) (n : ℕ) (b : Bool) → (n == 0) ≡ false → n ≡ length cs → b ≡ none_visible cs → b ≡ only_invisible cs
+  only_hidden [] n b some count is = absurd (let no : (0 == 0) ≡ false = subst (λ m. (m == 0) ≡ false) count some in cc)
+  only_hidden (c ∷ cs) n b some count is = is
+
+  -- a list is within the limit
+  pub not_too_many : (cs : List (ChoiceOf P)) → length cs ≤ MAX_CHOICES → Some cs ≡ (if nat_le (length cs) MAX_CHOICES then Some cs else None)
+  not_too_many cs h = rw (le-leb (length cs) MAX_CHOICES h) refl
+
+  pub too_many : (cs : List (ChoiceOf P)) → MAX_CHOICES < length cs → None ≡ (if nat_le (length cs) MAX_CHOICES then Some cs else None)
+  too_many cs h = rw (lt-leb (length cs) MAX_CHOICES h) refl
+
   -- there is no room for one more
   pub full : (c : ChoiceOf P) (cs : List (ChoiceOf P)) → MAX_CHOICES ≤ length cs → Adds (added c cs) cs cs (Err TooDeep)
   full c cs h = rw (le-ltb (length cs) MAX_CHOICES h) (refl, refl)
@@ -136,8 +167,10 @@ module _ {P : Type 0} where
   pub one_more : (c : ChoiceOf P) (cs new : List (ChoiceOf P)) (u : Unit) → length cs < MAX_CHOICES → new ≡ cs ++ c ∷ [] → Adds (added c cs) cs new (Ok u)
   one_more c cs new u h is = rw (lt-ltb (length cs) MAX_CHOICES h) is
 
-  pub not_added : (c : ChoiceOf P) (cs new : List (ChoiceOf P)) → length cs < MAX_CHOICES → new ≡ cs → Adds (added c cs) cs new (Err OutOfMemory)
-  not_added c cs new h is = rw (lt-ltb (length cs) MAX_CHOICES h) (refl, is)
+  -- a choice that is not added
+  pub refused : (c : ChoiceOf P) (cs : List (ChoiceOf P)) (f : Fault) → ((f ≡ TooDeep) × (MAX_CHOICES ≤ length cs)) ⊎ ((f ≡ OutOfMemory) × (length cs < MAX_CHOICES)) → Adds (added c cs) cs cs (Err f)
+  refused c cs f (inl h) = rw (le-ltb (length cs) MAX_CHOICES h.1) (h.0, refl)
+  refused c cs f (inr h) = rw (lt-ltb (length cs) MAX_CHOICES h.1) (h.0, refl)
 
   -- a call that is refused memory for the one that is to be taken
   pub took_nothing : (n i : ℕ) (cs new : List (ChoiceOf P)) (any : Bool) → any ≡ none_visible cs → FindsIndex (λ c. any || not c.hidden) n cs (Some i)

@@ -1,5 +1,5 @@
 -- What is put back of choices, and that there is room for it.
-use Rattle.std.proofs.Common.{◌≡◌, ◌∙◌, ◌≤◌, ◌<◌, ◌+◌, ℕ, zero, suc, List, [], ◌∷◌, ◌++◌, Option, Some, None, false, is_some, ap, arith, drop, get_or, length, refl, subst, sym, take}
+use Rattle.std.proofs.Common.{◌≡◌, ◌∙◌, ◌≤◌, ◌<◌, ◌+◌, ℕ, zero, suc, List, [], ◌∷◌, ◌++◌, Option, Some, None, false, is_some, ap, arith, drop, get_or, Global, Vec, vec_capacity, length, refl, subst, sym, take}
 use Rattle.std.proofs.lemmas.List.{drop_all, length-append, take-append-drop, take_all}
 use Rattle.std.specs.List.{insert, remove}
 use Rattle.ink_model.specs.Configuration.{ChoiceOf}
@@ -34,10 +34,17 @@ module _ {P : Type 0} where
   held-as r s u v cs ds undo same more h =
       subst (λ d. StaysHeld s (trail_of v) d) (sym same) (subst (λ (w : Option (Undo (ChoicePair P))). StaysHeld s (trail_of w) cs) (sym undo) (held-more r s (trail_of u) cs more h))
 
+  -- no choices
+  pub held-empty : (r : ℕ) (cs : List (ChoiceOf P)) → cs ≡ [] → Held r cs
+  held-empty r cs is = rw is (omega arith, omega arith)
+
   -- while no mark stands
   pub held-unmarked : (r : ℕ) (u : Option (Undo (ChoicePair P))) (cs : List (ChoiceOf P)) → is_some u ≡ false → Held r cs → StaysHeld r (trail_of u) cs
   held-unmarked r None cs none h = h
   held-unmarked r (Some u) cs none h = absurd (cc)
+
+  pub cleared_room : (e : ChoicePair P) (list : Vec (ChoiceOf P) Global) (r : ℕ) → e ≡ Cleared list → room_of e r ≤ vec_capacity list
+  cleared_room e list r is = rw is (omega arith)
 
 -- ---- one change
 

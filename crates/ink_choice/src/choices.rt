@@ -1,12 +1,12 @@
 //! The choices that are offered.
 
-ghost use Rattle.std.specs.Prelude.{◌≡◌, ◌≢◌, ◌≤◌, ◌<◌, ◌+◌, ◌++◌, ◌||◌, ◌⊎◌, [], None, Some, drop, false, is_some, not, length, map, option_map, remove, slice_get, slice_index_or, take, true, IfOk, OnOk, OnErr};
+ghost use Rattle.std.specs.Prelude.{◌≡◌, ◌≢◌, ◌≤◌, ◌<◌, ◌+◌, ◌++◌, ◌||◌, ◌⊎◌, [], None, Some, drop, false, is_some, not, length, map, option_map, remove, slice_get, slice_index_or, take, true, vec_capacity, IfErr, IfOk, OnOk, OnErr};
 ghost use Rattle.ink_model.specs.declared.limits.TheConstants.{MAX_CHOICES};
 ghost use Rattle.ink_choice.specs.Undo.{choices_back, choices_spare, choices_stood};
 ghost use Rattle.ink_choice.specs.Words.{Adds, FindsIndex, Takes};
 ghost use Rattle.ink_model.specs.Choices as rules;
 ghost use Rattle.ink_model.specs.Configuration.{unnumbered_choice};
-ghost use Rattle.ink_trail.specs.Undo.{KeepsTrail, Trails, TrailsOrKeeps};
+ghost use Rattle.ink_trail.specs.Undo.{KeepsTrail, Trails, TrailsOrKeeps, spare, with_pair};
 
 use crate::choice::{Choice, copied_tags, copied_text};
 use crate::undo::ChoicePair;
@@ -67,7 +67,6 @@ impl<P: Copy> Choices<P> {
 
     /// Adds a choice behind the others, which is one change of a cell. `TooDeep` where there are 1,000; `OutOfMemory` for a refused
     /// request for memory. On an error nothing has changed (docs/CHOICES.md, "The list").
-    #[tactic(auto, using(crate::proofs::Lists::full), unfolding(crate::specs::Undo::choices_stood, crate::specs::Undo::choices_spare, ink_trail::specs::Undo::stood_at, ink_trail::specs::Undo::spare))]
     #[inline(always)]
     pub fn add(&mut self, choice: Choice<P>) -> Result<(), Fault>
         ensures items { Adds (rules.added choice self.old.items) self.old.items self.new.items result }
@@ -75,11 +74,7 @@ impl<P: Copy> Choices<P> {
         ensures stood { choices_stood self.new ≡ choices_stood self.old }
         ensures spare { choices_spare self.old ≤ choices_spare self.new + 1 }
     {
-        if self.len() >= MAX_CHOICES {
-            return Err(Fault::TooDeep);
-        }
-        self.items.reserve(1)?;
-        self.trail.add(ChoicePair::Added, 1)?;
+        ready_for_one(&mut self.items, &mut self.trail)?;
         self.items.push_reserved(choice);
         Ok(())
     }
@@ -228,6 +223,30 @@ impl<P: Copy> Choices<P> {
         let cleared = taken_whole(&mut self.items);
         self.trail.note(ChoicePair::Cleared(cleared), 1);
     }
+}
+
+// Makes room for one choice more, and notes that it is added. The errors are those of `add`, and then nothing has changed.
+#[inline(always)]
+fn ready_for_one<P: Copy>(
+    items: &mut Vec<Choice<P>>,
+    trail: &mut Trail<ChoicePair<P>>,
+) -> Result<(), Fault>
+    ensures items { items.new.items ≡ items.old.items }
+    ensures more { vec_capacity items.old ≤ vec_capacity items.new }
+    ensures few { OnOk result (length items.old.items < MAX_CHOICES) }
+    ensures fits { OnOk result (length items.old.items < vec_capacity items.new) }
+    ensures undo { OnOk result (trail.new.undo ≡ with_pair ChoicePair.Added 1 trail.old.undo) }
+    ensures room { trail.old.room ≤ trail.new.room + 1 }
+    ensures spare { spare trail.old ≤ spare trail.new + 1 }
+    ensures err { IfErr result (λ f. ((f ≡ Fault.TooDeep) × (MAX_CHOICES ≤ length items.old.items)) ⊎ ((f ≡ Fault.OutOfMemory) × (length items.old.items < MAX_CHOICES))) }
+    ensures kept { OnErr result (KeepsTrail trail.old trail.new) }
+{
+    if items.len() >= MAX_CHOICES {
+        return Err(Fault::TooDeep);
+    }
+    items.reserve(1)?;
+    trail.add(ChoicePair::Added, 1)?;
+    Ok(())
 }
 
 // Takes the whole list, and leaves an empty one.

@@ -16,7 +16,7 @@ use ink_step::{DEFAULT_FLOW, Machine, is_flow_name};
 
 /// Goes to the flow of a name, and makes it at the story's start where there is none. Refused with `Broken` where a fault broke the
 /// player; with `BadValue` where the name is empty, has a space or a newline, or is over a text's limit; with `TooManyFlows` where
-/// 100 are there; and with `OutOfMemory` where memory for a new one was refused. The game has not changed then.
+/// one would be made and 100 are there; and with `OutOfMemory` where memory for a new one was refused. The game has not changed then.
 pub fn go_to_flow(
     machine: &mut Machine,
     story: &Story,

@@ -1,9 +1,11 @@
 -- Laws of what happens between two states of a desk.
-use Rattle.std.proofs.Common.{◌≡◌, ◌∙◌, ap, refl, sym, subst, append_assoc, ℕ, List, [], ◌∷◌, ◌++◌, Bool, true, false, Option, Some, bytes_eq, if◌then◌else◌}
+use Rattle.std.proofs.Common.{◌≡◌, ◌∙◌, ap, refl, sym, subst, append_assoc, Result, Ok, Err, ℕ, List, [], ◌∷◌, ◌++◌, Bool, true, false, Option, Some, bytes_eq, if◌then◌else◌}
 use Rattle.std.proofs.lemmas.List.{append-nil}
 use Rattle.std.proofs.lemmas.Slice.Eq.{bytes_eq-Decides}
 use Rattle.std.specs.Option.{option_map}
 use Rattle.ink_model.specs.Events.{after, later}
+use Rattle.ink_model.specs.declared.fault.Fault.{Fault}
+use Rattle.ink_model.specs.declared.fault.Fault.TheVariants.{HostRefused, OutOfMemory}
 use Rattle.ink_model.specs.declared.host.Event.{Event}
 use Rattle.ink_model.specs.declared.host.Event.TheVariants.{Call, Saw}
 use Rattle.ink_model.specs.declared.host.Given.{Given}
@@ -12,6 +14,8 @@ use Rattle.ink_host.specs.Desk.{DeskView, Grew, IsNumbered, Rows, among, at, bou
 use Rattle.ink_host.specs.declared.objects.Bound.{Bound}
 use Rattle.ink_host.specs.declared.objects.Bound.TheVariants as bound
 use Rattle.ink_host.specs.declared.objects.Called.{Called}
+use Rattle.ink_host.specs.declared.telling.TellFault.{TellFault}
+use Rattle.ink_host.specs.declared.telling.TellFault.TheVariants.{NoRoom, Watcher}
 use Rattle.ink_host.specs.declared.objects.Seen.{Seen}
 use Rattle.ink_host.proofs.Entries.{desk_of}
 
@@ -192,3 +196,22 @@ module _ {P T W : Type 0} (turn_log : T → List Called) (watch_log : W → List
         functions = functions ∙ uncalled (logs turn_log a.functions);
         watchers = untold (each (λ n w. watch_log w) a.watchers);
       }
+
+-- ---- what a call gave
+
+pub succeeded : {A F : Type 0} (a : A) (f : F) → Ok a ≡ Err f → ⊥
+succeeded a f is = absurd (cc)
+
+pub failed : {A F : Type 0} (a : A) (f : F) → Err f ≡ Ok a → ⊥
+failed a f is = absurd (cc)
+
+pub same_given : {A F : Type 0} (r : Result A F) (a b : A) → r ≡ Ok a → r ≡ Ok b → a ≡ b
+same_given r a b is its = cc
+
+-- a call that was refused was not short of memory
+pub not_short : {A : Type 0} (r : Result A Fault) → r ≡ Err HostRefused → r ≡ Err OutOfMemory → ⊥
+not_short r is its = absurd (cc)
+
+-- who watches refused, which is not for want of room
+pub has_room : {A : Type 0} (r : Result A TellFault) → r ≡ Err Watcher → r ≡ Err NoRoom → ⊥
+has_room r is its = absurd (cc)

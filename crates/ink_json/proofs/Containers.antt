@@ -1,5 +1,5 @@
 -- Reading content element by element and key by key, beside its faults and its tree.
-use Rattle.std.proofs.Common.{◌≡◌, ℕ, ◌+◌, ◌≤◌, List, [], ◌∷◌, ◌++◌, map, Bool, true, false, not, cond, Option, Some, None, Ok, Err, refl, sym, ap, ◌∙◌, append_assoc, arith}
+use Rattle.std.proofs.Common.{◌≡◌, ℕ, ◌+◌, ◌≤◌, List, [], ◌∷◌, ◌++◌, map, Bool, true, false, not, ◌&&◌, ◌||◌, cond, Option, Some, None, Ok, Err, refl, sym, ap, ◌∙◌, append_assoc, arith}
 use Rattle.serde_json.specs.Data.{Data, null, boolean, number, string, array, object, Items, no_items, item, Members, no_members, member}
 use Rattle.json_tape.specs.Other.{has_other}
 use Rattle.json_tape.specs.Value.{json_data, members_of, Entry, members_data}
@@ -8,7 +8,8 @@ use Rattle.json_tape.proofs.Conditions.{both, neither}
 use Rattle.ink_model.specs.declared.version.InkVersion.{InkVersion}
 use Rattle.ink_model.specs.Tree.{StoryTree, container, Keyed, no_keys}
 use Rattle.ink_model.specs.declared.limits.TheConstants.{MAX_NESTING}
-use Rattle.ink_model.specs.Grammar.{under, first, own, own_after, is_empty, is_last, are_flags, member_of, name_key, flags_key, flags_of, name_in, name_of, is_misnamed, is_taken, with_name, is_own, content, faults, faults_inside, faults_keyed, faults_by, tree_of, content_of, keyed_in, keyed_last, keyed_by}
+use Rattle.ink_model.specs.Grammar.{here, under, first, own, own_after, is_empty, is_last, are_flags, member_of, name_key, flags_key, flags_of, name_in, name_of, is_misnamed, is_taken, with_name, is_own, content, faults, faults_inside, faults_keyed, faults_by, tree_of, content_of, keyed_in, keyed_last, keyed_by}
+use Rattle.ink_model.specs.declared.fault.Cause.TheVariants.{Shape}
 use Rattle.ink_model.specs.declared.fault.Failure.{Failure}
 use Rattle.ink_model.specs.declared.fault.Failure.TheVariants.{OutOfMemory, Refused}
 use Rattle.ink_model.specs.declared.fault.ReadRefusal.{ReadRefusal}
@@ -85,6 +86,30 @@ faults_are_inside version nesting misnamed ds h w m =
     let last = two.0 in
     let flags = two.1 in
     rw (deep, last, flags, m) refl
+
+-- a container is refused whose own object is no such, or which has a name that may not stand there
+unsound : (a b m : Bool) → a && b ≡ false → not a || (not b || m) ≡ true
+unsound false b m h = refl
+unsound true false m h = refl
+unsound true true m h = absurd cc
+
+unfit : (a b : Bool) → not a || (not b || true) ≡ true
+unfit false b = refl
+unfit true false = refl
+unfit true true = refl
+
+module _ (version : InkVersion) (nesting : ℕ) (misnamed listed : Bool) (ds : Items) (h : nesting ≤ MAX_NESTING) where
+  pub container_unsound : is_whole (own ds) ≡ false → content version nesting misnamed listed (array ds) ≡ Err (here Shape)
+  container_unsound w =
+      let deep = not_above MAX_NESTING nesting h in
+      let wrong = unsound (is_last (own ds)) (are_flags (member_of flags_key (own ds))) misnamed w in
+      rw (deep, wrong) refl
+
+  pub container_misnamed : misnamed ≡ true → content version nesting misnamed listed (array ds) ≡ Err (here Shape)
+  container_misnamed m =
+      let deep = not_above MAX_NESTING nesting h in
+      let wrong = unfit (is_last (own ds)) (are_flags (member_of flags_key (own ds))) in
+      rw (m, deep, wrong) refl
 
 -- a container whose own object is good takes memory, whatever is wrong inside
 pub container_takes : (version : InkVersion) (nesting : ℕ) (misnamed listed : Bool) (ds : Items) → nesting ≤ MAX_NESTING → is_whole (own ds) ≡ true → misnamed ≡ false → takes_memory (content version nesting misnamed listed (array ds)) ≡ true

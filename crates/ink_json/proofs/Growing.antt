@@ -1,5 +1,5 @@
 -- The list of a story's nodes, as content is read.
-use Rattle.std.proofs.Common.{◌≡◌, ℕ, suc, ◌+◌, ◌≤◌, List, [], ◌∷◌, ◌++◌, length, Bool, true, false, cond, Option, None, Result, Ok, Err, refl, sym, ap, ◌∙◌, append_assoc, arith}
+use Rattle.std.proofs.Common.{◌≡◌, ℕ, suc, ◌+◌, ◌^◌, ◌≤◌, ◌<◌, List, [], ◌∷◌, ◌++◌, length, Bool, true, false, cond, Option, None, Result, Ok, Err, refl, sym, ap, ◌∙◌, append_assoc, arith}
 use Rattle.std.proofs.lemmas.List.{length-append}
 use Rattle.std.specs.Result.{result_unwrap_or}
 use Rattle.serde_json.specs.Data.{Data, Items, no_items, item, Members, no_members, member}
@@ -52,6 +52,13 @@ module _ (old : List Node) (h : ℕ) (x : Option Part) (name : Option (List ℕ)
       let s = container name flags content keyed in
       let total : length inside + 1 ≡ length (places s) = omega (arith, many (length old) h x s) in
       is ∙ (λ j. old ++ container_node h x name flags (wide j) (by_key j) (total j) ∷ inside)
+
+-- once a container is opened there is room for what is in it, and its own node stays
+pub opened_room : (old new : List Node) (n : Node) (a b : ℕ) → new ≡ old ++ n ∷ [] → a ≡ b → length old + a + 1 < 2 ^ 31 → length new + b < 2 ^ 31
+opened_room old new n a b is same room = omega (arith, ap length is, length-append old (n ∷ []), same, room)
+
+pub opened_within : (old l1 l2 : List Node) (n : Node) (more : List Node) (number : ℕ) → number ≡ length old → l1 ≡ old ++ n ∷ [] → l2 ≡ l1 ++ more → number < length l2
+opened_within old l1 l2 n more number here opened all = omega (arith, here, ap length opened, length-append old (n ∷ []), ap length all, length-append l1 more)
 
 -- elements, and then containers by key
 pub inside_listed : (old l1 l2 : List Node) (number : ℕ) (content : Trees) (keyed ks : Keyed) → l1 ≡ old ++ nodes_from (length old) number 0 content

@@ -1,5 +1,5 @@
 -- Nodes as they are kept, one more behind those before.
-use Rattle.std.proofs.Common.{◌≡◌, ◌∙◌, ap, sym, refl, ℕ, zero, suc, ◌+◌, ◌-◌, ◌^◌, ◌<◌, ◌≤◌, List, [], ◌∷◌, ◌++◌, length, get_or, slice_get, slice_set, Bool, true, false, nat_lt, ◌==◌, if◌then◌else◌, Option, Some, None, option_map, arith}
+use Rattle.std.proofs.Common.{◌≡◌, ◌∙◌, ap, sym, refl, ℕ, zero, suc, ◌+◌, ◌-◌, ◌^◌, ◌<◌, ◌≤◌, List, [], ◌∷◌, ◌++◌, length, take, get_or, slice_get, slice_set, Bool, true, false, nat_lt, ◌==◌, if◌then◌else◌, Option, Some, None, option_map, arith}
 use Rattle.std.proofs.lemmas.Bool.{eqb-true, eqb-false}
 use Rattle.std.proofs.lemmas.Bool.Decides.{nat_tests}
 use Rattle.std.proofs.lemmas.List.{get_or_append_left, get_or_push, length-append, length-set, map-append, map-set}
@@ -57,6 +57,25 @@ known_pushed false a ks new k is room few known more = rw is (omega arith, few, 
 
 pub no_name_known : (a code : ℕ) → IsNoName code → IsKnown a code
 no_name_known a code h = λ above named. absurd (named (h above))
+
+-- ---- a node without a name
+
+no_name_part : (names : List (List ℕ)) (code : ℕ) (b c : Bool) → nat_lt code FIRST_NAME ≡ b → (code == NO_PART) ≡ c → IsNoName code
+    → chosen b c code (get_or names (code - FIRST_NAME) []) ≡ chosen b c code (get_or [] (code - FIRST_NAME) [])
+no_name_part names code true c low at none = refl
+no_name_part names code false true low at none = refl
+no_name_part names code false false low at none = absurd (eqb-false code NO_PART at (none (grind (arith, nat_tests, low))))
+
+pub no_name_pushed : (names : List (List ℕ)) (ks : List Kept) (k : Kept) → IsNoName k.last
+    → nodes_kept names (ks ++ k ∷ []) ≡ nodes_kept names ks ++ record { content = k.content; holder = k.holder; last = part_at [] k.last } ∷ []
+no_name_pushed names ks k none =
+    let part : part_at names k.last ≡ part_at [] k.last = no_name_part names k.last (nat_lt k.last FIRST_NAME) (k.last == NO_PART) refl refl none in
+    map-append (node_of names) ks (k ∷ []) ∙ (λ j. nodes_kept names ks ++ record { content = k.content; holder = k.holder; last = part j } ∷ [])
+
+-- .. and one that is taken back
+pub taken_back : (ks : List Kept) (k : Kept) → take (length ks) (ks ++ k ∷ []) ≡ ks
+taken_back [] k = refl
+taken_back (j ∷ ks) k = ap (λ l. j ∷ l) (taken_back ks k)
 
 -- ---- the node of a name
 

@@ -31,9 +31,8 @@ pub enum Extent {
     Stop,
 }
 
-/// Runs as far as is asked and answers the passage, without its events. The fault is that of the step that faulted, `OutOfSteps`
-/// after 1,000,000 steps, or `OutOfMemory` where memory was refused to the run or for the passage. After a fault the machine is of
-/// no more use, but for its globals.
+/// Runs as far as is asked and answers the passage, without its events. The fault is that of `line` or `through`, or `OutOfMemory`
+/// where memory was refused for choices that are open. After a fault the machine is of no more use, but for its globals.
 pub fn run_to<P: PureFn, F: TurnFn, O: Watcher>(
     alloc: Global,
     extent: Extent,

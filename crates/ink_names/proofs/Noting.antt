@@ -1,10 +1,11 @@
 -- Where names are found, where one is noted or goes.
-use Rattle.std.proofs.Common.{◌≡◌, ◌∙◌, ◌-◌, ◌<◌, ◌⊎◌, ℕ, Bool, true, false, BTreeMap, bytes_eq, cond, List, [], ◌∷◌, ◌++◌, Option, None, Some, String, Global, ap, arith, get_or, inl, inr, length, refl, subst, sym}
+use Rattle.std.proofs.Common.{◌≡◌, ◌∙◌, ◌-◌, ◌*◌, ◌<◌, ◌≤◌, ◌⊎◌, ℕ, Bool, true, false, BTreeMap, bytes_eq, cond, List, [], ◌∷◌, ◌++◌, Option, None, Some, String, Global, ap, arith, get_or, inl, inr, length, refl, slice_set, subst, sym}
 use Rattle.std.specs.BTreeMap.{get_by_text}
-use Rattle.std.proofs.lemmas.Bool.{cases_Bool}
+use Rattle.std.proofs.lemmas.Bool.{cases_Bool, cases_eq}
+use Rattle.std.proofs.lemmas.List.{get_or-set_other, get_or-set_same, get_or_read, length-set}
 use Rattle.std.proofs.lemmas.Slice.Eq.{bytes_eq-Decides}
 use Rattle.ink_names.specs.Hints.{Finds, Keeps, Leads, Right, behind, slot}
-use Rattle.ink_names.specs.Names.{number_of}
+use Rattle.ink_names.specs.Names.{Differ, names_of, number_of}
 use Rattle.ink_names.proofs.Numbers.{last, number_pushed, other, still}
 
 -- slots and others that keep what they have lead where they led
@@ -16,6 +17,10 @@ leads_on slots new m n same stays keeps name number leads =
       | inl here ↦ inl (kept (omega (arith, here)) ∙ here)
       | inr found ↦ inr (omega (arith, kept found.0, found.0), keeps name number found.1)
     ]
+
+-- no name is to be found yet
+pub finds_none : (slots : List ℕ) (m : BTreeMap (String Global) ℕ) → Finds slots m []
+finds_none slots m q i its = absurd (cc)
 
 -- one name more is found
 pub finds_on : (slots new : List ℕ) (m n : BTreeMap (String Global) ℕ) (names : List (List ℕ)) (name : List ℕ) (number : ℕ) → number ≡ length names
@@ -82,3 +87,26 @@ among_others slots m names name right finds elsewhere = by (get_by_text m name) 
       | inl here ↦ let there : i ≡ behind slots name - 1 = omega (arith, here) in absurd (elsewhere (was ∙ ap (λ n. Some n) there))
       | inr found ↦ let wrong : None ≡ Some i = sym has ∙ found.1 in absurd (cc)
     ]
+
+-- what holds of names holds of them in a list that has room for one more
+pub settled : (old new : List (String Global)) (slots : List ℕ) (m : BTreeMap (String Global) ℕ) → new ≡ old → Differ (names_of old) → Right m (names_of old) → Finds slots m (names_of old)
+    → 2 * length old ≤ length slots → Differ (names_of new) × Right m (names_of new) × Finds slots m (names_of new) × (2 * length new ≤ length slots)
+settled old new slots m same differ right finds enough =
+    subst (λ list. Differ (names_of list) × Right m (names_of list) × Finds slots m (names_of list) × (2 * length list ≤ length slots)) (sym same) (differ, right, finds, enough)
+
+-- ---- one slot
+
+-- where there are no slots a name is no one's
+pub no_slots : (slots name : List ℕ) → length slots ≡ 0 → 0 ≡ behind slots name
+no_slots [] name none = refl
+no_slots (n ∷ ns) name none = absurd (cc)
+
+module _ (slots name : List ℕ) (at held n : ℕ) (is : at ≡ slot name n) (many : n ≡ length slots) (within : at < length slots) where
+  pub holds : behind (slice_set slots at held) name ≡ held
+  holds = ap (λ i. get_or (slice_set slots at held) i 0) (ap (slot name) (length-set slots at held ∙ sym many) ∙ sym is) ∙ get_or-set_same slots at held 0 within
+
+  pub keeps_others : (x : ℕ) → x ≡ get_or slots at x → x ≤ 0 → (i : ℕ) → 0 < get_or slots i 0 → get_or (slice_set slots at held) i 0 ≡ get_or slots i 0
+  keeps_others x has free i taken = elim (cases_eq i at) [
+    | inl same ↦ absurd (omega (arith, free, taken, get_or_read slots at x within has 0, ap (λ j. get_or slots j 0) same))
+    | inr other ↦ get_or-set_other slots at i held 0 other
+  ]

@@ -1,7 +1,10 @@
 -- The numbers of names, where one is added.
-use Rattle.std.proofs.Common.{◌≡◌, ◌∙◌, ◌<◌, ℕ, zero, suc, Bool, true, false, bytes_eq, if◌then◌else◌, List, [], ◌∷◌, ◌++◌, Option, None, Some, String, Global, ap, arith, inl, inr, is_some, length, option_map, refl, slice_get, slice_index_or, string_bytes, sym}
-use Rattle.std.proofs.lemmas.Bool.{cases_Bool}
+use Rattle.std.proofs.Common.{◌≡◌, ◌∙◌, ◌<◌, ◌≤◌, ◌-◌, ℕ, zero, suc, Bool, true, false, bytes_eq, get_or, if◌then◌else◌, List, [], ◌∷◌, ◌++◌, Option, None, Some, String, Global, ap, arith, inl, inr, is_some, length, option_map, refl, slice_get, slice_index_or, string_bytes, sym}
+use Rattle.std.proofs.Math.Dec.{ltb}
+use Rattle.std.proofs.lemmas.Bool.{cases_Bool, true≢false}
+use Rattle.std.proofs.lemmas.Bool.Decides.{Decides-ltb}
 use Rattle.std.proofs.lemmas.Slice.Eq.{bytes_eq-Decides}
+use Rattle.ink_names.specs.Hints.{hash, mixed}
 use Rattle.ink_names.specs.Names.{Differ, names_of, number_of, without_last}
 
 -- the number of a name behind others, where it is not among them
@@ -129,3 +132,16 @@ same_name items list i s name same within is its =
     let one : slice_get (names_of items) i ≡ Some (string_bytes s) = ap (λ xs. slice_get (names_of xs) i) (sym same) ∙ listed_at list i s within is in
     let two : slice_get (names_of items) i ≡ Some name = stands (names_of items) name i its in
     cc
+
+-- a place that a list has is not past its end
+pub past_end : (at n : ℕ) → at < n → false ≡ ltb at n → ⊥
+past_end at n within past = true≢false (sym ((Decides-ltb at n).1 within) ∙ sym past)
+
+-- the hash of a name of n bytes
+pub hash_of : (name : List ℕ) (n : ℕ) → length name ≡ n
+    → mixed n (get_or name 0 0) (get_or name (n - 6) 0) (get_or name (n - 5) 0) (get_or name (n - 4) 0) (get_or name (n - 3) 0) (get_or name (n - 2) 0) (get_or name (n - 1) 0) ≡ hash name
+hash_of name n long = rw (← long) refl
+
+-- a place near the end of a long name
+pub near_end : (n k : ℕ) → 7 ≤ n → n - suc k < n
+near_end n k long = omega arith

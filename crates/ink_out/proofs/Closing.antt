@@ -1,20 +1,23 @@
 -- What is open on top is closed.
-use Rattle.std.proofs.Common.{◌≡◌, ℕ, ◌-◌, ◌<◌, List, [], ◌∷◌, ◌++◌, length, take, drop, reverse, get_or, slice_get, if◌then◌else◌, Bool, true, false, Option, Some, None, Result, Ok, Err, inl, inr, refl, sym, ap, ◌∙◌, subst, arith}
+use Rattle.std.proofs.Common.{◌≡◌, ℕ, suc, IfErr, ◌+◌, ◌-◌, ◌^◌, ◌<◌, nat_lt, List, [], ◌∷◌, ◌++◌, length, take, drop, reverse, get_or, slice_get, if◌then◌else◌, ◌||◌, Bool, true, false, Option, Some, None, Result, Ok, Err, inl, inr, refl, sym, ap, ◌∙◌, subst, arith}
 use Rattle.std.specs.List.{list_any}
 use Rattle.std.specs.Result.{IsErrAnd}
-use Rattle.std.proofs.lemmas.List.{append-nil, length-reverse, reverse-append, drop_all, take_all}
+use Rattle.std.proofs.lemmas.Bool.{lt-ltb}
+use Rattle.std.proofs.lemmas.List.{append-nil, length-reverse, length-take-le, reverse-append, drop_all, take_all}
+use Rattle.std.proofs.lemmas.List.Folds.{list_any-append}
 use Rattle.std.proofs.lemmas.Option.{get_or_from_slice_get, slice_get-get_or, slice_get_within}
 use Rattle.ink_model.specs.Asks.{asks_for}
 use Rattle.ink_model.specs.Bytes.{fits_text}
 use Rattle.ink_model.specs.Clean.{clean}
 use Rattle.ink_model.specs.Configuration.{Page, Section, SectionKind, string_section, tag_section}
 use Rattle.ink_model.specs.Memory.{Gives, Hands, Leaves}
-use Rattle.ink_model.specs.Output.{closes_string, closes_string_of, closes_tag, closes_tag_of, is_crowded, is_string, kept_text, tagged, writes_marks}
+use Rattle.ink_model.specs.Output.{begins_function, closes_string, closes_string_of, closes_tag, closes_tag_of, is_crowded, is_string, kept_text, opens, tagged, writes_marks, writes_tag}
 use Rattle.ink_model.specs.Shown.{shown_text}
 use Rattle.ink_model.specs.declared.fault.Fault.{Fault}
-use Rattle.ink_model.specs.declared.fault.Fault.TheVariants.{BadMode, TooDeep}
+use Rattle.ink_model.specs.declared.fault.Fault.TheVariants.{BadMode, OutOfMemory, TooDeep}
+use Rattle.ink_model.specs.declared.limits.TheConstants.{MAX_SECTIONS}
 use Rattle.ink_model.specs.declared.mark.Mark.{Mark}
-use Rattle.ink_model.specs.declared.mark.Mark.TheVariants.{Tag}
+use Rattle.ink_model.specs.declared.mark.Mark.TheVariants.{Enter, Tag}
 use Rattle.ink_out.specs.Writing.{page_of, closed}
 use Rattle.ink_out.proofs.Noting.{last_is}
 
@@ -38,6 +41,10 @@ pub closed_is : (line : List Mark) (xs below : List Section) (n : ℕ) (x : Sect
 closed_is line xs below n x is =
     let turned : reverse xs ≡ x ∷ reverse below = ap reverse is ∙ reverse-append below (x ∷ []) in
     rw turned refl
+
+pub closed_popped : (line : List Mark) (xs popped : List Section) (len n : ℕ) → len ≡ length xs → 0 < length xs → popped ≡ take (len - 1) xs → closed (page_of line xs n) ≡ page_of line popped n
+unfolding page_with
+closed_popped line xs popped len n fits some gone = closed_page line xs n some ∙ ap (page_with line n) (ap (λ (s : List Section). reverse s) (ap (λ (k : ℕ). take (k - 1) xs) (sym fits) ∙ sym gone))
 
 -- something is open
 pub some_open : (sections there : List Section) → reverse sections ≡ there → 0 < length there → 0 < length sections
@@ -86,7 +93,7 @@ asks_mark ms page = by (is_crowded ms page) refl
     by true full = rw full refl
     by false full = rw full refl
 
-pub unchanged : (r : Result Page Fault) (page next : Page) (g : Fault) (answer : Result (Unit {0}) Fault) → next ≡ page → IsErrAnd answer (λ f. f ≡ g) → Gives {A = Page} (Err g) r → Leaves r page next answer
+pub unchanged : {A : Type 0} (r : Result Page Fault) (page next : Page) (g : Fault) (answer : Result A Fault) → next ≡ page → IsErrAnd answer (λ f. f ≡ g) → Gives {A = Page} (Err g) r → Leaves r page next answer
 unchanged r page next g (Err f) same told is = (subst (λ (e : Fault). Gives {A = Page} (Err e) r) (sym told) is, same)
 unchanged r page next g (Ok b) same told is = absurd told
 
@@ -98,6 +105,21 @@ closed_err ms line new_line xs slice ys len n g answer same fits some kept stays
     subst (λ (p : Page). Leaves {A = Unit {0}} (writes_marks ms p) (page_of line xs n) (page_of new_line (take len (ys ++ drop (length ys) xs)) n) answer) is_below (unchanged (writes_marks ms (page_of line (take (length slice - 1) slice) n)) (page_of line xs n) (page_of new_line (take len (ys ++ drop (length ys) xs)) n) g answer as_before told is.0)
 
 -- ---- a closed tag
+
+turned_or : (a b : Bool) → (a || (b || false)) ≡ (b || a)
+turned_or true true = refl
+turned_or true false = refl
+turned_or false true = refl
+turned_or false false = refl
+
+-- a string is open, whichever section is looked at first
+pub any_turned : (sections : List Section) → list_any is_string (reverse sections) ≡ list_any is_string sections
+any_turned [] = refl
+any_turned (x ∷ xs) =
+    ap (list_any is_string) (reverse-append (x ∷ []) xs)
+    ∙ list_any-append is_string (reverse xs) (x ∷ [])
+    ∙ turned_or (list_any is_string (reverse xs)) (is_string x)
+    ∙ ap (λ (b : Bool). is_string x || b) (any_turned xs)
 
 -- what is open below what is open on top
 pub any_below : (sections slice there : List Section) (n : ℕ) (b : Bool) → reverse sections ≡ there → slice ≡ sections → 0 < length there → n ≡ length there → b ≡ list_any is_string (reverse (take (n - 1) slice)) → list_any is_string (drop 1 there) ≡ b
@@ -112,6 +134,12 @@ any_below sections slice there n b turned lent some is told =
 handing_out : List ℕ → Result Page Fault → Result (Option (List ℕ) × Page) Fault
 handing_out t (Ok page) = Ok (Some t, page)
 handing_out t (Err f) = Err f
+
+-- so many are open below it
+pub below_len : (sections slice there : List Section) (n : ℕ) → reverse sections ≡ there → slice ≡ sections → n ≡ length there → n - 1 ≡ length (take (n - 1) slice)
+below_len sections slice there n turned lent is =
+    let len : length sections ≡ length there = sym (length-reverse sections) ∙ ap (λ (s : List Section). length s) turned in
+    sym (length-take-le (n - 1) slice (omega (arith, is, len, ap (λ (s : List Section). length s) lent)))
 
 -- it is handed out where a string is open below it
 pub handed_out : (t : List ℕ) (page next : Page) → list_any is_string (drop 1 page.sections) ≡ true → written (closed page) ≡ written next → tagged t (closed page) ≡ Ok (Some t, next)
@@ -239,3 +267,36 @@ pub string_asks : (page : Page) (x : Section) → page.sections ≡ x ∷ drop 1
 string_asks page x top is =
     let t = shown_text x.marks in
     rw (by_raw_text page x t top is refl) (asks_fits {A = List ℕ × Page} (fits_text t) (Ok (t, closed page)) refl)
+
+-- what is refused where a section is closed is memory
+pub close_asks : (page : Page) (f : Fault) → Gives {A = Page} (Err f) (Ok (closed page)) → f ≡ OutOfMemory
+close_asks page f (inl p) = p.0
+close_asks page f (inr e) = absurd (cc)
+
+-- ---- what is opened
+
+pub opens_one : (kind : SectionKind) (line : List Mark) (xs ys : List Section) (n depth : ℕ) (x : Section) → depth ≡ length (reverse xs) → depth < MAX_SECTIONS → ys ≡ xs ++ x ∷ [] → x ≡ record { kind = kind; marks = [] } → opens kind (page_of line xs n) ≡ Ok (page_of line ys n)
+opens_one kind line xs ys n depth x len few pushed is =
+    let room : nat_lt (length (reverse xs)) MAX_SECTIONS ≡ true = lt-ltb (length (reverse xs)) MAX_SECTIONS (omega (arith, len, few)) in
+    let all : reverse ys ≡ x ∷ reverse xs = ap (λ (s : List Section). reverse s) pushed ∙ reverse-append xs (x ∷ []) in
+    rw (all, is, room) refl
+
+-- a function begins
+pub begins : (line : List Mark) (xs : List Section) (n next : ℕ) → next ≡ n + 1 → next < 2 ^ 64 → begins_function (page_of line xs n) ≡ writes_marks (Enter n ∷ []) (page_of line xs next)
+begins line xs n next is few =
+    let same : suc n ≡ next = omega (arith, is) in
+    let room : nat_lt next (2 ^ 64) ≡ true = lt-ltb next (2 ^ 64) few in
+    rw (same, room) refl
+
+abbrev refuses : Fault → Result (Unit {0}) Fault
+refuses f = Err f
+
+-- a limit that is found is what is answered
+pub limited : {A : Type 0} (r : Result Page Fault) (g : Fault) (answer : Result A Fault) → IsErrAnd answer (λ f. f ≡ g) → IfErr r (λ f. refuses g ≡ refuses f) → IfErr r (λ f. answer ≡ Err f)
+limited (Ok page) g answer told h = tt
+limited (Err e) g (Err f) told h = cc
+limited (Err e) g (Ok a) told h = absurd told
+
+-- what is refused for a tag that is given whole is refused for its text
+pub whole_refused : (page : Page) (t : List ℕ) (f : Fault) → Gives {A = List ℕ} (Err f) (kept_text (clean t) (clean t)) → Gives {A = Option (List ℕ) × Page} (Err f) (writes_tag t page)
+whole_refused page t f refused = refused_fits (fits_text (clean t)) (clean t) (tagged (clean t) page) f (asks_tagged (clean t) page) refused

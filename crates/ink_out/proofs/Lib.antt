@@ -15,3 +15,4 @@ pub mod Marks
 pub mod Joined
 pub mod Printed
 pub mod Parts
+pub mod Ends

@@ -258,3 +258,8 @@ all_held true (Some before) bytes written h =
     sym (append-nil bytes) ∙ h [] ∙ ap (cleaned_on Nothing) (append-nil written) ∙ sym (clean_is written)
 all_held false None bytes written h = h
 all_held cleans before bytes written h = absurd h
+
+-- what is left begins with its first byte
+pub first_on : (rest more : List ℕ) → 0 < length rest → get_or rest 0 0 ∷ (drop 1 rest ++ more) ≡ rest ++ more
+first_on [] more some = absurd (omega (arith, some))
+first_on (c ∷ cs) more some = refl

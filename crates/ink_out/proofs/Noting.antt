@@ -1,5 +1,5 @@
 -- Marks written at the end of the open section.
-use Rattle.std.proofs.Common.{◌≡◌, ℕ, suc, ◌+◌, ◌-◌, ◌<◌, ◌≤◌, nat_lt, Bool, true, false, not, ◌||◌, cond, List, [], ◌∷◌, ◌++◌, length, get_or, set, take, drop, reverse, Result, Ok, refl, sym, ap, ◌∙◌, arith}
+use Rattle.std.proofs.Common.{◌≡◌, ℕ, suc, ◌+◌, ◌-◌, ◌<◌, ◌≤◌, nat_lt, Bool, true, false, not, ◌||◌, ◌&&◌, cond, List, [], ◌∷◌, ◌++◌, length, get_or, set, take, drop, reverse, Result, Ok, refl, sym, ap, ◌∙◌, arith}
 use Rattle.std.proofs.Math.Bool.{and-false}
 use Rattle.std.specs.List.{list_any}
 use Rattle.std.proofs.lemmas.Bool.{le-ltb, or_parts}
@@ -8,11 +8,12 @@ use Rattle.std.proofs.lemmas.List.{append-nil, reverse-append, set_split, drop_a
 use Rattle.ink_model.specs.Configuration.{Page, Section}
 use Rattle.ink_model.specs.Bytes.{is_blank, is_white, has_newline, leading, trailing}
 use Rattle.ink_model.specs.Mark.{cut, piece}
-use Rattle.ink_model.specs.Output.{writes_marks, writes_text, let_through, noted_in, is_line}
+use Rattle.ink_model.specs.Output.{writes_marks, writes_text, let_through, noted_in, is_line, is_text}
 use Rattle.ink_model.specs.declared.limits.TheConstants.{MAX_MARKS}
 use Rattle.ink_model.specs.declared.fault.Fault.{Fault}
 use Rattle.ink_model.specs.declared.mark.Mark.{Mark}
-use Rattle.ink_model.specs.declared.mark.Mark.TheVariants.{Text, Blank}
+use Rattle.ink_model.specs.declared.mark.Mark.TheVariants.{Text, Blank, Newline}
+use Rattle.ink_out.specs.Cutting.{is_newline_mark}
 use Rattle.ink_out.specs.Writing.{page_of}
 
 -- ---- the section that is open
@@ -64,6 +65,7 @@ let_through-false [] = refl
 let_through-false (Text t ∷ ms) = ap (λ (rest : List Mark). Text t ∷ rest) (let_through-false ms)
 let_through-false (m ∷ ms) = ap (λ (rest : List Mark). m ∷ rest) (let_through-false ms)
 
+-- one piece more
 -- ---- a text of one piece
 
 pub whole_cut : (cs : List ℕ) → (has_newline (leading is_white cs) || has_newline (trailing is_white cs)) ≡ false → cut cs ≡ piece cs

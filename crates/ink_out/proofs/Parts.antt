@@ -1,8 +1,8 @@
 -- The pieces of a text, as parts of it.
-use Rattle.std.proofs.Common.{◌≡◌, ◌∙◌, ◌+◌, ◌-◌, ℕ, List, [], ◌∷◌, ◌++◌, true, drop, take, length, arith, ap, refl, sym}
+use Rattle.std.proofs.Common.{◌≡◌, ◌∙◌, ◌+◌, ◌-◌, ℕ, List, [], ◌∷◌, ◌++◌, true, false, drop, take, length, arith, ap, refl, sym}
 use Rattle.std.proofs.lemmas.List.{append_assoc, drop-drop, take_rest}
-use Rattle.ink_model.specs.Bytes.{has_newline, is_blank, is_white, leading, trailing, trimmed}
-use Rattle.ink_model.specs.Mark.{cut_end, piece}
+use Rattle.ink_model.specs.Bytes.{has_newline, is_blank, is_white, leading, trailing, trimmed, without}
+use Rattle.ink_model.specs.Mark.{cut, cut_end, piece}
 use Rattle.ink_model.specs.declared.mark.Mark.{Mark}
 use Rattle.ink_model.specs.declared.mark.Mark.TheVariants.{Newline}
 
@@ -30,3 +30,24 @@ end_cut cs s m0 m1 m2 from before after is found first last one two =
     ∙ ap (λ ms. ms ++ piece back) (one ∙ ap (λ t. m0 ++ (piece t ++ Newline ∷ [])) a)
     ∙ append_assoc m0 (piece front ++ Newline ∷ []) (piece back)
     ∙ ap (λ ms. m0 ++ ms) (append_assoc (piece front) (Newline ∷ []) (piece back) ∙ end_is s found ∙ ap cut_end is)
+
+-- ---- a white beginning
+
+pub start_cut : (cs : List ℕ) (m0 m1 m2 : List Mark) (before after : ℕ) → true ≡ has_newline (leading is_white cs) → take before cs ≡ leading is_blank cs
+    → drop after cs ≡ trailing is_blank (leading is_white cs) ++ without is_white cs → m1 ≡ m0 ++ (piece (take (before - 0) (drop 0 cs)) ++ Newline ∷ [])
+    → m2 ≡ m1 ++ cut_end (drop after cs) → m2 ≡ m0 ++ cut cs
+unfolding cut
+start_cut cs m0 m1 m2 before after found first last one two =
+    let front = leading is_blank cs in
+    let back = trailing is_blank (leading is_white cs) ++ without is_white cs in
+    let all : before - 0 ≡ before = omega arith in
+    let a : take (before - 0) (drop 0 cs) ≡ front = ap (λ n. take n cs) all ∙ first in
+    rw (sym found)
+    (two ∙ ap (λ t. m1 ++ cut_end t) last
+    ∙ ap (λ ms. ms ++ cut_end back) (one ∙ ap (λ t. m0 ++ (piece t ++ Newline ∷ [])) a)
+    ∙ append_assoc m0 (piece front ++ Newline ∷ []) (cut_end back)
+    ∙ ap (λ ms. m0 ++ ms) (append_assoc (piece front) (Newline ∷ []) (cut_end back)))
+
+pub no_start_cut : (cs : List ℕ) (m0 m1 : List Mark) → false ≡ has_newline (leading is_white cs) → m1 ≡ m0 ++ cut_end (drop 0 cs) → m1 ≡ m0 ++ cut cs
+unfolding cut
+no_start_cut cs m0 m1 found one = rw (sym found) one

@@ -1,5 +1,5 @@
 -- The bytes at the ends of a text, and its pieces.
-use Rattle.std.specs.Prelude.{ℕ, Bool}
+use Rattle.std.specs.Prelude.{ℕ, Bool, true, false}
 use Rattle.ink_model.specs.Bytes.{is_blank, is_white}
 use Rattle.ink_model.specs.declared.mark.Mark.{Mark}
 use Rattle.ink_model.specs.declared.mark.Mark.TheVariants as kinds
@@ -18,3 +18,7 @@ piece_mark (pieces.Part p) = kinds.Text p
 piece_mark (pieces.Blank t) = kinds.Blank t
 piece_mark (pieces.BlankPart p) = kinds.Blank p
 piece_mark pieces.Newline = kinds.Newline
+
+abbrev pub is_newline_mark : Mark → Bool
+is_newline_mark kinds.Newline = true
+is_newline_mark m = false

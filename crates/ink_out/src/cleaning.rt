@@ -187,7 +187,14 @@ pub(crate) fn clean_len(text: &str) -> Option<usize>
 fn word_len(text: &[u8]) -> usize
     ensures { result ≡ prefix_len (λ byte. not (is_white byte)) text.now }
 {
-    text.iter().take_while(|byte| !is_white(**byte)).count()
+    let mut at = 0;
+    while at < text.len() {
+        if is_white(text[at]) {
+            return at;
+        }
+        at += 1;
+    }
+    at
 }
 
 #[inline(always)]

@@ -1,13 +1,13 @@
 //! Cutting a written text into marks (docs/TEXT.md, "Cutting").
 
-ghost use Rattle.std.specs.Prelude.{◌≡◌, ◌≢◌, ◌<◌, ◌≤◌, ◌-◌, [], ◌∷◌, ◌++◌, ◌||◌, drop, length, map, not, take, IfOk, OnOk, IfSome, is_some, slice_index};
+ghost use Rattle.std.specs.Prelude.{◌≡◌, ◌≢◌, ◌<◌, ◌≤◌, ◌-◌, [], ◌∷◌, ◌++◌, ◌||◌, ◌&&◌, drop, length, map, not, take, IfOk, OnOk, IfSome, is_some, slice_index};
 ghost use Rattle.std.specs.List.{list_any, prefix_len, suffix_len};
 ghost use Rattle.std.specs.Str.{IsCharBoundary};
 ghost use Rattle.ink_model.specs.Mark.{cut, cut_end, piece};
 ghost use Rattle.ink_model.specs.Output.{is_text};
 ghost use Rattle.ink_model.specs.Bytes.{has_newline, is_blank, is_newline, is_white, leading, trailing, trimmed, without};
 ghost use Rattle.ink_model.specs.declared.mark.Mark.{Mark};
-ghost use Rattle.ink_out.specs.Cutting.{is_space, piece_mark};
+ghost use Rattle.ink_out.specs.Cutting.{is_newline_mark, is_space, piece_mark};
 
 use crate::kept::{Form, Kept, Words};
 use crate::part::Part;
@@ -35,13 +35,26 @@ impl Space {
 }
 
 /// What a written text is cut into: pieces, and newlines at its ends. A piece is a text of its own, or a part of the text.
-#[derive(Drop)]
 pub(crate) enum Piece {
     Text(Shared<Text>),
     Part(Part),
     Blank(Shared<Text>),
     BlankPart(Part),
     Newline,
+}
+
+/// Written out, so that wherever a piece is let go that is one call, and a proof there does not go through its forms.
+impl Drop for Piece {
+    #[inline(always)]
+    fn drop(self) {
+        match self {
+            Piece::Text(_) => {}
+            Piece::Part(_) => {}
+            Piece::Blank(_) => {}
+            Piece::BlankPart(_) => {}
+            Piece::Newline => {}
+        }
+    }
 }
 
 /// The pieces of a text: a piece, a newline, a piece, a newline and a piece at the most, which take no memory.
@@ -104,6 +117,22 @@ impl Piece {
         matches!(self, Piece::Text(_) | Piece::Part(_))
     }
 
+    /// It is let through, which a newline is not where the top frame is a `fresh` function.
+    #[inline(always)]
+    pub(crate) fn is_let_through(&self, fresh: bool) -> bool
+        ensures { result ≡ not (fresh && is_newline_mark (piece_mark self.now)) }
+    {
+        !(fresh && matches!(self, Piece::Newline))
+    }
+
+    /// The function is still fresh behind it.
+    #[inline(always)]
+    pub(crate) fn leaves_fresh(&self, fresh: bool) -> bool
+        ensures { result ≡ (fresh && not (is_text (piece_mark self.now))) }
+    {
+        fresh && !self.is_text()
+    }
+
     /// The mark that it leaves.
     #[inline(always)]
     pub(crate) fn into_mark(self) -> Kept
@@ -137,21 +166,24 @@ pub(crate) fn is_cut(text: &str) -> bool
 
 /// The pieces of a written text (docs/TEXT.md, "Cutting"). The one error is a refused request for memory, or a count of owners that
 /// is full.
-#[tactic(auto, unfolding(ink_model::specs::Mark::cut))]
 pub(crate) fn cut_text(alloc: Global, text: &Shared<Text>) -> Result<Pieces, AllocError>
     ensures { IfOk result (λ pieces. map piece_mark pieces.items ≡ cut text.now) }
 {
     let mut pieces = SmallVec::new(alloc);
+    push_cut(alloc, &mut pieces, text)?;
+    Ok(pieces)
+}
+
+/// Adds the pieces of a written text. The one error is as above.
+fn push_cut(alloc: Global, pieces: &mut Pieces, text: &Shared<Text>) -> Result<(), AllocError>
+    ensures { OnOk result (map piece_mark pieces.new.items ≡ map piece_mark pieces.old.items ++ cut text.now) }
+{
     match split_start(text.as_str()) {
         Some((before, after)) => {
-            push_line(alloc, &mut pieces, text, 0, before)?;
-            push_end(alloc, &mut pieces, text, after)?;
-            Ok(pieces)
+            push_line(alloc, pieces, text, 0, before)?;
+            push_end(alloc, pieces, text, after)
         }
-        None => {
-            push_end(alloc, &mut pieces, text, 0)?;
-            Ok(pieces)
-        }
+        None => push_end(alloc, pieces, text, 0),
     }
 }
 
@@ -250,21 +282,30 @@ fn split_end(text: &str) -> Option<(usize, usize)>
 fn leading(text: &str, space: Space) -> usize
     ensures { result ≡ prefix_len (is_space space) text.now }
 {
-    text.as_bytes()
-        .iter()
-        .take_while(|byte| space.has(**byte))
-        .count()
+    let bytes = text.as_bytes();
+    let mut len = 0;
+    while len < bytes.len() {
+        if !space.has(bytes[len]) {
+            return len;
+        }
+        len += 1;
+    }
+    len
 }
 
 /// How many bytes of a kind a text ends with.
 fn trailing(text: &str, space: Space) -> usize
     ensures { result ≡ suffix_len (is_space space) text.now }
 {
-    text.as_bytes()
-        .iter()
-        .rev()
-        .take_while(|byte| space.has(**byte))
-        .count()
+    let bytes = text.as_bytes();
+    let mut start = bytes.len();
+    while start > 0 {
+        if !space.has(bytes[start - 1]) {
+            return bytes.len() - start;
+        }
+        start -= 1;
+    }
+    bytes.len()
 }
 
 /// Some byte of a text is no blank.
@@ -272,7 +313,12 @@ fn trailing(text: &str, space: Space) -> usize
 pub(crate) fn has_words(text: &[u8]) -> bool
     ensures { result ≡ list_any (λ byte. not (is_blank byte)) text.now }
 {
-    text.iter().any(|byte| !is_blank(*byte))
+    for byte in text {
+        if !is_blank(*byte) {
+            return true;
+        }
+    }
+    false
 }
 
 /// A newline stands at a place in a text.

@@ -712,7 +712,12 @@ fn is_long(text: &str) -> bool
 fn has_string(sections: &[Opened]) -> bool
     ensures { result ≡ list_any is_string (reverse sections.now) }
 {
-    sections.iter().rev().any(|opened| opened.is_string())
+    for section in sections {
+        if section.is_string() {
+            return true;
+        }
+    }
+    false
 }
 
 // Writes the pieces of a text into what is open.
@@ -780,17 +785,9 @@ fn let_through(alloc: Global, pieces: Pieces, mut fresh: bool) -> Result<Pieces,
     }
     let mut kept = SmallVec::new(alloc);
     for piece in pieces {
-        match piece {
-            Piece::Newline if fresh => {}
-            Piece::Text(text) => {
-                fresh = false;
-                kept.push(Piece::Text(text))?;
-            }
-            Piece::Part(part) => {
-                fresh = false;
-                kept.push(Piece::Part(part))?;
-            }
-            piece => kept.push(piece)?,
+        if piece.is_let_through(fresh) {
+            fresh = piece.leaves_fresh(fresh);
+            kept.push(piece)?;
         }
     }
     Ok(kept)

@@ -313,7 +313,12 @@ fn line_of(alloc: Global, room: String, text: &str) -> Result<Text, AllocError>
 fn has_filled_blank(marks: &[Kept]) -> bool
     ensures { result ≡ list_any is_filled_blank marks.now }
 {
-    marks.iter().any(|mark| is_filled_blank(mark))
+    for mark in marks {
+        if is_filled_blank(mark) {
+            return true;
+        }
+    }
+    false
 }
 
 fn is_filled_blank(mark: &Kept) -> bool

@@ -43,9 +43,11 @@ pub(crate) fn shown_text(
 
 // How many bytes these marks show at the most.
 fn most_shown(marks: &[Kept]) -> usize {
-    marks
-        .iter()
-        .fold(0, |sum: usize, mark| sum.saturating_add(shown_by(mark)))
+    let mut most: usize = 0;
+    for mark in marks {
+        most = most.saturating_add(shown_by(mark));
+    }
+    most
 }
 
 fn shown_by(mark: &Kept) -> usize {

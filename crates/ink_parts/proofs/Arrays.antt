@@ -1,22 +1,26 @@
 -- Arrays of what is written, and objects of rows.
-use Rattle.std.proofs.Common.{◌≡◌, ◌∙◌, sym, ap, refl, ℕ, Bool, true, false, ◌&&◌, List, [], ◌∷◌, ◌++◌, map, reverse, ◌+◌, slice_get, take, Option, Some, None, inl, inr, Ordering, Less, Equal, Greater, is_lt}
+use Rattle.std.proofs.Common.{◌≡◌, ◌∙◌, sym, ap, refl, ℕ, Bool, true, false, ◌&&◌, List, [], ◌∷◌, ◌++◌, map, reverse, ◌+◌, slice_get, drop, get_or, length, ◌<◌, take, subst, Option, Some, None, inl, inr, Result, OnOk, ℤ, rules, BTreeMap, Global, String, Ordering, Less, Equal, Greater, is_lt}
 use Rattle.std.proofs.lemmas.Cmp.{nat_list_cmp_total}
 use Rattle.std.proofs.lemmas.List.{append_assoc, map-append, reverse-append, reverse-reverse}
-use Rattle.std.proofs.lemmas.List.{take_all, take_more}
+use Rattle.std.proofs.lemmas.List.{drop_more, take_all, take_more}
 use Rattle.std.proofs.lemmas.Option.{get_or_from_slice_get, slice_get_cases, slice_get_within}
 use Rattle.std.specs.List.{AllByRecursion}
 use Rattle.std.specs.Ordering.{ordering_reverse}
-use Rattle.serde_json.specs.Data.{Data, array, item, member, no_members, put}
-use Rattle.serde_json.specs.View.{view, items_view}
+use Rattle.serde_json.specs.Data.{Data, Members, array, boolean, item, member, no_items, no_members, null, number, object, put, unsigned}
+use Rattle.serde_json.specs.Find.{of_integer}
+use Rattle.serde_json.proofs.Views.{Entry, view-Object}
+use Rattle.serde_json.specs.View.{view, items_view, members_view, number_view}
 use Rattle.serde_json.specs.View as views
-use Rattle.serde_json.specs.declared.value.Value.{Value}
+use Rattle.serde_json.specs.declared.number.Number.{Number}
+use Rattle.serde_json.specs.declared.value.Value.{Value, the_lemmas}
+use Rattle.serde_json.specs.declared.value.Value as json
 use Rattle.ink_model.specs.Events as events
 use Rattle.ink_model.specs.Rows.{is_before, name_order, rows_rise}
 use Rattle.ink_model.specs.Store.{Values}
 use Rattle.ink_model.specs.ValueJson.{value_data}
 use Rattle.ink_model.specs.declared.value.Value as model
 use Rattle.ink_parts.specs.Words.{put_all}
-use Rattle.ink_model.specs.Save.Spelling.{list_data, temps_members}
+use Rattle.ink_model.specs.Save.Spelling.{count_data, list_data, temps_members}
 use Rattle.ink_stack.proofs.Reversing.{map-reverse}
 
 -- ---- arrays
@@ -41,13 +45,37 @@ module _ {A : Type 0} (f : A → Data) where
       listed (below ++ top ∷ []) (made ++ last ∷ []) (one_more below top made last e h)
       ∙ ap (list_data f) (sym (reverse-append (top ∷ []) (reverse below) ∙ ap (λ xs. xs ++ top ∷ []) (reverse-reverse below)))
 
+-- one element more
+pub item_more : {A : Type 0} → (f : A → Data) (xs : List A) (i : ℕ) (d : A) (made : List Value) (last : Value) → i < length xs → view last ≡ f (get_or xs i d)
+    → map view made ≡ map f (take i xs) → map view (made ++ last ∷ []) ≡ map f (take (i + 1) xs)
+item_more f xs i d made last lt is h =
+    one_more f (take i xs) (get_or xs i d) made last h is ∙ ap (map f) (sym (take_more xs i d lt))
+
 -- one row more
 pub row_more : {A : Type 0} → (f : A → Data) (xs : List A) (i : ℕ) (e : A) (made : List Value) (last : Value) → slice_get xs i ≡ Some e → view last ≡ f e
     → map view made ≡ map f (take i xs) → map view (made ++ last ∷ []) ≡ map f (take (i + 1) xs)
 row_more f xs i e made last there is h =
-    map-append view made (last ∷ []) ∙ ap (λ ds. ds ++ view last ∷ []) h ∙ ap (λ d. map f (take i xs) ++ d ∷ []) is
-    ∙ sym (ap (map f) (take_more xs i e (slice_get_within xs i e there) ∙ ap (λ x. take i xs ++ x ∷ []) (get_or_from_slice_get xs i e e there))
-    ∙ map-append f (take i xs) (e ∷ []))
+    item_more f xs i e made last (slice_get_within xs i e there) (is ∙ ap f (sym (get_or_from_slice_get xs i e e there))) h
+
+-- an array of two
+pub paired : (none one two : List Value) (x y : Value) → none ≡ [] → one ≡ none ++ x ∷ [] → two ≡ one ++ y ∷ [] → array (items_view two) ≡ array (item (view x) (item (view y) no_items))
+paired none one two x y h k l = ap (λ vs. array (items_view vs)) (l ∙ ap (λ vs. vs ++ y ∷ []) (k ∙ ap (λ vs. vs ++ x ∷ []) h))
+
+-- plain values
+pub view-Bool : (b : Bool) → view (json.Bool b) ≡ boolean b
+view-Bool b = search (rules, the_lemmas)
+
+pub view-Null : view json.Null ≡ null
+view-Null = search (rules, the_lemmas)
+
+view-Number : (n : Number) → view (json.Number n) ≡ number (number_view n)
+view-Number n = search (rules, the_lemmas)
+
+pub view-natural : (n : Number) (i : ℕ) → number_view n ≡ unsigned i → view (json.Number n) ≡ count_data i
+view-natural n i h = view-Number n ∙ ap number h
+
+pub view-integer : (n : Number) (z : ℤ) → number_view n ≡ of_integer z → view (json.Number n) ≡ number (of_integer z)
+view-integer n z h = view-Number n ∙ ap number h
 
 -- past the last row
 pub row_last : {A : Type 0} → (f : A → Data) (xs : List A) (i : ℕ) (made : List Value) → slice_get xs i ≡ None
@@ -72,6 +100,10 @@ list_over g m xs = ap (λ ds. array (events.items_of ds)) (maps_join g m xs)
 
 -- ---- objects
 
+-- a member that was put, by another name of its value
+pub put_as : {E : Type 0} (r : Result (Unit {0}) E) (name : List ℕ) (d e : Data) (ms now : Members) → d ≡ e → OnOk r (now ≡ put name d ms) → OnOk r (now ≡ put name e ms)
+put_as r name d e ms now same h = subst (λ x. OnOk r (now ≡ put name x ms)) same h
+
 both : (x y : Bool) → (x && y) ≡ true → (x ≡ true) × (y ≡ true)
 both true y h = (refl, h)
 both false y h = absurd cc
@@ -80,6 +112,11 @@ less : (o : Ordering) → is_lt o ≡ true → o ≡ Less
 less Less h = refl
 less Equal h = absurd cc
 less Greater h = absurd cc
+
+-- an object whose members were put one after another, from none on
+pub object_made : (f : Members → Members) (m : BTreeMap (String Global) json.Value) (es : List Entry) → es ≡ [] → members_view m.entries ≡ f (members_view es)
+    → view (json.Object m) ≡ object (f no_members)
+object_made f m es none h = view-Object m ∙ ap object (h ∙ ap (λ rows. f (members_view rows)) none)
 
 abbrev Below : List ℕ → Values → Type 0
 Below k rs = AllByRecursion (λ r. is_lt (name_order r.0 k) ≡ true) rs
@@ -112,6 +149,11 @@ put_behind xs (r ∷ ys) h =
     ap (λ ms. put_all ms ys) (put_last xs r.0 r.1 (below_it xs r ys h))
     ∙ put_behind (xs ++ r ∷ []) ys (ap (rows_rise name_order) same ∙ h)
     ∙ ap temps_members same
+
+-- a row more is put
+pub put_more : (rs : Values) (i : ℕ) (d : List ℕ × model.Value) (ms now whole : Members) → i < length rs
+    → now ≡ put (get_or rs i d).0 (value_data (get_or rs i d).1) ms → put_all ms (drop i rs) ≡ whole → put_all now (drop (i + 1) rs) ≡ whole
+put_more rs i d ms now whole lt is h = ap (λ x. put_all x (drop (i + 1) rs)) is ∙ ap (put_all ms) (sym (drop_more rs i d lt)) ∙ h
 
 pub put_in_order : (rs : Values) → rows_rise name_order rs ≡ true → put_all no_members rs ≡ temps_members rs
 put_in_order rs h = put_behind [] rs h

@@ -1,6 +1,7 @@
 -- The tokens of what is written.
-use Rattle.std.proofs.Common.{◌≡◌, ◌∙◌, sym, ap, refl, subst, ℕ, ◌≤◌, ◌+◌, List, [], ◌∷◌, ◌++◌, append_assoc, flat_map, map, reverse, take, slice_get, length, Option, Some, None, inl, inr, Result, OnOk}
-use Rattle.std.proofs.lemmas.List.{reverse-append, reverse-reverse, take_all, take_more}
+use Rattle.std.proofs.Common.{◌≡◌, ◌∙◌, sym, ap, refl, subst, ℕ, ◌≤◌, ◌<◌, ◌+◌, List, [], ◌∷◌, ◌++◌, append_assoc, flat_map, map, reverse, take, slice_get, get_or, length, Option, Some, None, inl, inr, Result, OnOk}
+use Rattle.std.proofs.lemmas.Grind.{flat_map-append}
+use Rattle.std.proofs.lemmas.List.{append-nil, reverse-append, reverse-reverse, take_all, take_more}
 use Rattle.std.proofs.lemmas.Option.{get_or_from_slice_get, slice_get_cases, slice_get_within}
 use Rattle.json.specs.Token.{Token}
 use Rattle.json.specs.Token as token
@@ -41,12 +42,17 @@ module _ {A : Type 0} (f : A → Data) where
       let items : Added b d (all_tokens f (below ++ top ∷ [])) = subst (Added b d) (sym (more_items f below top)) (after all last) in
       subst (λ xs. OnOk r (Added a e (data_tokens (list_data f xs)))) (sym same) (list_whole f (below ++ top ∷ []) r a b d e opened items closed)
 
+  -- one element more
+  pub item_more : (xs : List A) (i : ℕ) (e : A) (a b c : Written) → i < length xs → Added a b (all_tokens f (take i xs)) → Added b c (data_tokens (f (get_or xs i e)))
+      → Added a c (all_tokens f (take (i + 1) xs))
+  item_more xs i e a b c lt before last =
+      subst (λ ys. Added a c (all_tokens f ys)) (sym (take_more xs i e lt)) (subst (Added a c) (sym (more_items f (take i xs) (get_or xs i e))) (after before last))
+
   -- one row more
   pub row_more : (xs : List A) (i : ℕ) (x : A) (a b c : Written) → slice_get xs i ≡ Some x → Added a b (all_tokens f (take i xs)) → Added b c (data_tokens (f x))
       → Added a c (all_tokens f (take (i + 1) xs))
   row_more xs i x a b c there before last =
-      let all : take (i + 1) xs ≡ take i xs ++ x ∷ [] = take_more xs i x (slice_get_within xs i x there) ∙ ap (λ y. take i xs ++ y ∷ []) (get_or_from_slice_get xs i x x there) in
-      subst (λ ys. Added a c (all_tokens f ys)) (sym all) (subst (Added a c) (sym (more_items f (take i xs) x)) (after before last))
+      item_more xs i x a b c (slice_get_within xs i x there) before (subst (λ y. Added b c (data_tokens (f y))) (sym (get_or_from_slice_get xs i x x there)) last)
 
   -- past the last row
   pub row_last : (xs : List A) (i : ℕ) (a b : Written) → slice_get xs i ≡ None → Added a b (all_tokens f (take i xs)) → Added a b (all_tokens f xs)
@@ -70,6 +76,15 @@ temps_are (r ∷ rs) = ap (λ l. row_tokens r ++ l) (temps_are rs) ∙ sym (appe
 -- the front of the member, as it is written
 abbrev pub temps_front : List ℕ → Values → List Token
 temps_front name rs = token.key name ∷ token.begin_object ∷ flat_map row_tokens rs
+
+-- a row more is written
+pub temps_more : (name : List ℕ) (rs : Values) (i : ℕ) (r : List ℕ × Value) (a b c : Written) → i < length rs → Added a b (temps_front name (take i rs))
+    → Added b c (row_tokens (get_or rs i r)) → Added a c (temps_front name (take (i + 1) rs))
+temps_more name rs i r a b c lt before last =
+    let all : flat_map row_tokens (take (i + 1) rs) ≡ flat_map row_tokens (take i rs) ++ row_tokens (get_or rs i r) =
+    ap (flat_map row_tokens) (take_more rs i r lt) ∙ flat_map-append row_tokens (take i rs) (get_or rs i r ∷ [])
+    ∙ ap (λ l. flat_map row_tokens (take i rs) ++ l) (append-nil (row_tokens (get_or rs i r))) in
+    subst (λ ts. Added a c (token.key name ∷ token.begin_object ∷ ts)) (sym all) (after before last)
 
 pub temps_end : {E : Type 0} (name : List ℕ) (rs : Values) (i : ℕ) (r : Result (Unit {0}) E) (a b c : Written) → length rs ≤ i → Added a b (temps_front name (take i rs))
     → OnOk r (Added b c (token.end_object ∷ [])) → OnOk r (Added a c (token.key name ∷ data_tokens (object (temps_members rs))))

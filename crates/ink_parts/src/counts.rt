@@ -2,7 +2,8 @@
 
 ghost use Rattle.std.specs.Prelude.{◌≡◌, ◌∷◌, IfOk, OnOk, flat_map, map};
 ghost use Rattle.json.specs.Token as tokens;
-ghost use Rattle.serde_json.specs.View.{view};
+ghost use Rattle.serde_json.specs.Data as entries;
+ghost use Rattle.serde_json.specs.View.{members_view, view};
 ghost use Rattle.ink_model.specs.Save.Spelling.{list_data, place_data, row_data};
 ghost use Rattle.ink_parts.specs.Counted.{place_at, rows_at};
 ghost use Rattle.ink_model.specs.Tree.{StoryTree};
@@ -15,20 +16,23 @@ use crate::written::Written;
 use ink_tokens::{put, put_natural};
 use ink_tree::{NodeId, Spot, Tree};
 use json::{Token, Writer};
-use serde_json::{Number, Value as Json};
+use serde_json::{Map, Number, Value as Json, put as put_entry};
 use std::alloc::{AllocError, Global};
 
-/// Counts by the numbers of containers, in their order. The one error is a refused
-/// request for memory.
-pub(crate) fn write_counts(
+/// Puts the member of this name with counts by the numbers of containers, in their order. The one error is a refused request for
+/// memory.
+pub(crate) fn add_counts(
     alloc: Global,
     tree: &Tree,
+    members: &mut Map<String, Json>,
+    name: &str,
     slots: &[Option<u32>],
-) -> Result<Json, AllocError>
-    ensures { let s = story_tree tree.now in IfOk result (λ json. view json ≡ list_data row_data (rows_at s (rows_from 0 slots.now))) }
+) -> Result<(), AllocError>
+    ensures { let counts = list_data row_data (rows_at (story_tree tree.now) (rows_from 0 slots.now)) in
+        OnOk result (members_view members.new.entries ≡ entries.put name.now counts (members_view members.old.entries)) }
 {
     let made = write_slots(alloc, tree, slots)?;
-    Ok(Json::Array(made))
+    put_entry(members, alloc, name, Json::Array(made))
 }
 
 // The JSON values of counts. The one error is a refused request for memory.

@@ -10,10 +10,8 @@ ghost use Rattle.ink_parts.specs.Parts.{flows_members, row_in};
 ghost use Rattle.ink_tokens.specs.Tokens.{Added, data_tokens};
 ghost use Rattle.ink_tree.specs.Nodes.{story_tree};
 
-use crate::choices::{put_choices, write_choices};
-use crate::frames::{put_threads, write_threads};
-use crate::stacks::{put_stack, write_stack};
-use crate::writing::write_text;
+use crate::members::{add_flag, add_text};
+use crate::written::{add_member, put_member};
 use ink_flows::{Aside, Flow};
 use ink_tokens::{put, put_flag, put_text};
 use ink_tree::Tree;
@@ -35,8 +33,7 @@ pub(crate) fn add_flows(
 {
     let flows = write_flows(alloc, tree, current, aside)?;
     put_entry(members, alloc, "flows", flows)?;
-    let name = write_text(alloc, aside.current_name())?;
-    put_entry(members, alloc, "current", name)
+    add_text(alloc, members, "current", aside.current_name())
 }
 
 // All flows, in order of making. The one error is a refused request for memory.
@@ -54,7 +51,6 @@ fn write_flows(
 }
 
 // The JSON values of all flows. The one error is a refused request for memory.
-#[tactic(auto, using(crate::proofs::Arrays::row_more, crate::proofs::Arrays::row_last))]
 fn write_rows(
     alloc: Global,
     tree: &Tree,
@@ -101,8 +97,7 @@ fn write_named(alloc: Global, tree: &Tree, name: &str, flow: &Flow) -> Result<Js
     ensures { IfOk result (λ json. view json ≡ named_flow_data (name.now, flow_of (story_tree tree.now) flow.now)) }
 {
     let mut members = Map::new(alloc);
-    let name = write_text(alloc, name)?;
-    put_entry(&mut members, alloc, "name", name)?;
+    add_text(alloc, &mut members, "name", name)?;
     add_flow(alloc, tree, &mut members, flow)?;
     Ok(Json::Object(members))
 }
@@ -116,13 +111,10 @@ fn add_flow(
 ) -> Result<(), AllocError>
     ensures { OnOk result (members_view members.new.entries ≡ flow_members (flow_of (story_tree tree.now) flow.now) (members_view members.old.entries)) }
 {
-    let threads = write_threads(alloc, tree, &flow.threads)?;
-    put_entry(members, alloc, "threads", threads)?;
-    let stack = write_stack(alloc, tree, &flow.stack)?;
-    put_entry(members, alloc, "stack", stack)?;
-    put_entry(members, alloc, "safe", Json::Bool(flow.safe))?;
-    let choices = write_choices(alloc, tree, &flow.choices)?;
-    put_entry(members, alloc, "choices", choices)
+    add_member(alloc, tree, members, "threads", &flow.threads)?;
+    add_member(alloc, tree, members, "stack", &flow.stack)?;
+    add_flag(alloc, members, "safe", flow.safe)?;
+    add_member(alloc, tree, members, "choices", &flow.choices)
 }
 
 // ---- as their text
@@ -188,10 +180,10 @@ fn put_named(
     ensures { OnOk result (Added out.old out.new (data_tokens (named_flow_data (name.now, flow_of (story_tree tree.now) flow.now)))) }
 {
     put(out, Token::BeginObject)?;
-    put_choices(alloc, tree, out, &flow.choices)?;
+    put_member(alloc, tree, out, "choices", &flow.choices)?;
     put_text(out, "name", name)?;
     put_flag(out, "safe", flow.safe)?;
-    put_stack(alloc, tree, out, &flow.stack)?;
-    put_threads(alloc, tree, out, &flow.threads)?;
+    put_member(alloc, tree, out, "stack", &flow.stack)?;
+    put_member(alloc, tree, out, "threads", &flow.threads)?;
     put(out, Token::EndObject)
 }

@@ -12,13 +12,14 @@ ghost use Rattle.ink_parts.specs.Words.{frame_members, put_all};
 ghost use Rattle.ink_tokens.specs.Tokens.{Added, data_tokens};
 ghost use Rattle.ink_tree.specs.Nodes.{place_of, story_tree};
 
+use crate::members::{add_flag, add_number};
 use crate::written::{Written, add_member, put_member, put_pile, write_pile};
 use ink_model::{Shared, Text, Value};
 use ink_stack::{Frame, Running, Thread, Threads};
 use ink_tokens::{put, put_flag, put_number};
 use ink_tree::{Spot, Tree};
 use json::{Token, Writer};
-use serde_json::{Map, Number, Value as Json, put as put_entry};
+use serde_json::{Map, Value as Json, put as put_entry};
 use std::alloc::{AllocError, Global};
 
 impl Written for Frame<Spot> {
@@ -51,14 +52,12 @@ fn add_frame(
 ) -> Result<(), AllocError>
     ensures { OnOk result (members_view members.new.entries ≡ frame_members (map_frame (place_of (story_tree tree.now)) frame.now) (members_view members.old.entries)) }
 {
-    let depth = Json::Number(Number::from(frame.depth()));
-    put_entry(members, alloc, "depth", depth)?;
-    put_entry(members, alloc, "eval", Json::Bool(frame.is_evaluating()))?;
-    put_entry(members, alloc, "fresh", Json::Bool(frame.is_fresh()))?;
+    add_number(alloc, members, "depth", frame.depth() as u64)?;
+    add_flag(alloc, members, "eval", frame.is_evaluating())?;
+    add_flag(alloc, members, "fresh", frame.is_fresh())?;
     add_member(alloc, tree, members, "kind", &frame.kind())?;
     add_member(alloc, tree, members, "place", &frame.place())?;
-    let temps = write_temps(alloc, tree, frame.temps())?;
-    put_entry(members, alloc, "temps", temps)
+    add_temps(alloc, tree, members, frame.temps())
 }
 
 // The member with temporaries. The one error is a refused request for memory.
@@ -78,17 +77,18 @@ fn put_temps(
     put(out, Token::EndObject)
 }
 
-// Temporaries, which rise by name. The one error is a refused request for memory.
-fn write_temps(
+// Puts the member with temporaries, which rise by name. The one error is a refused request for memory.
+fn add_temps(
     alloc: Global,
     tree: &Tree,
+    members: &mut Map<String, Json>,
     rows: &[(Shared<Text>, Value)],
-) -> Result<Json, AllocError>
+) -> Result<(), AllocError>
     requires { rows_rise name_order rows.now ≡ true }
-    ensures { IfOk result (λ json. view json ≡ object (temps_members rows.now)) }
+    ensures { OnOk result (members_view members.new.entries ≡ entries.put (codes "temps") (object (temps_members rows.now)) (members_view members.old.entries)) }
 {
-    let members = put_rows(alloc, tree, rows)?;
-    Ok(Json::Object(members))
+    let temps = put_rows(alloc, tree, rows)?;
+    put_entry(members, alloc, "temps", Json::Object(temps))
 }
 
 // The members that rows are, put one by one. The one error is a refused request for memory.
@@ -229,26 +229,15 @@ fn write_frames(
     write_pile(alloc, tree, below, top)
 }
 
-/// Threads, the bottom one first. The one error is a refused request for memory.
-pub(crate) fn write_threads(
-    alloc: Global,
-    tree: &Tree,
-    threads: &Threads<Spot>,
-) -> Result<Json, AllocError>
-    ensures { IfOk result (λ json. view json ≡ threads_data (map_threads (place_of (story_tree tree.now)) threads.now.threads)) }
-{
-    write_pile(alloc, tree, threads.below(), threads.top())
-}
+/// Threads, the bottom one first.
+impl Written for Threads<Spot> {
+    ghost spelling = { λ s threads. threads_data (map_threads (place_of s) threads.threads) };
 
-/// The member with threads, the bottom one first. The one error is a refused request for memory.
-pub(crate) fn put_threads(
-    alloc: Global,
-    tree: &Tree,
-    out: &mut Writer,
-    threads: &Threads<Spot>,
-) -> Result<(), AllocError>
-    ensures { OnOk result (Added out.old out.new (tokens.key (codes "threads") ∷ data_tokens (threads_data (map_threads (place_of (story_tree tree.now)) threads.now.threads)))) }
-{
-    put(out, Token::Key("threads"))?;
-    put_pile(alloc, tree, out, threads.below(), threads.top())
+    fn write(&self, alloc: Global, tree: &Tree) -> Result<Json, AllocError> {
+        write_pile(alloc, tree, self.below(), self.top())
+    }
+
+    fn put(&self, alloc: Global, tree: &Tree, out: &mut Writer) -> Result<(), AllocError> {
+        put_pile(alloc, tree, out, self.below(), self.top())
+    }
 }

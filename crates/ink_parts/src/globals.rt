@@ -25,7 +25,6 @@ pub fn write_globals(alloc: Global, tree: &Tree, globals: &Globals) -> Result<Js
 }
 
 // The JSON values of globals. The one error is a refused request for memory.
-#[tactic(auto, using(crate::proofs::Arrays::row_more, crate::proofs::Arrays::row_last))]
 fn write_rows(alloc: Global, tree: &Tree, globals: &Globals) -> Result<Vec<Json>, AllocError>
     ensures { IfOk result (λ made. map view made.items ≡ map global_data globals.now.rows) }
 {

@@ -7,10 +7,11 @@ mod flows;
 mod frames;
 mod globals;
 mod kept;
+mod lists;
+mod members;
 mod placed;
 mod printing;
 mod saving;
-mod stacks;
 mod writing;
 mod written;
 

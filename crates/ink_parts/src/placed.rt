@@ -66,7 +66,6 @@ fn write_parts(alloc: Global, tree: &Tree, spot: Spot) -> Result<Vec<Json>, Allo
 }
 
 // The parts of the place at an index in a content. The one error is a refused request for memory.
-#[tactic(auto, using(crate::proofs::Arrays::one_more))]
 fn write_under(
     alloc: Global,
     tree: &Tree,
@@ -82,7 +81,6 @@ fn write_under(
 
 // The parts of a content's place, the root's first, with room for so many more: each goes into room that was asked for once.
 // The one error is a refused request for memory.
-#[tactic(auto, using(crate::proofs::Arrays::one_more))]
 fn write_node(
     alloc: Global,
     tree: &Tree,

@@ -7,12 +7,13 @@ ghost use Rattle.ink_parts.specs.Parts.{kept_as};
 ghost use Rattle.ink_parts.specs.Words.{shared_members};
 ghost use Rattle.ink_tree.specs.Nodes.{story_tree};
 
-use crate::counts::write_counts;
+use crate::counts::add_counts;
 use crate::flows::add_flows;
 use crate::globals::write_globals;
 use crate::kept::Kept;
+use crate::members::add_number;
 use ink_tree::Tree;
-use serde_json::{Map, Number, Value as Json, put as put_entry};
+use serde_json::{Map, Value as Json, put as put_entry};
 use std::alloc::{AllocError, Global};
 
 /// What a save keeps as a JSON value. The one error is a refused request for memory.
@@ -34,13 +35,10 @@ fn add_shared(
 ) -> Result<(), AllocError>
     ensures { OnOk result (members_view members.new.entries ≡ shared_members (kept_as (story_tree tree.now) kept.now).now.shared (members_view members.old.entries)) }
 {
-    put_entry(members, alloc, "format", Json::Number(Number::from(2u32)))?;
+    add_number(alloc, members, "format", 2)?;
     let globals = write_globals(alloc, tree, kept.globals)?;
     put_entry(members, alloc, "globals", globals)?;
-    let turn = Json::Number(Number::from(kept.turn.number()));
-    put_entry(members, alloc, "turn", turn)?;
-    let turns = write_counts(alloc, tree, kept.turns)?;
-    put_entry(members, alloc, "turns", turns)?;
-    let visits = write_counts(alloc, tree, kept.visits)?;
-    put_entry(members, alloc, "visits", visits)
+    add_number(alloc, members, "turn", kept.turn.number() as u64)?;
+    add_counts(alloc, tree, members, "turns", kept.turns)?;
+    add_counts(alloc, tree, members, "visits", kept.visits)
 }

@@ -7,6 +7,7 @@ ghost use Rattle.ink_model.specs.ValueJson.{value_data};
 ghost use Rattle.ink_model.specs.Save.Spelling.{kind_data};
 ghost use Rattle.ink_model.specs.declared.value.Value.TheVariants.{Pointer, Target};
 
+use crate::members::add_text;
 use crate::written::Written;
 use ink_model::{FrameKind, Path, Shared, Text, Value};
 use ink_path::print_path;
@@ -90,9 +91,8 @@ fn write_target(alloc: Global, path: &Path) -> Result<Json, AllocError>
 fn write_member(alloc: Global, name: &str, text: &str) -> Result<Json, AllocError>
     ensures { IfOk result (λ json. view json ≡ object (member name.now (string text.now) no_members)) }
 {
-    let value = write_text(alloc, text)?;
     let mut members = Map::new(alloc);
-    put_entry(&mut members, alloc, name, value)?;
+    add_text(alloc, &mut members, name, text)?;
     Ok(Json::Object(members))
 }
 
@@ -100,9 +100,8 @@ fn write_member(alloc: Global, name: &str, text: &str) -> Result<Json, AllocErro
 fn write_pointer(alloc: Global, frame: i32, name: &str) -> Result<Json, AllocError>
     ensures { IfOk result (λ json. view json ≡ value_data (Pointer frame name.now)) }
 {
-    let name = write_text(alloc, name)?;
     let mut members = Map::new(alloc);
-    put_entry(&mut members, alloc, "var", name)?;
+    add_text(alloc, &mut members, "var", name)?;
     put_entry(&mut members, alloc, "ci", Json::Number(Number::from(frame)))?;
     Ok(Json::Object(members))
 }

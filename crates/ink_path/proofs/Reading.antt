@@ -11,6 +11,7 @@ use Rattle.ink_model.specs.Bytes.{onto, pieces, is_digit, is_dot, number_from}
 use Rattle.ink_model.specs.Path.{component, components, path_with, read_path}
 use Rattle.ink_model.specs.declared.place.Part.{Part}
 use Rattle.ink_model.specs.declared.place.Part.TheVariants.{Index, Name}
+use Rattle.ink_model.specs.declared.place.Path.{Path}
 use Rattle.ink_path.specs.Components.{behind_dot, is_relative}
 use Rattle.ink_path.specs.Laws.{index_of}
 
@@ -155,3 +156,7 @@ not_relative (c ∷ cs) h = sym (ne_eqb c 46 (λ e. h cs (ap (λ d. d ∷ cs) e)
 pub all_behind : (cs : List ℕ) → ((rest : List ℕ) → cs ≢ 46 ∷ rest) → cs ≡ behind_dot cs
 all_behind [] h = refl
 all_behind (c ∷ cs) h = rw (ne_eqb c 46 (λ e. h cs (ap (λ d. d ∷ cs) e))) refl
+
+pub no_path : (p : Option Path) → is_some p ≡ false → p ≡ None
+no_path None h = refl
+no_path (Some p) h = absurd (cc)

@@ -1,11 +1,12 @@
 //! Paths as they are written (docs/STORY_FORMAT.md, "Paths").
 
-ghost use Rattle.std.specs.Prelude.{◌≡◌, ◌≢◌, ◌⊎◌, ◌<◌, length, None, Some, IsSome, is_some, true, [], ◌++◌, decimal, map, IfOk, IfErr, OnErr, OnOk, string_bytes};
+ghost use Rattle.std.specs.Prelude.{◌≡◌, ◌≢◌, ◌⊎◌, ◌<◌, length, None, Some, IsSome, is_some, true, [], ◌∷◌, ◌++◌, decimal, map, IfOk, IfErr, OnErr, OnOk, string_bytes};
 ghost use Rattle.std.specs.List.{list_all};
 ghost use Rattle.ink_model.specs.Bytes.{joined, pieces, is_digit, is_dot};
 ghost use Rattle.ink_model.specs.Grammar.{here};
 ghost use Rattle.ink_model.specs.Path as rules;
 ghost use Rattle.ink_model.specs.declared.fault.Cause.TheVariants.{BadPath, OutOfMemory};
+ghost use Rattle.ink_model.specs.declared.place.Part.{Part as Component};
 ghost use Rattle.ink_path.specs.Components.{behind_dot, is_relative};
 ghost use Rattle.ink_path.specs.Laws.{ReadsBack, dot_before, index_of};
 
@@ -137,11 +138,21 @@ fn components(alloc: Global, text: &str) -> Result<Seq<Part>, AllocError>
     let mut parts = Vec::new(alloc);
     let mut rest = text;
     while let Some((first, others)) = rest.split_once('.') {
-        parts.push(component(alloc, first)?)?;
+        push_component(alloc, &mut parts, first)?;
         rest = others;
     }
-    parts.push(component(alloc, rest)?)?;
+    push_component(alloc, &mut parts, rest)?;
     Ok(Seq::from_vec(parts))
+}
+
+// The component that a text is, behind others.
+#[inline(always)]
+fn push_component(alloc: Global, parts: &mut Vec<Part>, text: &str) -> Result<(), AllocError>
+    requires { is_some (rules.component text.now) ≡ true }
+    ensures { OnOk result ((part : Component) × (Some part ≡ rules.component text.now) × (parts.new.items ≡ parts.old.items ++ part ∷ [])) }
+{
+    parts.push(component(alloc, text)?)?;
+    Ok(())
 }
 
 // The component that a text is.

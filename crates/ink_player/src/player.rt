@@ -157,8 +157,9 @@ impl<P: PureFn, F: TurnFn, O: Watcher> Player<P, F, O> {
     /// Refused: `Broken` after a fault, `CannotContinue` where flow has stopped. Nothing has changed then.
     ///
     /// Faults, which break the player: that of a step that faulted with no newline open; `OutOfSteps` after 1,000,000 steps without
-    /// one; `OutOfMemory` where memory was refused to a step, to a look past a newline at a step that calls no turn function, to the
-    /// passage, or to a watcher. In the last case the line stands, and all other watchers are told.
+    /// one; `OutOfMemory` where memory was refused to a step, for what came of its call, to a look past a newline at a step that calls
+    /// no turn function, for the passage, for telling, or to a watcher. In the last case the line stands, and all other watchers are
+    /// told.
     ///
     /// What happened with the objects of the host is among the answer's events, also after a fault. A fault of a step, of the passage
     /// or of room for telling tells no watcher (docs/HOST.md).
@@ -177,7 +178,8 @@ impl<P: PureFn, F: TurnFn, O: Watcher> Player<P, F, O> {
     /// Refused: `Broken` after a fault, `CannotContinue` where flow has stopped. Nothing has changed then.
     ///
     /// Faults, which break the player: that of the step that faulted; `OutOfSteps` after 1,000,000 steps; `OutOfMemory` where memory
-    /// was refused to a step, to the passage, or to a watcher. In the last case the run stands, and all other watchers are told.
+    /// was refused to a step, for what came of its call, for the passage, for telling, or to a watcher. In the last case the run
+    /// stands, and all other watchers are told.
     ///
     /// What happened with the objects of the host is among the answer's events, also after a fault. A fault of a step, of the passage
     /// or of room for telling tells no watcher (docs/HOST.md).
@@ -465,8 +467,8 @@ impl<P: PureFn, F: TurnFn, O: Watcher> Player<P, F, O> {
 
     /// Goes to the flow of a name, and makes it at the story's start where there is none (docs/RUNNING.md, "Flows"): the current one is
     /// left as it is, and globals, counts and the turn are those of all. Refused with `Broken` after a fault, with `BadValue` where
-    /// the name is empty, has a space or a newline, or is over a text's limit, with `TooManyFlows` where 100 are there, and with
-    /// `OutOfMemory` where memory for a new one was refused; nothing has changed then.
+    /// the name is empty, has a space or a newline, or is over a text's limit, with `TooManyFlows` where one would be made and 100
+    /// are there, and with `OutOfMemory` where memory for a new one was refused; nothing has changed then.
     #[inline(never)]
     pub fn flow(&mut self, name: &str) -> Result<(), Refusal>
         ensures does { GoesToFlow (story_of self.old) name.now (state_of self.old) (reply_of_landing result) (state_of self.new) }

@@ -1,5 +1,5 @@
 -- The text of answers.
-use Rattle.std.proofs.Common.{◌≡◌, ◌∙◌, ◌<◌, ◌≤◌, add-one, drop, get_or, suc, refl, sym, ap, Result, Ok, Err, OnOk, ℕ, ℤ, pos, negsuc, ◌+◌, ◌-◌, List, [], ◌∷◌, ◌++◌, length, take, map, append_assoc, arith, codes, Bool, true, false}
+use Rattle.std.proofs.Common.{◌≡◌, ◌∙◌, ◌<◌, ◌≤◌, add-one, drop, get_or, suc, refl, sym, ap, Result, Ok, Err, OnOk, is_ok, if◌then◌else◌, ℕ, ℤ, pos, negsuc, ◌+◌, ◌-◌, List, [], ◌∷◌, ◌++◌, length, take, map, append_assoc, arith, codes, Bool, true, false}
 use Rattle.std.proofs.Math.Seq.{drop-cons, take-append_seam}
 use Rattle.std.proofs.lemmas.Grind.{flat_map-append}
 use Rattle.std.proofs.lemmas.List.{drop_all, length-append}
@@ -129,7 +129,21 @@ passage_from p choices text middle a b same_choices same_text front told =
     let b_is : b ≡ (start ++ list) ++ middle = told ∙ ap (λ x. x ++ middle) (front ∙ ap choices_front same_choices) in
     sym (ap (λ t. b ++ (compact_text (string t) ++ codes "}\n")) same_text ∙ ap (λ x. x ++ closed) b_is ∙ append_assoc (start ++ list) middle closed ∙ append_assoc start list (middle ++ closed))
 
+-- ---- texts that are written where memory is found
+
+-- what was written is there
+pub on_ok : {A E : Type 0} (r : Result A E) (new written old : List ℕ) → new ≡ (if is_ok r then written else old) → OnOk r (new ≡ written)
+on_ok (Ok v) new written old is = is
+on_ok (Err e) new written old is = tt
+
 -- a text that is made is the answer too that is this text
 pub made_as : {A E : Type 0} (r : Result A E) (items text answer : List ℕ) → OnOk r (items ≡ text) → answer ≡ text → OnOk r (items ≡ answer)
 made_as (Ok v) items text answer made same = made ∙ sym same
 made_as (Err e) items text answer made same = made
+
+-- a text between two others
+pub between : {A E : Type 0} (r : Result A E) (line front text end one two all : List ℕ) → one ≡ line ++ front → two ≡ one ++ text → OnOk r (all ≡ two ++ end)
+    → OnOk r (all ≡ line ++ (front ++ (text ++ end)))
+between r line front text end one two all first second last =
+    made_as r all (two ++ end) _ last
+    (sym (ap (λ l. l ++ end) (second ∙ ap (λ l. l ++ text) first) ∙ append_assoc (line ++ front) text end ∙ append_assoc line front (text ++ end)))

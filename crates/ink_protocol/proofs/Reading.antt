@@ -108,6 +108,10 @@ has_room a b o n limit few m =
     room_first limit o.spare m.part n.unread m.some m.takes.plain (omega (arith, m.takes.room, length-append m.part n.unread))
     (omega (arith, m.takes.takes.count, m.within, length-append m.part n.unread))
 
+pub none_unread : (unread : List ℕ) → length unread ≡ 0 → unread ≡ []
+none_unread [] h = refl
+none_unread (byte ∷ bytes) h = let no : ⊥ = omega arith in absurd no
+
 -- ---- the first newline
 
 not_true : (b : Bool) → (b ≡ true → ⊥) → b ≡ false
@@ -154,3 +158,14 @@ cuts_newline old mid new bytes n same is rest count last one =
       count = omega (arith, count, one, length-take n old.unread, length-append (take n old.unread) (10 ∷ []));
       plain = ap (λ l. has_newline (take n l)) (sym same) ∙ is.0;
     }
+
+-- the newline itself is left
+pub newline_left : (n : ℕ) (bytes unread rest : List ℕ) → bytes ≡ unread → IsNewlineAt bytes n → rest ≡ drop n unread → 0 < length rest
+newline_left n bytes unread rest same is left =
+    let newline : drop n unread ≡ 10 ∷ drop (n + 1) unread = subst (λ l. drop n l ≡ 10 ∷ drop (n + 1) l) same is.1 in
+    omega (arith, ap length (left ∙ newline))
+
+-- all before the newline
+pub cuts_before : (old new : Buffered) (bytes : List ℕ) (n : ℕ) → bytes ≡ old.unread → IsNewlineAt bytes n → new.unread ≡ drop n old.unread → new.spare + n ≡ old.spare
+    → CutsOff old new (take n old.unread) (take n old.unread)
+cuts_before old new bytes n same is rest count = cuts_off old new bytes n same is.0 (omega (arith, is.2, ap length same)) rest count

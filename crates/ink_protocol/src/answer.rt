@@ -2,7 +2,7 @@
 
 ghost use Rattle.std.specs.Fmt.{signed_decimal};
 ghost use Rattle.std.specs.Prelude.{◌≡◌, [], ◌∷◌, ◌++◌, OnOk, IfOk, IfNone, IfSome, true, false, map, codes, pos};
-ghost use Rattle.json.specs.Print.{escape};
+ghost use Rattle.json.specs.Print.{escape, print};
 ghost use Rattle.json.specs.Token as tokens;
 ghost use Rattle.serde_json.specs.Data.{Data, array, number, string};
 ghost use Rattle.serde_json.specs.Find.{of_integer};
@@ -12,7 +12,7 @@ ghost use Rattle.ink_model.specs.Events.{call_data, event_data};
 ghost use Rattle.ink_model.specs.Host.{value_given};
 ghost use Rattle.ink_model.specs.ValueJson.{value_data};
 ghost use Rattle.ink_protocol.specs.Answers.{choices_front, outcome_tokens, passage_line, quiet_middle, values_text};
-ghost use Rattle.ink_protocol.specs.Replies.{HasTextOf, IsTextOf, is_long, reply_by, reply_of_text};
+ghost use Rattle.ink_protocol.specs.Replies.{HasTextOf, is_long, reply_by};
 ghost use Rattle.ink_tokens.specs.Tokens.{Added, data_tokens};
 
 use crate::plain::is_plain;
@@ -23,7 +23,6 @@ use std::alloc::{AllocError, Global};
 use std::mem;
 
 /// What a command's call returned, or its refusal where none was made.
-#[derive(Drop)]
 pub enum Outcome {
     Passage(Result<Passage, Halt>),
     Events(Result<Seq<Event>, Halt>),
@@ -32,6 +31,20 @@ pub enum Outcome {
     Landing(Result<(), Refusal>),
     Saved(Result<Text, Refusal>),
     Refused(Refusal),
+}
+
+/// Written out, so that wherever one is let go that is one call, and a proof there does not go through what was returned.
+impl Drop for Outcome {
+    #[inline(always)]
+    fn drop(self) {
+        match self {
+            Outcome::Passage(_) => {}
+            Outcome::Events(_) => {}
+            Outcome::Value(_) => {}
+            Outcome::Visits(_) | Outcome::Landing(_) | Outcome::Refused(_) => {}
+            Outcome::Saved(_) => {}
+        }
+    }
 }
 
 /// The line that is written where a command's call was done and tells nothing, its newline at the end; none of any other
@@ -99,7 +112,7 @@ pub fn answer_text(alloc: Global, buffer: &mut Vec<u8>, outcome: Outcome) -> Res
     buffer.clear();
     match told_number(&outcome) {
         Some((front, number)) => put_number(buffer, front, number),
-        None => put_replied(alloc, buffer, outcome),
+        None => put_replied(alloc, buffer, &outcome),
     }
 }
 
@@ -120,10 +133,25 @@ fn put_number(line: &mut Vec<u8>, front: &str, number: i32) -> Result<(), AllocE
     ensures { OnOk result (line.new.items ≡ front.now ++ (signed_decimal number ++ codes "}\n")) }
 {
     let mut digits = itoa::Buffer::new();
-    line.extend_from_slice(front.as_bytes())?;
-    line.extend_from_slice(digits.format(number).as_bytes())?;
-    line.extend_from_slice(b"}\n")?;
-    Ok(())
+    put_between(line, front, digits.format(number), "}\n")
+}
+
+// A text between two others, behind what is written already.
+#[inline(always)]
+fn put_between(line: &mut Vec<u8>, front: &str, text: &str, end: &str) -> Result<(), AllocError>
+    ensures { OnOk result (line.new.items ≡ line.old.items ++ (front.now ++ (text.now ++ end.now))) }
+{
+    append(line, front)?;
+    append(line, text)?;
+    append(line, end)
+}
+
+// A text, behind what is written already.
+#[inline(always)]
+fn append(line: &mut Vec<u8>, text: &str) -> Result<(), AllocError>
+    ensures { OnOk result (line.new.items ≡ line.old.items ++ text.now) }
+{
+    line.extend_from_slice(text.as_bytes())
 }
 
 // What stands between the choices of a passage and its text, if it has no events and no tags.
@@ -172,7 +200,7 @@ fn put_quiet(
     ensures { OnOk result (line.new.items ≡ passage_line passage.now middle.now) }
 {
     put_choices(alloc, line, passage.choices.as_slice())?;
-    line.extend_from_slice(middle.as_bytes())?;
+    append(line, middle)?;
     close_text(alloc, line, passage.text.as_str())
 }
 
@@ -182,10 +210,9 @@ fn put_choices(alloc: Global, line: &mut Vec<u8>, choices: &[Shown]) -> Result<(
     ensures { OnOk result (line.new.items ≡ choices_front choices.now) }
 {
     if has_none(choices) {
-        line.extend_from_slice(b"{\"choices\":[]")?;
-        return Ok(());
+        return append(line, "{\"choices\":[]");
     }
-    line.extend_from_slice(b"{\"choices\":[")?;
+    append(line, "{\"choices\":[")?;
     put_shown_all(alloc, line, choices)
 }
 
@@ -229,10 +256,7 @@ fn put_plain_choice(line: &mut Vec<u8>, text: &str) -> Result<(), AllocError>
     requires { escape text.now ≡ text.now }
     ensures { OnOk result (line.new.items ≡ line.old.items ++ compact_text (shown_data (record { tags = []; text = text.now }))) }
 {
-    line.extend_from_slice(b"{\"tags\":[],\"text\":\"")?;
-    line.extend_from_slice(text.as_bytes())?;
-    line.extend_from_slice(b"\"}")?;
-    Ok(())
+    put_between(line, "{\"tags\":[],\"text\":\"", text, "\"}")
 }
 
 // The same of any choice.
@@ -240,10 +264,18 @@ fn put_plain_choice(line: &mut Vec<u8>, text: &str) -> Result<(), AllocError>
 fn shown_behind(alloc: Global, line: &mut Vec<u8>, choice: &Shown) -> Result<(), AllocError>
     ensures { OnOk result (line.new.items ≡ line.old.items ++ compact_text (shown_data choice.now)) }
 {
-    let mut out = Writer::new(mem::replace(line, Vec::new(alloc)));
+    let mut out = writer_behind(alloc, line);
     choice.put(alloc, &mut out)?;
     *line = out.into_inner();
     Ok(())
+}
+
+// A writer of JSON that has taken what is written already, and writes behind it.
+fn writer_behind(alloc: Global, line: &mut Vec<u8>) -> Writer
+    ensures before { result.before ≡ line.old.items }
+    ensures tokens { result.tokens ≡ [] }
+{
+    Writer::new(mem::replace(line, Vec::new(alloc)))
 }
 
 // A string, and what closes the answer, behind what is written already. A string that ends in a newline, as each line of a story
@@ -273,9 +305,8 @@ fn close_plain(line: &mut Vec<u8>, front: &str) -> Result<(), AllocError>
     ensures { OnOk result (line.new.items ≡ line.old.items ++ (compact_text (string (front.now ++ codes "\n")) ++ codes "}\n")) }
 {
     line.push(b'"')?;
-    line.extend_from_slice(front.as_bytes())?;
-    line.extend_from_slice(b"\\n\"}\n")?;
-    Ok(())
+    append(line, front)?;
+    append(line, "\\n\"}\n")
 }
 
 // The same of any string and a newline: the newline stands in the place of the quote behind the string.
@@ -285,8 +316,7 @@ fn close_escaped(alloc: Global, line: &mut Vec<u8>, front: &str) -> Result<(), A
 {
     string_behind(alloc, line, front)?;
     line.truncate(line.len() - 1);
-    line.extend_from_slice(b"\\n\"}\n")?;
-    Ok(())
+    append(line, "\\n\"}\n")
 }
 
 #[inline(never)]
@@ -294,16 +324,15 @@ fn close_string(alloc: Global, line: &mut Vec<u8>, text: &str) -> Result<(), All
     ensures { OnOk result (line.new.items ≡ line.old.items ++ (compact_text (string text.now) ++ codes "}\n")) }
 {
     string_behind(alloc, line, text)?;
-    line.extend_from_slice(b"}\n")?;
-    Ok(())
+    append(line, "}\n")
 }
 
 // The text of a string, behind what is written already.
 fn string_behind(alloc: Global, line: &mut Vec<u8>, text: &str) -> Result<(), AllocError>
     ensures { OnOk result (line.new.items ≡ line.old.items ++ compact_text (string text.now)) }
 {
-    let mut out = Writer::new(mem::replace(line, Vec::new(alloc)));
-    put(&mut out, Token::String(text))?;
+    let mut out = writer_behind(alloc, line);
+    put_string(&mut out, text)?;
     *line = out.into_inner();
     Ok(())
 }
@@ -314,37 +343,29 @@ fn put_loud(alloc: Global, line: &mut Vec<u8>, passage: &Passage) -> Result<(), 
     requires { line.old.items ≡ [] }
     ensures { OnOk result (line.new.items ≡ answer (Tells passage.now)) }
 {
-    let mut out = Writer::new(mem::replace(line, Vec::new(alloc)));
+    let mut out = writer_behind(alloc, line);
     write_passage(alloc, &mut out, passage)?;
+    end_line(line, out)
+}
+
+// What a writer has written, and a newline.
+fn end_line(line: &mut Vec<u8>, out: Writer) -> Result<(), AllocError>
+    ensures { OnOk result (line.new.items ≡ (out.before ++ print out.tokens) ++ codes "\n") }
+{
     *line = out.into_inner();
-    line.push(b'\n')?;
-    Ok(())
+    append(line, "\n")
 }
 
 // Any other answer. Out of the way of a number.
 #[inline(never)]
-fn put_replied(alloc: Global, line: &mut Vec<u8>, outcome: Outcome) -> Result<(), AllocError>
+fn put_replied(alloc: Global, line: &mut Vec<u8>, outcome: &Outcome) -> Result<(), AllocError>
     requires { line.old.items ≡ [] }
-    ensures { (saved : Data) → HasTextOf saved outcome → OnOk result (line.new.items ≡ answer (reply_by saved outcome)) }
+    ensures { (saved : Data) → HasTextOf saved outcome.now → OnOk result (line.new.items ≡ answer (reply_by saved outcome.now)) }
 {
     match outcome {
-        Outcome::Passage(Ok(passage)) => passage_text(alloc, line, &passage),
-        Outcome::Saved(saved) => put_save(alloc, line, saved),
+        Outcome::Passage(Ok(passage)) => passage_text(alloc, line, passage),
+        Outcome::Saved(Ok(text)) => put_saved(line, text.as_str()),
         told => put_told(alloc, line, told),
-    }
-}
-
-fn put_save(
-    alloc: Global,
-    line: &mut Vec<u8>,
-    save: Result<Text, Refusal>,
-) -> Result<(), AllocError>
-    requires { line.old.items ≡ [] }
-    ensures { (saved : Data) → IsTextOf saved save → OnOk result (line.new.items ≡ answer (reply_of_text saved save)) }
-{
-    match save {
-        Ok(text) => put_saved(line, text.as_str()),
-        Err(refusal) => put_told(alloc, line, Outcome::Refused(refusal)),
     }
 }
 
@@ -353,23 +374,18 @@ fn put_saved(line: &mut Vec<u8>, text: &str) -> Result<(), AllocError>
     requires { line.old.items ≡ [] }
     ensures { (saved : Data) → text.now ≡ compact_text saved → OnOk result (line.new.items ≡ answer (Saves saved)) }
 {
-    line.extend_from_slice(b"{\"saved\":")?;
-    line.extend_from_slice(text.as_bytes())?;
-    line.extend_from_slice(b"}\n")?;
-    Ok(())
+    put_between(line, "{\"saved\":", text, "}\n")
 }
 
 // The answer of what is neither a passage nor a save.
-fn put_told(alloc: Global, line: &mut Vec<u8>, outcome: Outcome) -> Result<(), AllocError>
+fn put_told(alloc: Global, line: &mut Vec<u8>, outcome: &Outcome) -> Result<(), AllocError>
     requires empty { line.old.items ≡ [] }
-    requires told { is_long outcome ≡ false }
-    ensures { (saved : Data) → OnOk result (line.new.items ≡ answer (reply_by saved outcome)) }
+    requires told { is_long outcome.now ≡ false }
+    ensures { (saved : Data) → OnOk result (line.new.items ≡ answer (reply_by saved outcome.now)) }
 {
-    let mut out = Writer::new(mem::replace(line, Vec::new(alloc)));
+    let mut out = writer_behind(alloc, line);
     write_reply(alloc, &mut out, outcome)?;
-    *line = out.into_inner();
-    line.push(b'\n')?;
-    Ok(())
+    end_line(line, out)
 }
 
 /// Values as the JSON array that answers tell them as (docs/PROTOCOL.md, "Answers"). The one error is a refused request for
@@ -382,32 +398,72 @@ pub fn print_values(alloc: Global, values: &[Value]) -> Result<Vec<u8>, AllocErr
     Ok(out.into_inner())
 }
 
-fn write_reply(alloc: Global, out: &mut Writer, outcome: Outcome) -> Result<(), AllocError>
-    requires { is_long outcome ≡ false }
-    ensures { (saved : Data) → OnOk result (Added out.old out.new (data_tokens (reply_data (reply_by saved outcome)))) }
+fn write_reply(alloc: Global, out: &mut Writer, outcome: &Outcome) -> Result<(), AllocError>
+    requires { is_long outcome.now ≡ false }
+    ensures { (saved : Data) → OnOk result (Added out.old out.new (data_tokens (reply_data (reply_by saved outcome.now)))) }
 {
     match outcome {
         Outcome::Events(Ok(events)) => write_acts(alloc, out, events.as_slice()),
-        Outcome::Value(Ok(value)) => write_shown(alloc, out, &value),
-        Outcome::Visits(Ok(visits)) => write_visits(out, visits),
+        Outcome::Value(Ok(value)) => write_shown(alloc, out, value),
+        Outcome::Visits(Ok(visits)) => write_visits(out, *visits),
         Outcome::Landing(Ok(())) => write_acts(alloc, out, &[]),
         Outcome::Passage(Err(halt)) | Outcome::Events(Err(halt)) => write_halt(alloc, out, halt),
         Outcome::Value(Err(refusal))
         | Outcome::Visits(Err(refusal))
         | Outcome::Landing(Err(refusal))
         | Outcome::Saved(Err(refusal))
-        | Outcome::Refused(refusal) => write_refusal(out, refusal),
+        | Outcome::Refused(refusal) => write_refusal(out, *refusal),
         Outcome::Passage(Ok(_)) | Outcome::Saved(Ok(_)) => unreachable!(),
     }
 }
 
 // ---- parts of answers
 
+// What begins an object.
+#[inline(always)]
+fn begin(out: &mut Writer) -> Result<(), AllocError>
+    ensures { OnOk result (Added out.old out.new (tokens.begin_object ∷ [])) }
+{
+    put(out, Token::BeginObject)
+}
+
+// What ends an object.
+#[inline(always)]
+fn end(out: &mut Writer) -> Result<(), AllocError>
+    ensures { OnOk result (Added out.old out.new (tokens.end_object ∷ [])) }
+{
+    put(out, Token::EndObject)
+}
+
+// The name of a member.
+#[inline(always)]
+fn put_key(out: &mut Writer, name: &str) -> Result<(), AllocError>
+    ensures { OnOk result (Added out.old out.new (tokens.key name.now ∷ [])) }
+{
+    put(out, Token::Key(name))
+}
+
+// A string.
+#[inline(always)]
+fn put_string(out: &mut Writer, text: &str) -> Result<(), AllocError>
+    ensures { OnOk result (Added out.old out.new (tokens.string text.now ∷ [])) }
+{
+    put(out, Token::String(text))
+}
+
+// The member with a value.
+fn put_value(alloc: Global, out: &mut Writer, value: &Value) -> Result<(), AllocError>
+    ensures { OnOk result (Added out.old out.new (tokens.key (codes "value") ∷ data_tokens (value_data value.now))) }
+{
+    put_key(out, "value")?;
+    write_value(alloc, out, value)
+}
+
 // The member with an event's stamp.
 fn put_stamp(out: &mut Writer, stamp: u64) -> Result<(), AllocError>
     ensures { OnOk result (Added out.old out.new (tokens.key (codes "stamp") ∷ data_tokens (number (of_integer (pos stamp))))) }
 {
-    put(out, Token::Key("stamp"))?;
+    put_key(out, "stamp")?;
     put_natural(out, stamp)
 }
 
@@ -423,7 +479,7 @@ impl Listed for Shared<Text> {
     ghost json = { λ t. string t };
 
     fn put(&self, _alloc: Global, out: &mut Writer) -> Result<(), AllocError> {
-        put(out, Token::String(self.get().as_str()))
+        put_string(out, self.get().as_str())
     }
 }
 
@@ -431,10 +487,10 @@ impl Listed for Shown {
     ghost json = { λ s. shown_data s };
 
     fn put(&self, alloc: Global, out: &mut Writer) -> Result<(), AllocError> {
-        put(out, Token::BeginObject)?;
+        begin(out)?;
         put_list(alloc, out, "tags", self.tags.as_slice())?;
         put_text(out, "text", self.text.as_str())?;
-        put(out, Token::EndObject)
+        end(out)
     }
 }
 
@@ -471,7 +527,7 @@ fn put_list<T: Listed>(
 ) -> Result<(), AllocError>
     ensures { OnOk result (Added out.old out.new (tokens.key name.now ∷ data_tokens (array (items_of (map T.json items.now))))) }
 {
-    put(out, Token::Key(name))?;
+    put_key(out, name)?;
     write_list(alloc, out, items)
 }
 
@@ -490,60 +546,59 @@ fn write_list<T: Listed>(alloc: Global, out: &mut Writer, items: &[T]) -> Result
 fn write_acts(alloc: Global, out: &mut Writer, events: &[Event]) -> Result<(), AllocError>
     ensures { OnOk result (Added out.old out.new (data_tokens (reply_data (Acts events.now)))) }
 {
-    put(out, Token::BeginObject)?;
+    begin(out)?;
     put_list(alloc, out, "events", events)?;
-    put(out, Token::EndObject)
+    end(out)
 }
 
 fn write_passage(alloc: Global, out: &mut Writer, passage: &Passage) -> Result<(), AllocError>
     ensures { OnOk result (Added out.old out.new (data_tokens (passage_data passage.now))) }
 {
-    put(out, Token::BeginObject)?;
+    begin(out)?;
     put_list(alloc, out, "choices", passage.choices.as_slice())?;
     put_list(alloc, out, "events", passage.events.as_slice())?;
     put_flag(out, "loose", passage.loose)?;
     put_flag(out, "more", passage.more)?;
     put_list(alloc, out, "tags", passage.tags.as_slice())?;
     put_text(out, "text", passage.text.as_str())?;
-    put(out, Token::EndObject)
+    end(out)
 }
 
 fn write_shown(alloc: Global, out: &mut Writer, value: &Value) -> Result<(), AllocError>
     ensures { OnOk result (Added out.old out.new (data_tokens (reply_data (Shows value.now)))) }
 {
-    put(out, Token::BeginObject)?;
-    put(out, Token::Key("value"))?;
-    write_value(alloc, out, value)?;
-    put(out, Token::EndObject)
+    begin(out)?;
+    put_value(alloc, out, value)?;
+    end(out)
 }
 
 fn write_visits(out: &mut Writer, visits: i32) -> Result<(), AllocError>
     ensures { OnOk result (Added out.old out.new (data_tokens (reply_data (Counts visits)))) }
 {
-    put(out, Token::BeginObject)?;
-    put(out, Token::Key("visits"))?;
+    begin(out)?;
+    put_key(out, "visits")?;
     put_integer(out, visits)?;
-    put(out, Token::EndObject)
+    end(out)
 }
 
-fn write_halt(alloc: Global, out: &mut Writer, halt: Halt) -> Result<(), AllocError>
-    ensures { OnOk result (Added out.old out.new (data_tokens (reply_data (reply_of_halt halt)))) }
+fn write_halt(alloc: Global, out: &mut Writer, halt: &Halt) -> Result<(), AllocError>
+    ensures { OnOk result (Added out.old out.new (data_tokens (reply_data (reply_of_halt halt.now)))) }
 {
     match halt {
-        Halt::Refused(refusal) => write_refusal(out, refusal),
-        Halt::Fault { fault, events } => write_fault(alloc, out, fault, events.as_slice()),
+        Halt::Refused(refusal) => write_refusal(out, *refusal),
+        Halt::Fault { fault, events } => write_fault(alloc, out, *fault, events.as_slice()),
     }
 }
 
 fn write_refusal(out: &mut Writer, refusal: Refusal) -> Result<(), AllocError>
     ensures { OnOk result (Added out.old out.new (data_tokens (refusal_data refusal))) }
 {
-    put(out, Token::BeginObject)?;
+    begin(out)?;
     if let Refusal::Broken(fault) = refusal {
         put_text(out, "fault", fault.name())?;
     }
     put_text(out, "refused", refusal.name())?;
-    put(out, Token::EndObject)
+    end(out)
 }
 
 fn write_fault(
@@ -554,10 +609,10 @@ fn write_fault(
 ) -> Result<(), AllocError>
     ensures { OnOk result (Added out.old out.new (data_tokens (reply_data (Breaks fault events.now)))) }
 {
-    put(out, Token::BeginObject)?;
+    begin(out)?;
     put_list(alloc, out, "events", events)?;
     put_text(out, "fault", fault.name())?;
-    put(out, Token::EndObject)
+    end(out)
 }
 
 // ---- events
@@ -573,12 +628,12 @@ fn write_call(
 ) -> Result<(), AllocError>
     ensures { OnOk result (Added out.old out.new (data_tokens (call_data name.now arguments.now gave.now stamp))) }
 {
-    put(out, Token::BeginObject)?;
+    begin(out)?;
     put_list(alloc, out, "args", arguments)?;
     put_text(out, "call", name.as_str())?;
     put_outcome(out, gave)?;
     put_stamp(out, stamp)?;
-    put(out, Token::EndObject)
+    end(out)
 }
 
 // The member that tells what a call gave, or that it was refused.
@@ -594,7 +649,7 @@ fn put_outcome(out: &mut Writer, gave: &Option<Given>) -> Result<(), AllocError>
 fn put_given(out: &mut Writer, given: &Given) -> Result<(), AllocError>
     ensures { OnOk result (Added out.old out.new (tokens.key (codes "gave") ∷ data_tokens (value_data (value_given given.now)))) }
 {
-    put(out, Token::Key("gave"))?;
+    put_key(out, "gave")?;
     write_given(out, given)
 }
 
@@ -604,7 +659,7 @@ fn write_given(out: &mut Writer, given: &Given) -> Result<(), AllocError>
     match given {
         Given::Int(number) => put_integer(out, *number),
         Given::Bool(truth) => put(out, Token::Bool(*truth)),
-        Given::Text(text) => put(out, Token::String(text.get().as_str())),
+        Given::Text(text) => put_string(out, text.get().as_str()),
         Given::Void => put(out, Token::Null),
     }
 }
@@ -619,10 +674,9 @@ fn write_saw(
 ) -> Result<(), AllocError>
     ensures { OnOk result (Added out.old out.new (data_tokens (event_data (Event.Saw name.now stamp value.now)))) }
 {
-    put(out, Token::BeginObject)?;
+    begin(out)?;
     put_text(out, "saw", name.as_str())?;
     put_stamp(out, stamp)?;
-    put(out, Token::Key("value"))?;
-    write_value(alloc, out, value)?;
-    put(out, Token::EndObject)
+    put_value(alloc, out, value)?;
+    end(out)
 }

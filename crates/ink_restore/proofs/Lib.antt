@@ -1,4 +1,5 @@
 pub mod Making
+pub mod ChoiceParts
 pub mod Standing
 pub mod Leading
 pub mod Gathering

@@ -169,6 +169,12 @@ module _ (s : StoryTree) (flag : ℕ → Bool) (least : ℕ) (whole : List (List
   order_refused slots n c i d lt order own lower is h k =
       falls slots n c (get_or whole i d) (drop (i + 1) whole) order own lower is (subst (Numbers slots) (drop_more whole i d lt) h) k.rise
 
+  pub row_refused : (slots : List (Option ℕ)) (i : ℕ) (d : List Part × ℕ) → i < length whole → (RowCounts s flag least (get_or whole i d) → ⊥) → Numbers slots (drop i whole)
+      → RowsCount s flag least whole → ⊥
+  row_refused slots i d lt never h k =
+      let m = subst (Numbers slots) (drop_more whole i d lt) h in
+      never (each_in (rows_at s (rows_from 0 slots)) (get_or whole i d) (drop (i + 1) whole) (subst (AllByRecursion (RowCounts s flag least)) (sym m.joined) k.each))
+
   pub numbers_done : (slots : List (Option ℕ)) (i : ℕ) → length whole ≤ i → Numbers slots (drop i whole)
       → (rows_at s (rows_from 0 slots) ≡ whole) × RowsCount s flag least whole
   numbers_done slots i le h =

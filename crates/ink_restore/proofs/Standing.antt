@@ -1,5 +1,5 @@
 -- What frames and threads are made of.
-use Rattle.std.proofs.Common.{◌≡◌, ◌∙◌, sym, ap, refl, subst, ℕ, ◌+◌, ◌≤◌, length, List, [], ◌∷◌, ◌++◌, map, reverse, Bool, true, false, ◌&&◌, nat_le, if◌then◌else◌, Option, Some, None, is_some, option_map, arith}
+use Rattle.std.proofs.Common.{◌≡◌, ◌∙◌, sym, ap, refl, subst, ℕ, ◌+◌, ◌≤◌, length, List, [], ◌∷◌, ◌++◌, map, reverse, Bool, true, false, ◌&&◌, nat_le, if◌then◌else◌, Option, Some, None, is_some, is_none, IfSome, option_map, arith}
 use Rattle.std.proofs.lemmas.Bool.{and_from}
 use Rattle.std.proofs.lemmas.Bool.Decides.{nat_tests}
 use Rattle.std.proofs.lemmas.List.{length-reverse, length-append, length-map, reverse-append, reverse-reverse}
@@ -47,6 +47,15 @@ each_reversed P xs h = subst (λ ys. AllByRecursion P ys) (reverse-reverse xs) (
 pub both : (x y : Bool) → (x && y) ≡ true → (x ≡ true) × (y ≡ true)
 both true y h = (refl, h)
 both false y h = absurd cc
+
+pub none_is : {A : Type 0} (o : Option A) → is_none o ≡ true → o ≡ None
+none_is None h = refl
+none_is (Some a) h = absurd cc
+
+-- what holds of nothing made, and of something
+pub whether : {A : Type 0} (P : Type 0) (o : Option A) → P → IfSome o (λ a. P)
+whether P None h = tt
+whether P (Some a) h = h
 
 pub some_mapped : {A B : Type 0} (f : A → B) (o : Option A) → is_some (option_map f o) ≡ is_some o
 some_mapped f None = refl

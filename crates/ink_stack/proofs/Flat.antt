@@ -1,5 +1,5 @@
 -- Frames by their headers and their temporaries.
-use Rattle.std.proofs.Common.{◌≡◌, ◌∙◌, ◌<◌, ◌≤◌, ◌+◌, ◌-◌, ℕ, zero, suc, List, [], ◌∷◌, ◌++◌, ap, arith, get_or, if◌then◌else◌, length, map, refl, reverse, set, subst, sym, replicate, Bool, true, false, nat_lt, Option, Some, None, inl, inr}
+use Rattle.std.proofs.Common.{◌≡◌, ◌≢◌, ◌∙◌, ◌<◌, ◌≤◌, ◌+◌, ◌-◌, ℕ, zero, suc, List, [], ◌∷◌, ◌++◌, ap, arith, get_or, if◌then◌else◌, length, map, refl, reverse, set, subst, sym, replicate, Bool, true, false, nat_lt, Option, Some, None, inl, inr}
 use Rattle.std.proofs.lemmas.Bool.{cases_lt}
 use Rattle.std.proofs.lemmas.Bool.Decides.{nat_tests}
 use Rattle.std.proofs.lemmas.List.{get_or-set_same, get_or_default, get_or_past, length-append, length-replicate, length-reverse, reverse-append, set-get_or}
@@ -67,6 +67,11 @@ module _ {P : Type 0} where
 
 pub rows_got : (ts : List Values) (i : ℕ) (rows : Values) → true ≡ nat_lt i (length ts) → rows ≡ get_or ts i rows → get_or ts i [] ≡ rows
 rows_got ts i rows h e = get_or_default ts i [] rows (grind (arith, nat_tests, h)) ∙ sym e
+
+pub filled_past : (ts filled : List Values) (i : ℕ) → filled ≡ ts ++ replicate (i + 1 - length ts) [] → i < length filled
+filled_past ts filled i is =
+    let missing = replicate {A = Values} (i + 1 - length ts) [] in
+    omega (arith, ap length is, length-append ts missing, length-replicate {A = Values} (i + 1 - length ts) [])
 
 pub rows_past : (ts : List Values) (i : ℕ) → false ≡ nat_lt i (length ts) → get_or ts i [] ≡ []
 rows_past ts i h = get_or_past ts i [] (grind (arith, nat_tests, h))
@@ -183,6 +188,22 @@ module _ {P : Type 0} where
       by : (rows : Values) → is_bare (record f { temps = rows }) ≡ true → rows ≡ []
       by [] h = refl
       by (r ∷ rows) h = absurd (cc)
+
+  pub put_within : (hs more : List (Header P)) (ts new : List Values) (n : ℕ) (x : Header P) (rows : Values) → more ≡ hs ++ x ∷ [] → new ≡ ts ++ replicate (n - length ts) [] ++ rows ∷ []
+      → n ≡ length hs → length ts ≤ length hs → length new ≤ length more
+  put_within hs more ts new n x rows first second is few =
+      let missing = replicate {A = Values} (n - length ts) [] in
+      omega (arith, ap length first, length-append hs (x ∷ []), ap length second, length-append (ts ++ missing) (rows ∷ []), length-append ts missing, length-replicate {A = Values} (n - length ts) [], is, few)
+
+  -- there are none
+  pub no_frames : (hs : List (Header P)) (ts : List Values) (n : ℕ) → n ≡ 0 → n ≡ length hs → [] ≡ framed hs ts
+  no_frames [] ts n none is = refl
+  no_frames (h ∷ hs) ts n none is = absurd (omega (arith, none, is))
+
+  pub some_frames : (hs : List (Header P)) (ts : List Values) (n : ℕ) → n ≢ 0 → n ≡ length hs → framed hs ts ≢ []
+  some_frames [] ts n some is = absurd (some is)
+  some_frames (h ∷ hs) [] n some is = λ none. absurd (cc)
+  some_frames (h ∷ hs) (t ∷ ts) n some is = λ none. absurd (cc)
 
   -- other temporaries, where none were put behind the last
   pub temps_put : (hs : List (Header P)) (ts filled : List Values) (n i : ℕ) (rows : Values) (d : FrameOf P) → filled ≡ ts ++ replicate n [] → i < length filled → length filled ≤ length hs

@@ -1,5 +1,5 @@
 -- There is room for what is put back of frames and threads.
-use Rattle.std.proofs.Common.{◌≡◌, ◌∙◌, ◌≤◌, ℕ, List, [], ◌∷◌, ◌++◌, Bool, false, Option, Some, None, ap, arith, is_some, length, refl, subst, sym}
+use Rattle.std.proofs.Common.{◌≡◌, ◌∙◌, ◌≤◌, ◌<◌, ℕ, List, [], ◌∷◌, ◌++◌, Bool, false, Option, Some, None, ap, arith, is_some, length, refl, subst, sym}
 use Rattle.std.proofs.lemmas.List.{length-append, length-reverse}
 use Rattle.ink_model.specs.Bases.{BaseFirst}
 use Rattle.ink_model.specs.Frames.{ThreadOf, ThreadsOf, gone, mode_in, on_top}
@@ -163,3 +163,10 @@ module _ {P : Type 0} where
       let first : Held r (on_top (mode_in b) ts) = as_before ts.thread now ts.below r refl refl held.0 in
       let second : Held r (threads_back (Gone last.0 last.1) (on_top (mode_in b) ts)) = as_before ts.thread (ungone last.0 last.1 now) ts.below r refl refl held.0 in
       subst (λ es. StaysHeld r es (on_top (mode_in b) ts)) (sym last.4) (first, (second, held.1.1))
+
+module _ {P : Type 0} where
+  -- a thread that comes back has room for the one that it lies on
+  pub room-under : (e : ThreadsPair P) (top : RunningView P) (r : Rooms) (ts : ThreadsOf P) → e ≡ ThreadPopped top → Held (rooms_of e r) (threads_back e ts) → length ts.below < r.threads
+  room-under e top r ts is h =
+      let held : Held (rooms_of (ThreadPopped top) r) (threads_back (ThreadPopped top) ts) = subst (λ x. Held (rooms_of x r) (threads_back x ts)) is h in
+      omega (arith, held.fit)

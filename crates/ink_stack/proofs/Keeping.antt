@@ -67,3 +67,7 @@ module _ {P : Type 0} where
     base_fewer j k f rest items kind is h.2,
     unnumbered_fewer f rest items n is h.3,
   )
+
+-- what is true is not false
+pub true_false : {X : Type 0} (b : Bool) → b ≡ true → b ≡ false → X
+true_false b first second = absurd (let h : true ≡ false = sym first ∙ second in cc)

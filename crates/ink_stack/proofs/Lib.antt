@@ -19,3 +19,5 @@ pub mod Unmarked
 pub mod Keeping
 pub mod Tops
 pub mod Flat
+pub mod Lengths
+pub mod Given

@@ -1,6 +1,6 @@
 -- A list whose items are changed one by one, from the front.
-use Rattle.std.proofs.Common.{◌≡◌, ◌∙◌, ◌≤◌, ℕ, ◌+◌, ◌<◌, List, [], ◌++◌, ap, length, get_or, set, take, drop, map, refl, append_assoc, arith, sym}
-use Rattle.std.proofs.lemmas.List.{append-nil, drop_all, take_more_set, drop-set-lt, drop_more, take_all}
+use Rattle.std.proofs.Common.{◌≡◌, ◌∙◌, ◌≤◌, ℕ, ◌+◌, ◌<◌, List, [], ◌∷◌, ◌++◌, ap, length, get_or, set, take, drop, map, refl, append_assoc, arith, sym}
+use Rattle.std.proofs.lemmas.List.{append-nil, drop_all, take_more_set, drop-set-lt, drop_more, take_all, take_more}
 
 pub map_step : {X : Type 0} (f : X → X) (xs : List X) (i : ℕ) (d y : X) → i < length xs → y ≡ f (get_or xs i d)
     → take (i + 1) (set xs i y) ++ map f (drop (i + 1) (set xs i y)) ≡ take i xs ++ map f (drop i xs)
@@ -10,3 +10,12 @@ map_step f xs i d y h made =
 -- all are changed
 pub map_done : {X : Type 0} (f : X → X) (xs ys : List X) (i : ℕ) → length xs ≤ i → take i xs ++ map f (drop i xs) ≡ ys → xs ≡ ys
 map_done f xs ys i all h = sym (append-nil xs) ∙ ap (λ zs. zs ++ []) (sym (take_all i xs all)) ∙ ap (λ zs. take i xs ++ map f zs) (sym (drop_all i xs all)) ∙ h
+
+pub map_id : {X : Type 0} (xs : List X) → map (λ x. x) xs ≡ xs
+map_id [] = refl
+map_id (x ∷ xs) = ap (λ ys. x ∷ ys) (map_id xs)
+
+-- copies of the first ones, and one more
+pub copied_on : {X : Type 0} (xs copies new : List X) (i : ℕ) (copy item : X) → i < length xs → new ≡ copies ++ copy ∷ [] → copies ≡ take i xs → copy ≡ item → item ≡ get_or xs i item → new ≡ take (i + 1) xs
+copied_on xs copies new i copy item within pushed before same is =
+    pushed ∙ ap (λ cs. cs ++ copy ∷ []) before ∙ ap (λ c. take i xs ++ c ∷ []) (same ∙ is) ∙ sym (take_more xs i item within)

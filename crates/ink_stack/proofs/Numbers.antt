@@ -5,7 +5,7 @@ use Rattle.std.proofs.lemmas.List.{drop_more, get_or-set_same, length-reverse, l
 use Rattle.std.proofs.lemmas.Result.{on_err_weaker, on_ok_weaker}
 use Rattle.ink_model.specs.Frames.{FrameOf, ThreadOf, frame_numbered, is_function}
 use Rattle.ink_model.specs.Rows.{name_order, row}
-use Rattle.ink_model.specs.Threads.{changed, temp_in, with_row_in, with_temp}
+use Rattle.ink_model.specs.Threads.{changed, frame_count, temp_in, with_row_in, with_temp}
 use Rattle.ink_model.specs.declared.value.Value.{Value}
 use Rattle.ink_stack.specs.Quiet.{IsQuiet}
 
@@ -136,3 +136,14 @@ module _ {P : Type 0} where
 
     pub row_kept : OnErr r (now ≡ was) → OnErr r (get_or now i d ≡ get_or was i d)
     row_kept err = on_err_weaker r (λ kept. ap (λ fs. get_or fs i d) kept) err
+
+module _ {P : Type 0} where
+  -- a number that is not the top frame's is one of those below
+  pub number_below : (t : ThreadOf P) (fs : List (FrameOf P)) (n : ℕ) → reverse fs ≡ t.below → n ≤ frame_count t → n ≢ frame_count t → n ≢ 0 → n - 1 < length fs
+  number_below t fs n is there other some = omega (arith, ap length is, length-reverse fs, there, other, some)
+
+  pub one_there : (t : ThreadOf P) → 1 ≤ frame_count t
+  one_there t = omega arith
+
+pub some_number : (n : ℕ) → 0 < n → n ≢ 0
+some_number n h is = absurd (omega (arith, h, is))

@@ -40,6 +40,12 @@ module _ {P : Type 0} where
   pub doubled_refused : (ts : ThreadsOf P) → thread_count ts < MAX_THREADS → Grows {U = Unit} (doubled ts) ts ts (Err OutOfMemory)
   doubled_refused ts few = rw (fewer (thread_count ts) MAX_THREADS few) (refl, refl)
 
+  pub doubled_done : (t copy : ThreadOf P) (below new : List (ThreadOf P)) (u : Unit {0}) → thread_count (record { thread = t; below = reverse below }) < MAX_THREADS → new ≡ below ++ copy ∷ [] → copy ≡ t
+      → Grows (doubled (record { thread = t; below = reverse below })) (record { thread = t; below = reverse below }) (record { thread = t; below = reverse new }) (Ok u)
+  doubled_done t copy below new u few is same =
+      rw (fewer (thread_count (record { thread = t; below = reverse below })) MAX_THREADS few)
+      (ap (λ ts. record { thread = t; below = ts }) (ap reverse is ∙ reverse-append below (copy ∷ []) ∙ ap (λ x. x ∷ reverse below) same))
+
   -- ---- a thread fewer
 
   pub dropped_is : (t next : ThreadOf P) (rest items : List (ThreadOf P)) → items ≡ rest ++ next ∷ []

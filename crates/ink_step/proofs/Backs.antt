@@ -1,15 +1,18 @@
 -- Going back to a mark.
-use Rattle.std.proofs.Common.{◌≡◌, ◌∙◌, ◌≤◌, ℕ, ap, arith, map, subst, unwrap_or}
+use Rattle.std.proofs.Common.{◌≡◌, ◌∙◌, ◌≤◌, ℕ, Bool, Option, Some, None, ap, arith, map, min, refl, subst, unwrap_or}
 use Rattle.ink_choice.specs.Undo.{choices_stood}
 use Rattle.ink_model.specs.Configuration.{Configuration, map_choice}
 use Rattle.ink_model.specs.Frames.{map_threads}
 use Rattle.ink_model.specs.Tree.{StoryTree}
 use Rattle.ink_out.specs.Undo.{output_stood}
 use Rattle.ink_stack.specs.Undo.{threads_stood}
-use Rattle.ink_step.specs.Marks.{Own, capped, config_back, noted_by, own_of, own_stood, pairs_in, writes_in}
+use Rattle.ink_step.specs.Marks.{Own, capped, config_back, noted_by, own_back, own_of, own_stood, pairs_in, room_in, writes_in}
 use Rattle.ink_step.specs.Words.{counts_in}
 use Rattle.ink_step.specs.declared.machine.Machine.{Machine}
-use Rattle.ink_trail.specs.Undo.{writes_of}
+use Rattle.ink_step.specs.declared.own.OwnPair.{OwnPair}
+use Rattle.ink_trail.proofs.Undoing.{stood-kept}
+use Rattle.ink_trail.specs.Undo as trails
+use Rattle.ink_trail.specs.Undo.{KeepsTrail, TrailView, stood_at, with_pair, writes_of}
 use Rattle.ink_tree.specs.Nodes.{place_of}
 use Rattle.ink_value.specs.Undo.{stack_stood}
 use Rattle.ink_vars.specs.Undo.{counts_stood, globals_stood}
@@ -75,3 +78,39 @@ module _ (old mid : Machine) (alone : OwnAlone old mid) where
       let y : counts ≤ writes_of old.shared.counts.trail.undo = subst (λ (m : Machine). counts ≤ writes_of m.shared.counts.trail.undo) alone.same f in
       let z : page ≤ writes_of old.output.trail.undo = subst (λ (m : Machine). page ≤ writes_of m.output.trail.undo) alone.same g in
       capped_le _ _ _ _ (capped_le _ _ _ _ (capped_le _ _ _ _ (capped_le _ _ _ _ (capped_le _ _ _ _ (capped_le _ _ _ _ a t) v) w) x) y) z
+
+-- ---- room
+
+pub least_le : (a b c d : ℕ) → a ≤ c → b ≤ d → min a b ≤ min c d
+least_le a b c d p q = omega arith
+
+-- the room in whichever part, with so much for the own fields
+abbrev pub room_with : ℕ → Machine → ℕ
+room_with own m = min (min (min (min (min (min own m.flow.threads.trail.room) m.flow.stack.trail.room) m.flow.choices.trail.room) m.shared.globals.trail.room)
+    m.shared.counts.trail.room) m.output.trail.room
+
+-- no part has less room, where the own fields have changed first
+pub as_roomy : (old mid : Machine) → room_with old.trail.room mid ≡ room_in old → (own threads stack choices globals counts page : ℕ) → old.trail.room ≤ own
+    → mid.flow.threads.trail.room ≤ threads → mid.flow.stack.trail.room ≤ stack → mid.flow.choices.trail.room ≤ choices → mid.shared.globals.trail.room ≤ globals
+    → mid.shared.counts.trail.room ≤ counts → mid.output.trail.room ≤ page
+    → room_in old ≤ min (min (min (min (min (min own threads) stack) choices) globals) counts) page
+as_roomy old mid alike own threads stack choices globals counts page a b c d e f g =
+    subst (λ n. n ≤ min (min (min (min (min (min own threads) stack) choices) globals) counts) page) alike
+    (least_le _ _ _ _ (least_le _ _ _ _ (least_le _ _ _ _ (least_le _ _ _ _ (least_le _ _ _ _ (least_le _ _ _ _ a b) c) d) e) f) g)
+
+-- ---- the own fields at the mark
+
+-- a change of one is noted
+pub own_noted : (old new : TrailView OwnPair) (pair : OwnPair) (before after : Own) → own_back pair after ≡ before → new.undo ≡ with_pair pair 1 old.undo
+    → own_stood new after.turn after.safe ≡ own_stood old before.turn before.safe
+unfolding own_stood stood_at
+own_noted old new pair before after back noted = ap (λ u. trails.stood_of own_back u after) noted ∙ by old.undo
+  where
+    by : (u : Option (trails.Undo OwnPair)) → trails.stood_of own_back (with_pair pair 1 u) after ≡ trails.stood_of own_back u before
+    by None = refl
+    by (Some u) = ap (λ own. Some (trails.undone own_back u.trail own)) back
+
+-- nothing is noted
+pub own_kept : (old new : TrailView OwnPair) (turn : ℕ) (safe : Bool) → KeepsTrail old new → own_stood new turn safe ≡ own_stood old turn safe
+unfolding own_stood
+own_kept old new turn safe kept = stood-kept own_back _ _ old new refl kept

@@ -64,7 +64,7 @@ module _ (s : StoryTree) (old mid new : Machine) (safely : mid.flow.safe ≡ old
 
 -- ---- the whole step
 
-leaf_there : (o : Option StoryTree) (l : Leaf) → leaf_in o ≡ Some l → Some (leaf l) ≡ o
+pub leaf_there : (o : Option StoryTree) (l : Leaf) → leaf_in o ≡ Some l → Some (leaf l) ≡ o
 leaf_there None l h = absurd cc
 leaf_there (Some (leaf k)) l h = (let is : k ≡ l = cc in ap (λ x. Some (leaf x)) (sym is))
 leaf_there (Some (container name flags content named)) l h = absurd cc

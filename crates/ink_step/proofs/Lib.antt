@@ -2,6 +2,7 @@ pub mod Staled
 pub mod Follows
 pub mod Marks
 pub mod Storing
+pub mod AtOnce
 pub mod Landed
 pub mod Stopping
 pub mod Moments

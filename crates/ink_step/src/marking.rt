@@ -36,12 +36,12 @@ impl Machine {
     {
         self.trail
             .writes()
-            .saturating_add(self.flow.threads.writes())
-            .saturating_add(self.flow.stack.writes())
-            .saturating_add(self.flow.choices.writes())
-            .saturating_add(self.shared.globals.writes())
-            .saturating_add(self.shared.counts.writes())
-            .saturating_add(self.output.writes())
+            .saturating_add(self.flow.threads.trail().writes())
+            .saturating_add(self.flow.stack.trail().writes())
+            .saturating_add(self.flow.choices.trail().writes())
+            .saturating_add(self.shared.globals.trail().writes())
+            .saturating_add(self.shared.counts.trail().writes())
+            .saturating_add(self.output.trail().writes())
     }
 
     /// Puts all back as it stood at the mark, ends the mark, and answers how many pairs there were in all parts, which stays at
@@ -77,12 +77,12 @@ impl Machine {
     {
         self.trail
             .room()
-            .min(self.flow.threads.room())
-            .min(self.flow.stack.room())
-            .min(self.flow.choices.room())
-            .min(self.shared.globals.room())
-            .min(self.shared.counts.room())
-            .min(self.output.room())
+            .min(self.flow.threads.trail().room())
+            .min(self.flow.stack.trail().room())
+            .min(self.flow.choices.trail().room())
+            .min(self.shared.globals.trail().room())
+            .min(self.shared.counts.trail().room())
+            .min(self.output.trail().room())
     }
 
     /// Makes room for so many changes to be noted in each part without memory. The one error is a refused request for memory,

@@ -1,5 +1,5 @@
 -- Contents one part down, and the numbers of those that stand there.
-use Rattle.std.proofs.Common.{◌≡◌, ◌∙◌, ap, sym, refl, ℕ, ◌+◌, ◌<◌, ◌≤◌, List, [], ◌∷◌, ◌++◌, length, take, drop, get_or, true, Option, Some, None, is_some, option_map, option_and_then, arith, false, nat_lt}
+use Rattle.std.proofs.Common.{◌≡◌, ◌∙◌, ap, sym, refl, ℕ, zero, suc, ◌+◌, ◌<◌, ◌≤◌, List, [], ◌∷◌, ◌++◌, length, take, drop, get_or, slice_get, true, Option, Some, None, is_some, option_map, option_and_then, arith, false, nat_lt}
 use Rattle.ink_tree.proofs.Common.{nat_tests, length-append, take_more, take-append-drop, key_part, keys_rise, Node, places, StoryTree, at, width, Part, Index, LeadsTo, Keeps, node_place, Finds, IsNode, NodeId}
 use Rattle.ink_json.specs.declared.key.Key.{Key}
 use Rattle.ink_tree.proofs.Absent.{one_node}
@@ -18,7 +18,15 @@ last_same (a ∷ p) (b ∷ q) x y e =
     let same = last_same p q x y rest in
     ((λ i. first i ∷ same.0 i), same.1)
 
+pub not_root : (p q : List Part) (x : Part) → p ≡ q ++ x ∷ [] → p ≡ [] → ⊥
+not_root p q x is none = omega (arith, ap length (sym is ∙ none), length-append q (x ∷ []))
+
 -- ---- the node of a number
+
+pub none_there : {X : Type 0} (xs : List X) (i : ℕ) → None ≡ slice_get xs i → length xs ≤ i
+none_there [] i e = omega arith
+none_there (x ∷ xs) zero e = absurd cc
+none_there (x ∷ xs) (suc i) e = omega (arith, none_there xs i e)
 
 module _ (s : StoryTree) (m : ℕ) (n : Node) (own : NodeId) (q : List Part) (is : node_place s own ≡ q) (keeps : Keeps s (node_place s (record { number = m })) n) where
   -- the root stands under nothing

@@ -1,6 +1,9 @@
 -- What is kept of contents, and what is read of it.
 use Rattle.std.proofs.Common.{◌≡◌, ◌∙◌, ap, sym, refl, subst, ℕ, zero, suc, ◌+◌, ◌<◌, ◌≤◌, List, [], ◌∷◌, ◌++◌, length, reverse, Bool, true, false, cond, Option, Some, None, option_map, option_and_then, nat_le, nat_lt, ◌&&◌, slice_get, get_or, append_assoc, arith, inl, inr, unwrap_or}
 use Rattle.ink_tree.proofs.Common.{nat_tests, append-nil, length-append, length-reverse, cases_lt, cond_some, none-some, same_Some, slice_get_past, slice_get_read, Node, is_around, listed_if, passed_at, passed_places, is_container, entered, first_content_at, landed, next_place, next_upwards, places, StoryTree, leaf, container, no_trees, tree, at, down, width, Part, Index, Name, AreLinked, Keeps, KeepsAll, KeepsAt, Spans, first_inside, way_to, Finds, IsNode, MayBeNode, index_part, node_place, place_of, GoesIn, NodeId}
+use Rattle.std.specs.Borrow.{Bor}
+use Rattle.ink_tree.specs.Kept.{MayBeLinked}
+use Rattle.ink_tree.specs.declared.link.Link.{Link}
 use Rattle.ink_tree.specs.declared.spot.Spot.{Spot}
 use Rattle.ink_tree.proofs.Further.{below}
 use Rattle.ink_tree.proofs.Next.{landed_in, landed_on, next_inside, next_outside}
@@ -118,6 +121,10 @@ all_more [] x P all here zero y e = subst (P 0) (same_Some x y e) here
 all_more [] x P all here (suc i) y e = absurd (none-some y e)
 all_more (k ∷ xs) x P all here zero y e = all 0 y e
 all_more (k ∷ xs) x P all here (suc i) y e = all_more xs x (λ j. P (suc j)) (λ j. all (suc j)) here i y e
+
+pub may_be_linked : (s : StoryTree) (ls : List Link) (n : ℕ) (o : Option (Bor Link)) → AreLinked s ls → option_map (λ l. l.now) o ≡ slice_get ls n → MayBeLinked s (node_place s (record { number = n })) o
+may_be_linked s ls n None linked is = tt
+may_be_linked s ls n (Some l) linked is = linked n l.now (sym is)
 
 pub none_linked : (s : StoryTree) → AreLinked s []
 none_linked s = λ i l e. absurd (none-some l e)

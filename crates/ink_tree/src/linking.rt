@@ -103,7 +103,7 @@ impl Tree {
     pub(crate) fn linked(&self, node: NodeId) -> Option<&Link>
         ensures { MayBeLinked (story_tree self.now) (node_place (story_tree self.now) node) result }
     {
-        self.links.get(node.number)
+        link_at(&self.links, node.number)
     }
 
     /// The content after a content, given the links of some.
@@ -164,6 +164,7 @@ impl Tree {
 }
 
 // The link at a number.
+#[inline(always)]
 fn link_at(links: &Vec<Link>, number: usize) -> Option<&Link>
     ensures { option_map (λ l. l.now) result ≡ slice_get links.now.items number }
 {

@@ -155,21 +155,22 @@ impl Tree {
     }
 
     // The place of a node.
+    #[cycle(place)]
     fn place_at(&self, node: NodeId) -> Result<Place, AllocError>
         ensures place { IfOk result (λ place. place ≡ node_place (story_tree self.now) node) }
         ensures root { node_place (story_tree self.now) node ≡ [] → IsOk result }
     {
-        let alloc = self.alloc;
         match self.above(node) {
             Some((last, holder)) => {
-                let mut place = self.place_at(holder)?;
-                place.push(part_of(alloc, last)?)?;
-                Ok(place)
+                let last = part_of(self.alloc, last)?;
+                self.place_under(holder, last)
             }
-            None => Ok(Place::root(alloc)),
+            None => Ok(Place::root(self.alloc)),
         }
     }
 
+    // The place one part down from a node.
+    #[cycle(place)]
     fn place_under(&self, holder: NodeId, last: Part) -> Result<Place, AllocError>
         ensures { IfOk result (λ place. place ≡ node_place (story_tree self.now) holder ++ last ∷ []) }
     {

@@ -4,3 +4,5 @@ pub mod Standing
 pub mod Tops
 pub mod SameValues
 pub mod Undoing
+pub mod Dividing
+pub mod Joined

@@ -1,9 +1,11 @@
 -- A value that stands for a number has its number and its printed text as an operand.
-use Rattle.std.proofs.Common.{◌≡◌, ℕ, ℤ, pos, List, true, is_some, unwrap_or, Some, Result, Ok, refl}
-use Rattle.ink_model.specs.Operator.{operand, number, both, of_texts, of_two}
+use Rattle.std.proofs.Common.{◌≡◌, ◌≢◌, Bool, ℕ, ℤ, pos, List, [], ◌∷◌, true, false, if◌then◌else◌, get_or, is_some, length, unwrap_or, Some, Result, Ok, Err, arith, refl}
+use Rattle.ink_model.specs.Operator.{apply, can_divide, operand, number, both, of_numbers, of_texts, of_two}
 use Rattle.ink_model.specs.Value.{printed}
 use Rattle.ink_model.specs.declared.fault.Fault.{Fault}
+use Rattle.ink_model.specs.declared.fault.Fault.TheVariants.{Divide, OutOfMemory}
 use Rattle.ink_model.specs.declared.operator.Op.{Op}
+use Rattle.ink_model.specs.declared.operator.Op.TheVariants as op
 use Rattle.ink_model.specs.declared.value.Value.{Value}
 use Rattle.ink_model.specs.declared.value.Value.TheVariants.{Int, Bool as Truth, Text, Target, Pointer, Void, Tag}
 use Rattle.ink_model.specs.Memory.{Gives}
@@ -47,3 +49,24 @@ pub text_before : (operator : Op) (v w : Value) (s t : List ℕ) (r : Result Val
 text_before operator v w s t r is_number shown is_text h =
     let same : s ≡ number_text v = cc (printed_counted v is_number) in
     rw (operand_counted v is_number, is_text, ← same) h
+
+-- what is made of two numbers takes no memory
+divided : (b : Bool) (v : Value) → (if b then Ok v else Err Divide) ≢ Err OutOfMemory
+divided true v h = absurd (cc)
+divided false v h = absurd (cc)
+
+pub without_memory : (o : Op) (x y : ℤ) → of_numbers o x y ≢ Err OutOfMemory
+without_memory op.Divide x y h = divided (can_divide x y) _ h
+without_memory op.Remainder x y h = divided (can_divide x y) _ h
+without_memory o x y h = absurd (cc)
+
+-- a list of two
+pub two_values : (vs : List Value) (v w d e : Value) → length vs ≡ 2 → v ≡ get_or vs 0 d → w ≡ get_or vs 1 e → vs ≡ v ∷ w ∷ []
+two_values [] v w d e two p q = absurd (cc)
+two_values (a ∷ []) v w d e two p q = absurd (omega arith)
+two_values (a ∷ b ∷ []) v w d e two p q = rw (p, q) refl
+two_values (a ∷ b ∷ x ∷ xs) v w d e two p q = absurd (omega arith)
+
+pub gives_two : (o : Op) (vs : List Value) (v w : Value) (r : Result Value Fault) → vs ≡ v ∷ w ∷ [] → Gives r (of_two o (both (operand v) (operand w))) → Gives r (apply o vs)
+unfolding apply
+gives_two o vs v w r two h = rw two h

@@ -1,8 +1,11 @@
 -- The values at the top of a stack.
-use Rattle.std.proofs.Common.{◌≡◌, ◌≢◌, ◌∙◌, slice_get, slice_set, Bool, ℕ, ℤ, zero, suc, ◌+◌, ◌-◌, ◌<◌, ◌≤◌, true, false, ap, sym, subst, refl, inl, inr, List, [], ◌∷◌, ◌++◌, length, take, drop, Option, Some, None, option_map, option_and_then, Result, Ok, Err, arith}
+use Rattle.std.proofs.Common.{◌≡◌, ◌≢◌, ◌∙◌, ◌⊎◌, ◌==◌, get_or, Vec, Global, vec_len, slice_get, slice_set, Bool, ℕ, ℤ, zero, suc, ◌+◌, ◌-◌, ◌<◌, ◌≤◌, true, false, ap, sym, subst, refl, inl, inr, List, [], ◌∷◌, ◌++◌, length, take, drop, Option, Some, None, option_map, option_and_then, Result, Ok, Err, arith}
 use Rattle.std.proofs.Math.Seq.{append_snoc, drop-length, take-length, take-suc-set}
-use Rattle.std.proofs.lemmas.List.{append-nil, drop-append-le, length-drop, length-set, take-append-le, take_all}
-use Rattle.std.proofs.lemmas.Bool.{true_from_ne_false}
+use Rattle.std.proofs.lemmas.List.{append-nil, drop-append-le, length-drop, length-set, length-take, take-append-le, take_all}
+use Rattle.std.specs.Option.{ok_or, option_to_list}
+use Rattle.std.specs.Result.{IfErr, IfOk, OnErr}
+use Rattle.std.proofs.lemmas.Bool.{true_from_ne_false, true≢false}
+use Rattle.std.proofs.lemmas.Bool.Decides.{Decides-eqb}
 use Rattle.ink_model.specs.Asks.{operator_asks}
 use Rattle.ink_model.specs.Joining.{makes_text}
 use Rattle.ink_model.specs.Memory.{Gives}
@@ -11,11 +14,11 @@ use Rattle.ink_model.specs.Stack.{applied, applied_to, on_top, popped, taken}
 use Rattle.ink_model.specs.VariableMemory.{on_popped}
 use Rattle.ink_value.specs.Stack.{with_top}
 use Rattle.ink_model.specs.declared.fault.Fault.{Fault}
-use Rattle.ink_model.specs.declared.fault.Fault.TheVariants.{StackEmpty}
+use Rattle.ink_model.specs.declared.fault.Fault.TheVariants.{OutOfMemory, StackEmpty}
 use Rattle.ink_model.specs.declared.operator.Op.{Op}
 use Rattle.ink_model.specs.declared.operator.Op.TheVariants as op
 use Rattle.ink_model.specs.declared.value.Value.{Value}
-use Rattle.ink_value.proofs.Operands.{operand_number}
+use Rattle.ink_value.proofs.Operands.{operand_number, two_values}
 use Rattle.ink_value.specs.Words.{number_of}
 
 pub top_of : (vs : List Value) (v : Value) → popped (vs ++ v ∷ []) ≡ Some (v, vs)
@@ -110,6 +113,13 @@ two_taken vs xs below v w same enough two =
     let at : below ≡ length vs - 2 = omega (arith, enough) in
     taken_at 2 vs [] below enough ∙ ap (λ ys. Some (ys ++ [], take below vs)) (sym all ∙ two) ∙ ap (λ n. Some (v ∷ w ∷ [], take n vs)) at
 
+-- two values at their places in the slice
+at_places : (vs xs : List Value) (below : ℕ) (v w d e : Value) → xs ≡ vs → length vs ≡ below + 2 → v ≡ get_or (take (length xs - below) (drop below xs)) 0 d
+    → w ≡ get_or (take (length xs - below) (drop below xs)) 1 e → take (length xs - below) (drop below xs) ≡ v ∷ w ∷ []
+at_places vs xs below v w d e same enough p q =
+    two_values (take (length xs - below) (drop below xs)) v w d e
+    (omega (arith, length-take (length xs - below) (drop below xs), length-drop below xs, ap length same, enough)) p q
+
 -- what makes something of two numbers takes two values
 takes_two : (o : Op) (x y : ℤ) (v : Value) → of_numbers o x y ≡ Ok v → takes o ≡ 2
 takes_two op.Negate x y v h = absurd (cc)
@@ -125,6 +135,12 @@ unfolding apply
 numbers_make vs xs below v w x y same enough two is_x is_y o made h =
     let makes : apply o (v ∷ w ∷ []) ≡ Ok made = rw (operand_number v x is_x, operand_number w y is_y) h in
     ap (λ n. applied_to o (taken n vs [])) (takes_two o x y made h) ∙ ap (applied_to o) (two_taken vs xs below v w same enough two) ∙ ap (on_top (take (length vs - 2) vs)) makes
+
+pub numbers_at : (vs xs : List Value) (below : ℕ) (v w d e : Value) (x y : ℤ) → xs ≡ vs → length vs ≡ below + 2 → v ≡ get_or (take (length xs - below) (drop below xs)) 0 d
+    → w ≡ get_or (take (length xs - below) (drop below xs)) 1 e → number_of v ≡ Some x → number_of w ≡ Some y
+    → (o : Op) (made : Value) → of_numbers o x y ≡ Ok made → applied o vs ≡ Ok (take (length vs - 2) vs ++ made ∷ [])
+numbers_at vs xs below v w d e x y same enough p q is_x is_y =
+    numbers_make vs xs below v w x y same enough (at_places vs xs below v w d e same enough p q) is_x is_y
 
 -- the last value in another's place
 pub last_put : (vs : List Value) (n : ℕ) (v : Value) → length vs ≡ suc n → slice_set vs n v ≡ take n vs ++ v ∷ []
@@ -149,3 +165,40 @@ last_set vs v h = top_set vs (length vs - 1) v (omega arith)
 
 pub top_put : (vs : List Value) (v : Value) → 0 < length vs → Some (take (length vs - 1) vs ++ v ∷ []) ≡ with_top v (popped vs)
 top_put vs v h = ap Some (sym (last_put vs (length vs - 1) v (omega arith))) ∙ last_set vs v h
+
+-- ---- how many there are
+
+-- there are so many, as they are counted
+pub counted : (n k below : ℕ) (items : Vec Value Global) (vs : List Value) → n ≡ vec_len items → items.items ≡ vs → (k ≤ n) × (below ≡ n - k) → length vs ≡ below + k
+counted n k below items vs count same found = omega (arith, count, items.ok.0, ap length same, found.0, found.1)
+
+-- there are some, or none, as the test of the list told
+pub some_of : (b : Bool) (items : Vec Value Global) (vs : List Value) → b ≡ (vec_len items == 0) → b ≡ false → items.items ≡ vs → 0 < length vs
+some_of b items vs told is same =
+    let some : vec_len items ≢ 0 = λ none. true≢false (sym ((Decides-eqb (vec_len items) 0).1 none) ∙ sym told ∙ is) in
+    omega (arith, some, items.ok.0, ap length same)
+
+pub none_of : (b : Bool) (items : Vec Value Global) (vs : List Value) → b ≡ (vec_len items == 0) → b ≡ true → items.items ≡ vs → popped vs ≡ None
+none_of b items vs told is same =
+    let none : vec_len items ≡ 0 = (Decides-eqb (vec_len items) 0).0 (sym told ∙ is) in
+    empty vs (omega (arith, none, items.ok.0, ap length same))
+  where
+    empty : (us : List Value) → length us ≡ 0 → popped us ≡ None
+    empty [] h = refl
+    empty (u ∷ us) h = absurd (cc)
+
+-- an operator takes one or two
+pub few_taken : (o : Op) → (0 < takes o) × (takes o ≤ 2)
+few_taken op.Negate = (omega arith, omega arith)
+few_taken op.Not = (omega arith, omega arith)
+few_taken op.Floor = (omega arith, omega arith)
+few_taken op.Ceiling = (omega arith, omega arith)
+few_taken op.Int = (omega arith, omega arith)
+few_taken o = (omega arith, omega arith)
+
+-- ---- a value that is popped, where there is one
+
+pub pop_gives : (o : Option Value) (r : Result Value Fault) (old new : List Value) → r ≡ ok_or o StackEmpty → old ≡ new ++ option_to_list o
+    → IfOk r (λ v. old ≡ new ++ v ∷ []) × OnErr r (new ≡ old) × IfErr r (λ f. (f ≡ StackEmpty) ⊎ (f ≡ OutOfMemory)) × (r ≡ Err OutOfMemory → ⊥)
+pop_gives None r old new is was = rw is (tt, sym (was ∙ append-nil new), inl refl, λ e. absurd (cc))
+pop_gives (Some v) r old new is was = rw is (was, tt, tt, λ e. absurd (cc))

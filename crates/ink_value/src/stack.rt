@@ -7,7 +7,7 @@ ghost use Rattle.ink_model.specs.Operator as rules;
 ghost use Rattle.ink_model.specs.Stack.{applied, popped, taken};
 ghost use Rattle.ink_model.specs.Step.Host.{arguments_on};
 ghost use Rattle.ink_model.specs.VariableMemory.{on_popped};
-ghost use Rattle.ink_trail.specs.Undo.{Trails, TrailsOrKeeps};
+ghost use Rattle.ink_trail.specs.Undo.{KeepsTrail, Trails, TrailsOrKeeps, spare};
 ghost use Rattle.ink_model.specs.declared.operator.Op.{Op as Operator};
 ghost use Rattle.ink_model.specs.declared.value.Value.{Value as Data};
 ghost use Rattle.ink_value.specs.Stack.{with_top};
@@ -15,7 +15,7 @@ ghost use Rattle.ink_value.specs.Undo.{stack_back, stack_spare, stack_stood};
 
 use crate::numbers::of_numbers;
 use crate::operate::{apply, number_of};
-use crate::undo::{StackPair, drop_noted, replace_noted};
+use crate::undo::{StackPair, drop_last, drop_noted, replace_noted};
 use ink_model::{Fault, MAX_STACK, Op, Value};
 use ink_trail::Trail;
 use std::alloc::{AllocError, Global};
@@ -91,11 +91,7 @@ impl EvalStack {
         ensures stood { stack_stood self.new ≡ stack_stood self.old }
         ensures spare { stack_spare self.old ≤ stack_spare self.new + 1 }
     {
-        if self.items.len() >= MAX_STACK {
-            return Err(Fault::TooDeep);
-        }
-        make_room(&mut self.items)?;
-        self.trail.ready(1)?;
+        make_ready(&mut self.items, &mut self.trail)?;
         self.trail.note(StackPair::Pushed, 1);
         self.items.push_reserved(value);
         Ok(())
@@ -134,16 +130,19 @@ impl EvalStack {
         ensures stood { stack_stood self.new ≡ stack_stood self.old }
         ensures spare { stack_spare self.old ≤ stack_spare self.new + 1 }
     {
-        let Some(top) = self.items.last() else {
-            return Err(Fault::StackEmpty);
-        };
-        let copy = top.clone_in(*self.items.allocator())?;
-        self.trail.ready(1)?;
         let Some(value) = self.items.pop() else {
             return Err(Fault::StackEmpty);
         };
-        self.trail.note(StackPair::Popped(value), 1);
-        Ok(copy)
+        match copied(&value, *self.items.allocator(), &mut self.trail) {
+            Ok(copy) => {
+                self.trail.note(StackPair::Popped(value), 1);
+                Ok(copy)
+            }
+            Err(_) => {
+                self.items.push_reserved(value);
+                Err(Fault::OutOfMemory)
+            }
+        }
     }
 
     /// Puts a value in the place of the one on top, which is one change of a cell, without memory. Where there is none nothing has
@@ -162,13 +161,11 @@ impl EvalStack {
         if self.trail.is_marked() {
             return self.replace_marked(value);
         }
-        match self.items.last_mut() {
-            Some(top) => {
-                *top = value;
-                Ok(())
-            }
-            None => Err(value),
+        if self.items.is_empty() {
+            return Err(value);
         }
+        self.set_top(value);
+        Ok(())
     }
 
     // As `replace_top`, while a mark stands.
@@ -223,7 +220,7 @@ impl EvalStack {
         if self.trail.is_marked() {
             drop_noted(&mut self.items, &mut self.trail, count);
         } else if count == 1 {
-            self.items.pop();
+            self.drop_one();
         } else {
             self.items.truncate(self.items.len() - count);
         }
@@ -337,7 +334,7 @@ impl EvalStack {
         ensures items { self.new.items ≡ take (length self.old.items - 1) self.old.items }
         ensures trail { self.new.trail ≡ self.old.trail }
     {
-        self.items.pop();
+        drop_last(&mut self.items);
     }
 
     // Another value stands on top, while no mark stands.
@@ -378,6 +375,40 @@ impl EvalStack {
     {
         self.items.len()
     }
+}
+
+/// A copy of a value, and room for one change more. An error is for a count of owners that is full, or for a refused request for
+/// memory.
+#[inline(always)]
+fn copied(value: &Value, alloc: Global, trail: &mut Trail<StackPair>) -> Result<Value, AllocError>
+    ensures copy { IfOk result (λ copy. copy ≡ value.now) }
+    ensures kept { KeepsTrail trail.old trail.new }
+    ensures room { OnOk result (1 ≤ spare trail.new) }
+    ensures memory { OnErr result ((holds_memory value.now ≡ true) ⊎ (spare trail.old < 1)) }
+{
+    trail.ready(1)?;
+    value.clone_in(alloc)
+}
+
+/// Makes room for one more value, and for one change more. `TooDeep` where 10,000 values are there; `OutOfMemory` for a refused
+/// request for memory.
+#[inline(always)]
+fn make_ready(items: &mut Vec<Value>, trail: &mut Trail<StackPair>) -> Result<(), Fault>
+    ensures items { items.new.items ≡ items.old.items }
+    ensures more { vec_capacity items.old ≤ vec_capacity items.new }
+    ensures kept { KeepsTrail trail.old trail.new }
+    ensures few { OnOk result (vec_len items.old < MAX_STACK) }
+    ensures room { OnOk result (vec_len items.new < vec_capacity items.new) }
+    ensures spare { OnOk result (1 ≤ spare trail.new) }
+    ensures too_deep { (result ≡ Err Fault.TooDeep) ↔ (MAX_STACK ≤ vec_len items.old) }
+    ensures faults { IfErr result (λ f. (f ≡ Fault.TooDeep) ⊎ (f ≡ Fault.OutOfMemory)) }
+{
+    if items.len() >= MAX_STACK {
+        return Err(Fault::TooDeep);
+    }
+    make_room(items)?;
+    trail.ready(1)?;
+    Ok(())
 }
 
 /// Makes room for one more value. `OutOfMemory` for a refused request for memory.

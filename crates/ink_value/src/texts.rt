@@ -1,13 +1,13 @@
 //! Operators on two texts.
 
-ghost use Rattle.std.specs.Prelude.{◌≡◌, ◌≢◌, [], ◌∷◌, ◌++◌, false};
+ghost use Rattle.std.specs.Prelude.{◌≡◌, ◌≢◌, [], ◌∷◌, ◌++◌, false, IfOk};
 ghost use Rattle.ink_model.specs.Bytes as bytes;
 ghost use Rattle.ink_model.specs.Joining.{is_for_texts, joins};
 ghost use Rattle.ink_model.specs.Memory.{Gives};
 ghost use Rattle.ink_model.specs.Operator as rules;
 
 use ink_model::{Fault, MAX_TEXT, Op, Shared, Text, Value};
-use std::alloc::Global;
+use std::alloc::{AllocError, Global};
 
 // Does the operator have a result for two texts?
 pub(crate) fn is_for_texts(operator: Op) -> bool
@@ -76,10 +76,18 @@ fn joined(alloc: Global, left: &str, right: &str) -> Result<Value, Fault>
     if left.len() + right.len() > MAX_TEXT {
         return Err(Fault::TooDeep);
     }
+    Ok(Value::Text(Shared::new(alloc, both(alloc, left, right)?)?))
+}
+
+// A text that is two others, one after the other.
+#[inline(always)]
+fn both(alloc: Global, left: &str, right: &str) -> Result<Text, AllocError>
+    ensures { IfOk result (λ text. text ≡ left.now ++ right.now) }
+{
     let mut text = String::with_capacity(alloc, left.len() + right.len())?;
     text.push_str(left)?;
     text.push_str(right)?;
-    Ok(Value::Text(Shared::new(alloc, Text::from_string(text))?))
+    Ok(Text::from_string(text))
 }
 
 // Does a text stand in another?

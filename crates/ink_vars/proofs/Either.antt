@@ -13,3 +13,7 @@ module _ {E D : Type 0} (back : E → D → D) {A F : Type 0} where
   pub either-unmarked : (r : Result A F) (n : ℕ) (was is : D) (t : TrailView E) → is_some t.undo ≡ false → OnErr r (is ≡ was) → TrailsOrKeeps back n was t is t r
   either-unmarked (Ok a) n was is t none same = trails-unmarked back n was is t t none (refl, omega arith)
   either-unmarked (Err f) n was is t none same = (same, (refl, omega arith))
+
+pub on_err : {A F X : Type 0} (r : Result A F) → X → OnErr r X
+on_err (Ok a) x = tt
+on_err (Err f) x = x

@@ -1,5 +1,6 @@
 -- Names with their values.
 use Rattle.std.proofs.Common.{◌≡◌, ◌∙◌, ◌<◌, ℕ, zero, suc, Bool, true, false, bytes_eq, if◌then◌else◌, List, [], ◌∷◌, ◌++◌, Option, None, Some, ap, arith, is_some, length, option_map, refl, set, slice_get, slice_index_or, subst, sym, take, unwrap_or, ◌≤◌, Bor}
+use Rattle.std.proofs.lemmas.List.{length-append}
 use Rattle.std.proofs.lemmas.Option.{slice_get_past}
 use Rattle.std.specs.Slice.{IsItemAt}
 use Rattle.ink_model.specs.Store.{Values, store, stored}
@@ -192,3 +193,7 @@ index_of name ns vs i h at = sym (ap (λ o. unwrap_or o (length ns)) at) ∙ num
 
 pub not_in : (name : List ℕ) (ns : List (List ℕ)) (vs : List Value) → length ns ≡ length vs → is_some (stored name (rows_of ns vs)) ≡ false → names.number_of ns name ≡ None
 not_in name ns vs h absent = none_of (names.number_of ns name) (is_in name ns vs h ∙ absent)
+
+-- both lists have one more
+pub both_longer : {A B : Type 0} (xs zs : List A) (ys bs : List B) (x : A) (y : B) → zs ≡ xs ++ x ∷ [] → bs ≡ ys ++ y ∷ [] → length xs ≡ length ys → length zs ≡ length bs
+both_longer xs zs ys bs x y first second same = omega (arith, ap length first, length-append xs (x ∷ []), ap length second, length-append ys (y ∷ []), same)

@@ -1,8 +1,9 @@
 -- Rows of counts that are put back, and their slots.
-use Rattle.std.proofs.Common.{◌≡◌, ◌∙◌, ◌≤◌, ◌<◌, ◌+◌, ◌-◌, ℕ, List, [], ◌∷◌, Bool, true, false, IfSome, Option, None, Some, if◌then◌else◌, ap, arith, length, nat_lt, refl, subst, sym}
+use Rattle.std.proofs.Common.{◌≡◌, ◌∙◌, ◌≤◌, ◌<◌, ◌+◌, ◌-◌, ℕ, List, [], ◌∷◌, Bool, true, false, IfSome, Option, None, Some, if◌then◌else◌, ap, arith, length, nat_lt, refl, subst, sym, unwrap_or, ◌||◌}
 use Rattle.std.proofs.lemmas.Bool.Decides.{nat_tests}
 use Rattle.std.specs.Ordering.{nat_cmp}
-use Rattle.ink_model.specs.Counts.{CountsOf}
+use Rattle.ink_model.specs.Counts.{CountsOf, counts, one_more, visited}
+use Rattle.ink_model.specs.Flags.{counts_at_start, counts_visits, notes_turns}
 use Rattle.ink_model.specs.Rows.{row, with_row}
 use Rattle.ink_model.specs.declared.limits.TheConstants.{MAX_COUNT}
 use Rattle.ink_trail.proofs.Undoing.{trails-trails, trails-where}
@@ -92,3 +93,16 @@ past a b h = grind (arith, nat_tests)
 
 pub unchanged_past : (a b n : ℕ) (s t : List (Option ℕ)) → nat_lt a b ≡ false → n ≡ b → (n ≤ a → s ≡ t) → s ≡ t
 unchanged_past a b n s t h e f = f (omega (arith, past a b h, e))
+
+-- ---- a visit
+
+pub counts_late : (flags : ℕ) (at_start : Bool) → counts_at_start flags ≡ false → counts flags at_start ≡ true
+counts_late flags at_start h = rw h (elim at_start as (λ b. (b || true) ≡ true) [ true ↦ refl | false ↦ refl ])
+
+pub counts_start : (flags : ℕ) (at_start : Bool) → at_start ≡ true → counts flags at_start ≡ true
+counts_start flags at_start h = rw h refl
+
+pub visit_counts : (flags n turn : ℕ) (at_start b t : Bool) (was is : CountsOf ℕ) → counts flags at_start ≡ true → b ≡ counts_visits flags → t ≡ notes_turns flags
+    → is.visits ≡ (if b then with_row nat_cmp n (one_more (unwrap_or (row nat_cmp n was.visits) 0)) was.visits else was.visits)
+    → is.turns ≡ (if t then with_row nat_cmp n turn was.turns else was.turns) → is ≡ visited nat_cmp n flags at_start turn was
+visit_counts flags n turn at_start b t was is counted visits turns hv ht = rw (counted, ← visits, ← turns) (λ i. record { visits = hv i; turns = ht i })

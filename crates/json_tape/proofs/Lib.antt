@@ -11,3 +11,4 @@ pub mod Elements
 pub mod Rise
 pub mod Left
 pub mod Others
+pub mod Sorts

@@ -1,5 +1,5 @@
 -- Tokens that become nodes, one after another.
-use Rattle.std.proofs.Common.{◌≡◌, ℕ, zero, suc, ◌+◌, ◌-◌, ◌<◌, ◌≤◌, ⊎_elim, List, [], ◌∷◌, ◌++◌, map, length, take, drop, get_or, slice_set, Some, None, option_and_then, IsSome, refl, sym, ap, ap₂, ◌∙◌, subst, arith}
+use Rattle.std.proofs.Common.{◌≡◌, ℕ, zero, suc, ◌+◌, ◌-◌, ◌<◌, ◌≤◌, ⊎_elim, List, [], ◌∷◌, ◌++◌, map, length, take, drop, get_or, slice_set, Option, Some, None, option_and_then, Result, Ok, Err, IfOk, MatchOption, IsSome, refl, sym, ap, ap₂, ◌∙◌, subst, arith}
 use Rattle.std.proofs.lemmas.List.{append_assoc, append-nil, map-append, length-map, length-append, length-set, take_at, take-take, take-set, drop_at, drop_more, get_or-map, get_or-take, get_or_push, get_or-set_same, get_or-set_other}
 use Rattle.std.proofs.lemmas.Bool.{cases_lt}
 use Rattle.std.specs.Borrow.{Bor}
@@ -161,3 +161,16 @@ whole_alone text ns (g, passed) =
 pub whole : (text : List ℕ) (old ns : List Node) (first rest : List Token) → old ≡ [] → first ≡ tokens text → rest ≡ [] → Moves max_depth old first ns rest → Whole text ns
 whole text old ns first rest a b c moves =
     whole_alone text ns (subst (λ o. Moves max_depth o (tokens text) ns []) a (subst (λ ts. Moves max_depth old ts ns []) b (subst (Moves max_depth old first ns) c moves)))
+
+-- a text with no value, or with something behind it, is no document
+pub no_document : (text : List ℕ) (first : List Token) → first ≡ tokens text → (skip_value max_depth first ≡ Some [] → ⊥) → document text ≡ None
+no_document text first same other = by (value max_depth (tokens text)) (λ e. other (ap (skip_value max_depth) same ∙ e))
+  where
+    by : (o : Option (Json × List Token)) → (left o ≡ Some [] → ⊥) → option_and_then (λ p. if_last p.0 p.1) o ≡ None
+    by None h = refl
+    by (Some (j, [])) h = absurd (h refl)
+    by (Some (j, t ∷ ts)) h = refl
+
+pub without : {A E : Type 0} {I P : Type 0} (Q : A → Type 0) (r : Result (Option A) E) → (I → P) → IfOk r (λ found. (found ≡ None) × I) → IfOk r (λ found. MatchOption found P Q)
+without Q (Ok found) f h = rw h.0 (f h.1)
+without Q (Err e) f h = tt

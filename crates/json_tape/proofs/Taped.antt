@@ -1,5 +1,5 @@
 -- The nodes that a tape keeps, as they grow.
-use Rattle.std.proofs.Common.{◌≡◌, ℕ, zero, suc, ◌<◌, ◌≤◌, List, [], ◌∷◌, ◌++◌, length, get_or, slice_set, true, false, refl, ap, ap₂, ◌∙◌, arith}
+use Rattle.std.proofs.Common.{◌≡◌, ℕ, zero, suc, ◌<◌, ◌≤◌, List, [], ◌∷◌, ◌++◌, length, get_or, slice_set, true, false, Result, Ok, Err, OnErr, OnOk, refl, ap, ap₂, ◌∙◌, arith}
 use Rattle.std.proofs.lemmas.List.{length-append, get_or_push}
 use Rattle.std.specs.Borrow.{Bor}
 use Rattle.json.specs.declared.tape.Node.{Node}
@@ -130,6 +130,24 @@ module _ (texts : Texts) (tags : List Tag) (numbers : List ℕ) (tag : Tag) (are
 
   pub again_nodes : (number : ℕ) → nodes_of texts (tags ++ tag ∷ []) (numbers ++ number ∷ []) ≡ nodes_of texts tags numbers ++ node_of texts tag number ∷ []
   again_nodes number = nodes_more texts (length texts) tags numbers tag number are.fit
+
+-- ---- a tag and its number that are put, or not
+
+module _ {A E : Type 0} (r : Result A E) (texts : Texts) (tags new_tags : List Tag) (numbers new_numbers : List ℕ) (tag : Tag) (number : ℕ)
+    (has_tag : OnOk r (new_tags ≡ tags ++ tag ∷ [])) (has_number : OnOk r (new_numbers ≡ numbers ++ number ∷ [])) where
+  pub put_are : OnErr r ((new_tags ≡ tags) × (new_numbers ≡ numbers)) → AreNodes texts tags numbers → AreNodes texts (tags ++ tag ∷ []) (numbers ++ number ∷ []) → AreNodes texts new_tags new_numbers
+  put_are kept are more = by r has_tag has_number kept
+    where
+      by : (s : Result A E) → OnOk s (new_tags ≡ tags ++ tag ∷ []) → OnOk s (new_numbers ≡ numbers ++ number ∷ []) → OnErr s ((new_tags ≡ tags) × (new_numbers ≡ numbers)) → AreNodes texts new_tags new_numbers
+      by (Ok a) p q k = rw (p, q) more
+      by (Err e) p q k = rw (k.0, k.1) are
+
+  pub put_nodes : (all : List Node) → nodes_of texts (tags ++ tag ∷ []) (numbers ++ number ∷ []) ≡ all → OnOk r (nodes_of texts new_tags new_numbers ≡ all)
+  put_nodes all is = by r has_tag has_number
+    where
+      by : (s : Result A E) → OnOk s (new_tags ≡ tags ++ tag ∷ []) → OnOk s (new_numbers ≡ numbers ++ number ∷ []) → OnOk s (nodes_of texts new_tags new_numbers ≡ all)
+      by (Ok a) p q = rw (p, q) is
+      by (Err e) p q = tt
 
 -- ---- a bracket that leads elsewhere
 

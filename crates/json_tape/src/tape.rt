@@ -1,9 +1,9 @@
 //! A whole text of JSON as one flat list, in few bytes for each token.
 
-ghost use Rattle.std.specs.Prelude.{◌≡◌, ◌<◌, ◌^◌, ◌+◌, ◌++◌, ◌∷◌, [], true, false, ℕ, List, length, drop, get_or, slice_set, Some, None, Err, IfOk, IfSome, OnOk, IsSome, MatchOption};
+ghost use Rattle.std.specs.Prelude.{◌≡◌, ◌≢◌, ◌<◌, ◌^◌, ◌+◌, ◌++◌, ◌∷◌, [], true, false, ℕ, List, length, drop, get_or, slice_set, Some, None, Err, IfOk, IfSome, OnOk, OnErr, IsSome, MatchOption};
 ghost use Rattle.json.specs.Token.{Token as SpecToken, begin_array, begin_object};
 ghost use Rattle.json.specs.Lex.{tokens};
-ghost use Rattle.json.specs.Json.{document, skip_value};
+ghost use Rattle.json.specs.Json.{document, max_depth, skip_value};
 ghost use Rattle.json.specs.Reads.{token_of, opens, skip_items, skip_members};
 ghost use Rattle.json.specs.Tape.{node_token, LinkAt, Grown};
 ghost use Rattle.json.specs.Find.{HasValue};
@@ -81,11 +81,7 @@ impl<'a> Entries<'a> {
         requires { has_text tag ≡ false }
         ensures { OnOk result (self.new ≡ self.old ++ node_of [] tag number ∷ []) }
     {
-        self.tags.reserve(1)?;
-        self.numbers.reserve(1)?;
-        self.tags.push_reserved(tag);
-        self.numbers.push_reserved(number);
-        Ok(())
+        put(&mut self.tags, &mut self.numbers, tag, number)
     }
 
     /// One node more, of this text.
@@ -95,11 +91,13 @@ impl<'a> Entries<'a> {
         requires few { length self.old < 2 ^ 32 }
         ensures { OnOk result (self.new ≡ self.old ++ text_node tag text.entry ∷ []) }
     {
-        self.tags.reserve(1)?;
-        self.numbers.reserve(1)?;
         self.texts.reserve(1)?;
-        self.tags.push_reserved(tag);
-        self.numbers.push_reserved(self.texts.len() as u32);
+        put(
+            &mut self.tags,
+            &mut self.numbers,
+            tag,
+            self.texts.len() as u32,
+        )?;
         self.texts.push_reserved(text);
         Ok(())
     }
@@ -115,11 +113,7 @@ impl<'a> Entries<'a> {
         };
         let known = self.digits[digit];
         if is_text(&self.texts, known, text) {
-            self.tags.reserve(1)?;
-            self.numbers.reserve(1)?;
-            self.tags.push_reserved(Tag::Number);
-            self.numbers.push_reserved(known);
-            return Ok(());
+            return put(&mut self.tags, &mut self.numbers, Tag::Number, known);
         }
         self.digits[digit] = self.texts.len() as u32;
         self.push_text(Tag::Number, text)
@@ -145,6 +139,20 @@ impl<'a> Entries<'a> {
     {
         node(&self.texts, self.tags[at], self.numbers[at])
     }
+}
+
+/// One tag and its number more.
+#[inline(always)]
+fn put(tags: &mut Vec<Tag>, numbers: &mut Vec<u32>, tag: Tag, number: u32) -> Result<(), AllocError>
+    ensures tags { OnOk result (tags.new.items ≡ tags.old.items ++ tag ∷ []) }
+    ensures numbers { OnOk result (numbers.new.items ≡ numbers.old.items ++ number ∷ []) }
+    ensures kept { OnErr result ((tags.new.items ≡ tags.old.items) × (numbers.new.items ≡ numbers.old.items)) }
+{
+    tags.reserve(1)?;
+    numbers.reserve(1)?;
+    tags.push_reserved(tag);
+    numbers.push_reserved(number);
+    Ok(())
 }
 
 /// An empty list, with room for so many where there is memory for it.
@@ -315,6 +323,31 @@ fn members<'a>(reader: &mut Reader<'a>, nodes: &mut Entries<'a>, depth: usize) -
     Ok(())
 }
 
+/// Takes a whole text: one value, and nothing behind it.
+#[inline(always)]
+fn whole<'a>(reader: &mut Reader<'a>, nodes: &mut Entries<'a>) -> Result<(), Stop>
+    requires { length nodes.old + length reader.old < 2 ^ 32 }
+    ensures ok { OnOk result (Moves max_depth nodes.old reader.old nodes.new []) }
+    ensures invalid { result ≡ Err Stop.Invalid → skip_value max_depth reader.old ≢ Some [] }
+{
+    value(reader, nodes, MAX_DEPTH)?;
+    match reader.next() {
+        Some(_) => Err(Stop::Invalid),
+        None => Ok(()),
+    }
+}
+
+/// No tape, where a text was not taken into one.
+#[inline(always)]
+fn without_tape<'a>(stop: Stop) -> Result<Option<Tape<'a>>, AllocError>
+    ensures { IfOk result (λ found. (found ≡ None) × (stop ≡ Stop.Invalid)) }
+{
+    match stop {
+        Stop::Invalid => Ok(None),
+        Stop::Memory => Err(AllocError),
+    }
+}
+
 /// A text of JSON, token by token. A contract sees the tokens.
 #[derive(Drop)]
 pub struct Tape<'a> {
@@ -380,15 +413,10 @@ impl<'a> Tape<'a> {
     {
         let mut reader = Reader::new(text, scratch)?;
         let mut nodes = Entries::for_text(alloc, text.len());
-        match value(&mut reader, &mut nodes, MAX_DEPTH) {
-            Ok(()) => {}
-            Err(Stop::Invalid) => return Ok(None),
-            Err(Stop::Memory) => return Err(AllocError),
+        match whole(&mut reader, &mut nodes) {
+            Ok(()) => Ok(Some(Tape { nodes })),
+            Err(stop) => without_tape(stop),
         }
-        if reader.next().is_some() {
-            return Ok(None);
-        }
-        Ok(Some(Tape { nodes }))
     }
 
     /// How many tokens there are. They begin with a value.

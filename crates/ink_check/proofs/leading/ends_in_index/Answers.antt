@@ -7,3 +7,6 @@ returns-in-Some-Index c = ap is_index (ap Some (sym c.in-Some-Index.field-0-is) 
 
 pub returns-in-Some-Name : goal.returns-in-Some-Name
 returns-in-Some-Name c = ap is_index (ap Some (sym c.in-Some-Name.field-0-is) ∙ c.in-Some-Name.ensures.value) ∙ last_index c.args.parts.now
+
+pub returns-in-None : goal.returns-in-None
+returns-in-None c = ap is_index c.in-None.ensures.value ∙ last_index c.args.parts.now

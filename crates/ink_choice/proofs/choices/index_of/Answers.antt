@@ -1,6 +1,6 @@
 use Rattle.std.proofs.Common.{◌≡◌, ◌∙◌, ◌<◌, ◌||◌, true, not, ap, arith, get_or, length, suc, sym}
 use Rattle.std.proofs.lemmas.List.{get_or_default}
-use Rattle.ink_choice.proofs.Lists.{found_here, passed_one, passed_over}
+use Rattle.ink_choice.proofs.Lists.{found_here, passed_one, passed_over, passed_none, passed_all}
 use Rattle.ink_choice.proofs.choices.index_of.Goals.{then-can_take+else-left-eq0, else-can_take}
 use Rattle.ink_choice.proofs.choices.index_of.Goals as goal
 
@@ -33,3 +33,9 @@ loop-index-preserved g c =
       | else-can_take w ↦
           rw w.left-is (passed_over (λ y. any || not y.hidden) c.args.number i cs x inside c.loop-index.left (tested ∙ w.if-can_take.false) c.loop-index.invariant)
     ]
+
+pub loop-index-init : goal.loop-index-init
+loop-index-init g c = passed_none (λ x. c.args.any || not x.hidden) c.args.number c.args.choices.now
+
+pub returns : goal.returns
+returns g c = passed_all (λ x. c.args.any || not x.hidden) c.args.number c.loop-index.left c.loop-index.index c.args.choices.now c.loop-index-test.false c.loop-index.invariant

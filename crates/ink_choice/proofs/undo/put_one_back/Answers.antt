@@ -1,7 +1,7 @@
 use Rattle.std.proofs.Common.{◌≡◌, ◌∙◌, ◌-◌, ◌≤◌, ap, arith, length, rules, subst, sym, take, vec_capacity}
 use Rattle.ink_trail.proofs.Ending.{but_last-take}
 use Rattle.ink_choice.specs.Undo.{Held, choices_back, room_of}
-use Rattle.ink_choice.proofs.Undoing.{one_longer, put_at_end}
+use Rattle.ink_choice.proofs.Undoing.{one_longer, put_at_end, cleared_room}
 use Rattle.ink_choice.proofs.undo.put_one_back.Goals as goal
 
 pub returns-in-Added-clause-items : goal.returns-in-Added-clause-items
@@ -40,3 +40,6 @@ pub returns-else-index-len-clause-room : goal.returns-else-index-len-clause-room
 returns-else-index-len-clause-room g c =
     let room = vec_capacity c.args.items.now in
     subst (λ p. room_of p room ≤ vec_capacity c.push_reserved.new.self) (sym c.in-Taken.is) (omega (arith, c.push_reserved.ensures.capacity))
+
+pub returns-in-Cleared-clause-room : goal.returns-in-Cleared-clause-room
+returns-in-Cleared-clause-room g c = cleared_room c.args.pair c.in-Cleared.list (vec_capacity c.args.items.now) c.in-Cleared.is

@@ -4,6 +4,7 @@ use Rattle.std.proofs.lemmas.Iterator.Consumers.{YieldsList-end, YieldsList-turn
 use Rattle.std.proofs.lemmas.List.{append-nil, length_push}
 use Rattle.ink_model.specs.Events.{after}
 use Rattle.ink_model.specs.declared.host.Event.TheVariants.{Saw}
+use Rattle.ink_host.proofs.Laws.{has_room, succeeded}
 use Rattle.ink_host.proofs.TellingLoops.{heard-refused, heard-taken, later-more, map-same, stamp-taken, stand-heard, stand-told, tells-next, tells-none, tells-not}
 use Rattle.ink_host.specs.Desk.{Rows}
 use Rattle.ink_model.specs.declared.host.Change.{Change}
@@ -14,7 +15,7 @@ use Rattle.ink_host.proofs.telling.change_all.Goals as goal
 pub loop-change-init : goal.loop-change-init
 loop-change-init g c = (
   omega (arith, c.requires.room, c.args.changes.ok.0),
-  λ h. cc,
+  λ h. succeeded _ _ h,
   [],
   tells-none c.args.next.now,
   sym (append-nil c.args.events.now.items),
@@ -46,7 +47,7 @@ loop-change-preserved g c =
     let rows = standing string_bytes g.W.Watcher.state c.loop-change.watchers.entries in
     let x = c.in-Some.change in (
       omega (arith, inv.0, length_push c.loop-change.yielded x),
-      λ h. cc,
+      λ h. has_room _ refl h,
       inv.2,
       tells-not c.args.next.now c.loop-change.yielded (is_ok c.loop-change.outcome) inv.2 x inv.3,
       inv.4,

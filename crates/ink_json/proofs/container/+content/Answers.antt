@@ -11,8 +11,8 @@ use Rattle.ink_model.specs.View.{count_keys}
 use Rattle.ink_model.specs.declared.content.Leaf.{Leaf}
 use Rattle.ink_json.specs.Listing.{Lists, nodes_from, nodes_by_key, nodes_inside}
 use Rattle.ink_json.specs.Reading.{IsFirst, is_whole}
-use Rattle.ink_json.proofs.Containers.{own_only, first_ok, fails_first, keyed_takes, container_takes, container_stops, container_read, keyed_is, keyed_members, last_within, element_goes, element_stops, own_key_faults, key_stops, key_goes}
-use Rattle.ink_json.proofs.Growing.{container_listed, grown, inside_listed, keys_within, last_grown, next_key, opened_listed, own_key}
+use Rattle.ink_json.proofs.Containers.{own_only, first_ok, fails_first, keyed_takes, container_unsound, container_misnamed, container_takes, container_stops, container_read, keyed_is, keyed_members, last_within, element_goes, element_stops, own_key_faults, key_stops, key_goes}
+use Rattle.ink_json.proofs.Growing.{container_listed, grown, inside_listed, keys_within, last_grown, next_key, opened_listed, opened_room, opened_within, own_key}
 use Rattle.ink_json.proofs.Listing.{by_key_more, from_more}
 use Rattle.ink_json.proofs.container.+content.Goals as goal
 
@@ -22,6 +22,64 @@ read_keyed-read_named-requires t c =
     (omega arith, ((omega arith, omega arith), omega arith))
 
 -- ---- a container
+
+pub read_container-read_inside-requires : goal.read_container-read_inside-requires
+read_container-read_inside-requires t c =
+    let step = ap items_size c.in-Some.ensures.value in
+    (omega (arith, step), (omega arith, opened_room c.args.nodes.now c.open.new.self _ (items_size (items_left c.args.items)) _ c.in_ok-open.ensures step c.requires.room))
+
+pub read_container-close-requires : goal.read_container-close-requires
+read_container-close-requires t c =
+    opened_within c.args.nodes.now c.open.new.self c.read_inside.new.nodes _ _ c.len-number.result c.len-number.ensures.len c.in_ok-open.ensures c.in_ok-inside.ensures.nodes
+
+pub read_container-returns-in_default-read_own : goal.read_container-returns-in_default-read_own
+read_container-returns-in_default-read_own t c =
+    let ds = item (json_data c.in-Some.first) (items_left c.next.new.self) in
+    let is : json_data c.args.array.now ≡ array ds = c.requires.items ∙ ap array c.in-Some.ensures.value in
+    let wrong = subst (λ d. is_whole (own_of d) ≡ false) is c.in_default-read_own.ensures in
+    rw (is, c.refused-in_default-read_own.ensures) (container_unsound c.args.position.context.version c.args.position.context.nesting c.args.position.misnamed c.args.position.listed ds c.if-context-gt-MAX_NESTING.false wrong)
+
+pub read_container-returns-then-misnamed : goal.read_container-returns-then-misnamed
+read_container-returns-then-misnamed t c =
+    let ds = item (json_data c.in-Some.first) (items_left c.next.new.self) in
+    let is : json_data c.args.array.now ≡ array ds = c.requires.items ∙ ap array c.in-Some.ensures.value in
+    rw (is, c.refused-then-misnamed.ensures) (container_misnamed c.args.position.context.version c.args.position.context.nesting c.args.position.misnamed c.args.position.listed ds c.if-context-gt-MAX_NESTING.false c.if-misnamed.true)
+
+pub read_elements-loop-next-init : goal.read_elements-loop-next-init
+read_elements-loop-next-init t c =
+    record {
+      listed = refl;
+      wide = omega arith;
+      names = ([], c.none-names.ensures, refl);
+      last = refl;
+      within = omega arith;
+      room = omega arith;
+    }
+
+pub read_elements-returns-clause-nodes : goal.read_elements-returns-clause-nodes
+read_elements-returns-clause-nodes t c =
+    let l = c.loop-next in
+    let none = c.in_default.ensures.value in
+    sym (append-nil l.nodes) ∙ ap (λ ds. l.nodes ++ nodes_from (length l.nodes) c.args.number l.index (content_of c.args.context.version (item (json_data l.here) ds))) (sym none) ∙ l.invariant.listed
+
+pub read_elements-returns-clause-names : goal.read_elements-returns-clause-names
+read_elements-returns-clause-names t c =
+    let l = c.loop-next in
+    let names = l.invariant.names in
+    (names.0, names.1, names.2 ∙ ap (λ ds. faults_inside c.args.context.version c.args.context.nesting l.index names.0 (item (json_data l.here) ds)) c.in_default.ensures.value)
+
+pub read_elements-returns-clause-last : goal.read_elements-returns-clause-last
+read_elements-returns-clause-last t c = c.loop-next.invariant.last ∙ ap (own_after (json_data c.loop-next.here)) c.in_default.ensures.value
+
+pub read_inside-returns-clause-width : goal.read_inside-returns-clause-width
+read_inside-returns-clause-width t c =
+    c.in_ok-width.ensures.width
+
+pub read_inside-returns-clause-good : goal.read_inside-returns-clause-good
+read_inside-returns-clause-good t c =
+    let names = c.in_ok-width.ensures.names in
+    let read = c.in_ok-keys.ensures names.0 names.1 in
+    names.2 ∙ (first_ok _ (keyed_last c.args.context.version (json_data c.in_ok-width.field-0.last)) read.0 read.1).0
 
 pub read_container-returns-in_err-name : goal.read_container-returns-in_err-name
 read_container-returns-in_err-name t c =

@@ -33,3 +33,9 @@ returns-in-Err-clause-start g c = c.in-Err.ensures.start ∙ c.begin.ensures.sta
 -- what is said calls nothing
 pub returns-in-Ok-clause-refusals : goal.returns-in-Ok-clause-refusals
 returns-in-Ok-clause-refusals g c = line_kept g.F.TurnFn.refusals c.args.desk.now c.find_line.new.desk c.say.result c.in-Ok.ensures.refusals
+
+pub returns-in-Ok-clause-aside : goal.returns-in-Ok-clause-aside
+returns-in-Ok-clause-aside g c = c.say.ensures.aside ∙ c.in-Ok.ensures.aside ∙ c.begin.ensures.aside
+
+pub returns-in-Err-clause-aside : goal.returns-in-Err-clause-aside
+returns-in-Err-clause-aside g c = c.in-Err.ensures.aside ∙ c.begin.ensures.aside

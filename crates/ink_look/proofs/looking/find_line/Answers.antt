@@ -159,3 +159,12 @@ returns-in_default-clause-refusals g c = inl c.loop-step.invariant.refusals
 
 pub returns-clause-refusals : goal.returns-clause-refusals
 returns-clause-refusals g c = c.loop-step.invariant.refusals
+
+pub returns-in-Cut-clause-aside : goal.returns-in-Cut-clause-aside
+returns-in-Cut-clause-aside g c = c.in_ok-step_on.ensures.aside ∙ c.loop-step.invariant.aside
+
+pub returns-in-Stopped-clause-aside : goal.returns-in-Stopped-clause-aside
+returns-in-Stopped-clause-aside g c = c.in_ok-step_on.ensures.aside ∙ c.loop-step.invariant.aside
+
+pub returns-clause-aside : goal.returns-clause-aside
+returns-clause-aside g c = c.back-changes.ensures.aside ∙ c.loop-step.invariant.aside

@@ -1,10 +1,10 @@
-use Rattle.std.proofs.Common.{◌≡◌, ◌∙◌, ap, length, refl, rules, sym, true, [], Some, Ok, Err}
+use Rattle.std.proofs.Common.{◌≡◌, ◌∙◌, ap, length, refl, rules, sym, true, [], Some, Ok, Err, subst}
 use Rattle.ink_check.specs.Words.{story_tree}
 use Rattle.ink_host.proofs.Laws.{grew-none}
 use Rattle.ink_host.specs.Desk.{bound_by}
 use Rattle.ink_host.specs.Telling.{log_of}
 use Rattle.ink_look.specs.Ahead.{writes_words}
-use Rattle.ink_look.specs.Looking.{search_after}
+use Rattle.ink_look.specs.Looking.{search_after, Waits, waiting_after}
 use Rattle.ink_look.proofs.Followed.{words_end}
 use Rattle.ink_look.proofs.Marks.{back_stays, stays_marked}
 use Rattle.ink_look.proofs.Steps.{cut_at, cuts_call, cuts_fault, goes, quiet_so, stops}
@@ -138,3 +138,36 @@ pub returns-in-Err-clause-refusals : goal.returns-in-Err-clause-refusals
 returns-in-Err-clause-refusals g c =
     let other : c.in-Err.field-0 ≡ OutOfMemory → ⊥ = search rules in
     kept_unless g.F.TurnFn.refusals c.args.desk.now c.step.new.desk c.step.result c.in-Err.field-0 c.in-Err.is other c.step.ensures.refusals
+
+pub returns-in-Ok-Went-clause-aside : goal.returns-in-Ok-Went-clause-aside
+returns-in-Ok-Went-clause-aside g c = c.went_on.ensures.aside ∙ c.in-Ok-Went.ensures.aside
+
+pub returns-in-Ok-Went-clause-refusals : goal.returns-in-Ok-Went-clause-refusals
+returns-in-Ok-Went-clause-refusals g c = c.in-Ok-Went.ensures.refusals
+
+pub returns-in-Ok-Stopped-clause-aside : goal.returns-in-Ok-Stopped-clause-aside
+returns-in-Ok-Stopped-clause-aside g c = c.stopped.ensures.aside ∙ c.in-Ok-Stopped.ensures.aside
+
+pub returns-in-Ok-Stopped-clause-refusals : goal.returns-in-Ok-Stopped-clause-refusals
+returns-in-Ok-Stopped-clause-refusals g c = c.in-Ok-Stopped.ensures.refusals
+
+pub returns-in-Ok-WantsCall-clause-aside : goal.returns-in-Ok-WantsCall-clause-aside
+returns-in-Ok-WantsCall-clause-aside g c = c.cut-in-Ok-WantsCall.ensures.aside ∙ c.in-Ok-WantsCall.ensures.aside
+
+pub returns-in-Ok-WantsCall-clause-refusals : goal.returns-in-Ok-WantsCall-clause-refusals
+returns-in-Ok-WantsCall-clause-refusals g c = c.in-Ok-WantsCall.ensures.refusals
+
+pub returns-in-Ok-WantsCall-clause-waits : goal.returns-in-Ok-WantsCall-clause-waits
+returns-in-Ok-WantsCall-clause-waits g c = subst (λ l. Waits (waiting_after l) c.cut-in-Ok-WantsCall.new.machine) (sym c.cut-in-Ok-WantsCall.ensures.cut) c.cut-in-Ok-WantsCall.ensures.mark
+
+pub returns-in-Err-OutOfMemory-clause-aside : goal.returns-in-Err-OutOfMemory-clause-aside
+returns-in-Err-OutOfMemory-clause-aside g c = c.back-undone.ensures.aside ∙ c.in-Err-OutOfMemory.ensures.aside
+
+pub returns-in-Err-OutOfMemory-clause-refusals : goal.returns-in-Err-OutOfMemory-clause-refusals
+returns-in-Err-OutOfMemory-clause-refusals g c = rw c.in-Err-OutOfMemory.field-0-is at c.in-Err-OutOfMemory.ensures.refusals
+
+pub returns-in-Err-clause-aside : goal.returns-in-Err-clause-aside
+returns-in-Err-clause-aside g c = c.cut-in-Err.ensures.aside ∙ c.step.ensures.aside
+
+pub returns-in-Err-clause-waits : goal.returns-in-Err-clause-waits
+returns-in-Err-clause-waits g c = subst (λ l. Waits (waiting_after l) c.cut-in-Err.new.machine) (sym c.cut-in-Err.ensures.cut) c.cut-in-Err.ensures.mark

@@ -45,3 +45,27 @@ pub returns-in_err-step-clause-refusals : goal.returns-in_err-step-clause-refusa
 returns-in_err-step-clause-refusals g c =
     let is : c.from_residual.result ≡ Err c.in_err-step.field-0.0 = search rules in
     subst (StepStopsAtRefusal g.F.TurnFn.refusals c.args.desk.now c.step.new.desk) (sym is) c.in_err-step.ensures.refusals
+
+pub found-requires : goal.found-requires
+found-requires g c = record { unmarked = c.in_ok-step.ensures.mark ∙ c.requires.unmarked }
+
+pub returns-in-Went-clause-aside : goal.returns-in-Went-clause-aside
+returns-in-Went-clause-aside g c = c.found.ensures.aside ∙ c.in_ok-step.ensures.aside
+
+pub returns-in-Went-clause-refusals : goal.returns-in-Went-clause-refusals
+returns-in-Went-clause-refusals g c = c.in_ok-step.ensures.refusals
+
+pub returns-in_default-clause-refusals : goal.returns-in_default-clause-refusals
+returns-in_default-clause-refusals g c = c.in_ok-step.ensures.refusals
+
+pub returns-in_default-clause-watchers : goal.returns-in_default-clause-watchers
+returns-in_default-clause-watchers g c = c.in_ok-step.ensures.watchers
+
+pub returns-in_default-clause-start : goal.returns-in_default-clause-start
+returns-in_default-clause-start g c = c.in_ok-step.ensures.start
+
+pub returns-in_default-clause-aside : goal.returns-in_default-clause-aside
+returns-in_default-clause-aside g c = c.in_ok-step.ensures.aside
+
+pub returns-in_default-clause-waits : goal.returns-in_default-clause-waits
+returns-in_default-clause-waits g c = c.in_ok-step.ensures.mark ∙ c.requires.unmarked

@@ -46,3 +46,6 @@ pub returns-in_err-passage-clause-refusals : goal.returns-in_err-passage-clause-
 returns-in_err-passage-clause-refusals g c =
     let is : c.from_residual-in_err-passage.result ≡ Err OutOfMemory = search rules in
     subst (RunStopsAtRefusal g.F.TurnFn.refusals c.args.desk.now c.say.new.desk) (sym is) (inl c.in_ok-said.ensures.refusals)
+
+pub returns-clause-refusals : goal.returns-clause-refusals
+returns-clause-refusals g c = c.in_ok-said.ensures.refusals

@@ -10,7 +10,7 @@ use Rattle.ink_step.specs.Marks.{Stood, keeps_mark, pressed, stood_of}
 use Rattle.ink_step.proofs.Marks.{not_pressed}
 use Rattle.ink_step.specs.Runs.{RunFalls}
 use Rattle.ink_effects.specs.Refusals.{RunStopsAtRefusal}
-use Rattle.ink_step.specs.Words.{config_of, start_of}
+use Rattle.ink_step.specs.Words.{config_of, start_of, aside_in}
 
 pub returns-in_err-run-clause-runs : goal.returns-in_err-run-clause-runs
 returns-in_err-run-clause-runs g c =
@@ -80,3 +80,15 @@ pub returns-in_err-said-clause-refusals : goal.returns-in_err-said-clause-refusa
 returns-in_err-said-clause-refusals g c =
     let is : c.from_residual-in_err-said.result ≡ Err OutOfMemory = search rules in
     subst (RunStopsAtRefusal g.F.TurnFn.refusals c.args.desk.now c.run.new.desk) (sym is) (inl c.in_ok-run.ensures.refusals)
+
+pub settle-requires : goal.settle-requires
+settle-requires g c = record { unmarked = ap stood_of c.said_by.ensures.same ∙ c.in_ok-run.ensures.mark ∙ c.begin.ensures.mark }
+
+pub returns-clause-aside : goal.returns-clause-aside
+returns-clause-aside g c = c.settle.ensures.aside ∙ ap aside_in c.said_by.ensures.same ∙ c.in_ok-run.ensures.aside ∙ c.begin.ensures.aside
+
+pub returns-in_err-said-clause-aside : goal.returns-in_err-said-clause-aside
+returns-in_err-said-clause-aside g c = ap aside_in c.said_by.ensures.same ∙ c.in_ok-run.ensures.aside ∙ c.begin.ensures.aside
+
+pub returns-clause-refusals : goal.returns-clause-refusals
+returns-clause-refusals g c = c.in_ok-run.ensures.refusals

@@ -34,3 +34,9 @@ returns-in_err-enter-clause-flow c s values =
     let is : c.from_residual-in_err-enter.result ≡ Err c.in_err-enter.field-0.0 = search rules in
     rw is (call_breaks (frame_kind c.args.kind) (f c.args.place) (map_threads f old) (map_threads f c.push_frame.new.self.threads) w c.in_ok-push_frame.field-0 (pushes f (frame_kind c.args.kind) (depth_of w) old _ c.in_ok-push_frame.field-0 (pushing (goal.at.returns-in_err-enter-clause-flow c).In_ok-push_frame values))
     (is_function (frame_kind c.args.kind)) (map_threads f c.enter.new.threads.threads) v c.in_err-enter.field-0.0 (c.in_err-enter.ensures.flow s values))
+
+pub returns-clause-threads_mark : goal.returns-clause-threads_mark
+returns-clause-threads_mark c = cc
+
+pub returns-clause-output_mark : goal.returns-clause-output_mark
+returns-clause-output_mark c = cc

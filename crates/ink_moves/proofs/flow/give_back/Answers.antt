@@ -28,3 +28,18 @@ returns-in-None-clause-flow c =
     let f = place_of s in
     rw c.in-None.is (return_goes (next_place s) c.args.kind None (map_threads f c.args.threads.now.threads) (map_threads f c.leave.new.threads.threads) (written c.args.stack.now c.args.output.now)
     (written c.args.stack.now c.leave.new.output) _ c.in_ok-leave.field-0 (c.in_ok-leave.ensures.flow s c.args.stack.now.items) (map_threads f c.move_on.new.threads.threads) (written c.move_on.new.stack c.move_on.new.output) c.move_on.result c.move_on.ensures.flow)
+
+pub returns-in-Some-clause-threads_mark : goal.returns-in-Some-clause-threads_mark
+returns-in-Some-clause-threads_mark c = cc
+
+pub returns-in-None-clause-threads_mark : goal.returns-in-None-clause-threads_mark
+returns-in-None-clause-threads_mark c = cc
+
+pub returns-in-None-clause-stack_mark : goal.returns-in-None-clause-stack_mark
+returns-in-None-clause-stack_mark c = cc
+
+pub returns-in-None-clause-output_mark : goal.returns-in-None-clause-output_mark
+returns-in-None-clause-output_mark c = cc
+
+pub returns-in-Some-clause-output_mark : goal.returns-in-Some-clause-output_mark
+returns-in-Some-clause-output_mark c = cc

@@ -36,3 +36,6 @@ returns-in_err-end_function-in-Function-clause-flow c =
     let kind : c.loop-place.threads.threads.thread.frame.kind ≡ Function = ap (λ t. t.frame.kind) (sym c.top.ensures) ∙ sym c.in-Function.ensures in
     let is : c.from_residual.result ≡ Err c.in_err-end_function-in-Function.field-0.0 = search rules in
     rw is (function_broke (place_of s) (next_place s) _ _ w c.loop-place.threads.threads c.loop-place.invariant.way (sym c.in_default.ensures) kind _ _ c.in_err-end_function-in-Function.field-0.0 _ _ (c.in_err-end_function-in-Function.ensures.flow s))
+
+pub returns-in-Some-clause-threads_mark : goal.returns-in-Some-clause-threads_mark
+returns-in-Some-clause-threads_mark c = cc

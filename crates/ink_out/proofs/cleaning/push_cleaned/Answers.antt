@@ -1,6 +1,7 @@
-use Rattle.std.proofs.Common.{◌≡◌, ◌<◌, length, ◌∙◌, string_bytes, arith}
+use Rattle.ink_out.specs.Cleaning.{cleaned_on}
+use Rattle.std.proofs.Common.{◌≡◌, ◌<◌, length, ◌∙◌, string_bytes, arith, ◌++◌, ap, drop}
 use Rattle.std.proofs.lemmas.Str.{IsUtf8-drop}
-use Rattle.ink_out.proofs.Lines.{words_step, words_boundary, word_of, white_first, white_boundary}
+use Rattle.ink_out.proofs.Lines.{words_step, words_boundary, word_of, white_first, white_boundary, first_on}
 use Rattle.ink_out.proofs.cleaning.push_cleaned.Goals as goal
 
 pub split_at-requires : goal.split_at-requires
@@ -24,3 +25,16 @@ range_from-rest-requires c = λ _.
     let some : 0 < length rest = grind arith in
     let none : word_of rest ≡ 0 = (rw c.as_bytes.ensures.value at c.words_len-len.ensures.none) (omega (arith, c.if-len-gt0.false)) in
     white_boundary rest c.loop-rest.invariant.0 some (white_first rest some none)
+
+pub loop-rest-preserved : goal.loop-rest-preserved
+loop-rest-preserved c =
+    let rest = c.loop-rest.rest.now in
+    let text = string_bytes c.loop-rest.text in
+    let some : 0 < length rest = grind arith in (
+      c.range_from-rest.utf8,
+      λ more.
+          rw c.range_from-rest.ensures.value
+          ((rw c.as_bytes-else-len-gt0.ensures.value at (c.in_ok-before.ensures (drop 1 rest ++ more)))
+          ∙ ap (λ bs. text ++ cleaned_on c.loop-rest.before bs) (first_on rest more some)
+          ∙ c.loop-rest.invariant.1 more),
+    )

@@ -1,4 +1,6 @@
-use Rattle.std.proofs.Common.{◌≡◌, ◌∙◌, ◌<◌, ◌≤◌, ◌-◌, ℕ, List, [], get_or, set, length, map, ap, arith, refl, subst, sym}
+use Rattle.ink_model.specs.declared.fault.Fault.TheVariants.{OutOfMemory}
+use Rattle.ink_out.proofs.Closing.{asks_mark, unchanged}
+use Rattle.std.proofs.Common.{◌≡◌, ◌∙◌, ◌<◌, ◌≤◌, ◌-◌, ℕ, List, [], get_or, set, length, map, ap, arith, refl, subst, sym, inl}
 use Rattle.std.proofs.lemmas.Grind.{common_steps}
 use Rattle.std.proofs.lemmas.List.{length-set, nil_from_length}
 use Rattle.ink_model.specs.Configuration.{Section}
@@ -86,3 +88,10 @@ returns-in_err-extend-in_default-clause-back c = λ n room went.
     let failed = c.in_err-extend-in_default.ensures in
     goes-as room room _ _ _ _ (failed.trail (page_of c.args.line.now c.args.sections.now n)).1.0
     (same_set c.args.line.now c.args.sections.now n c.index-sections-open.result c.extend-in_default.new.self some failed.err) (omega arith) went
+
+pub returns-in_err-extend-in_default-clause-page : goal.returns-in_err-extend-in_default-clause-page
+returns-in_err-extend-in_default-clause-page c = λ n.
+    let some : 0 < length c.args.sections.now = grind arith in
+    let page = page_of c.args.line.now c.args.sections.now n in
+    let same = same_set c.args.line.now c.args.sections.now n c.index-sections-open.result c.extend-in_default.new.self some c.in_err-extend-in_default.ensures.err in
+    unchanged _ page _ OutOfMemory c.from_residual-in_err-extend-in_default.result same c.from_residual-in_err-extend-in_default.ensures.1 (inl (refl, asks_mark (map piece_mark c.args.pieces.items) page))

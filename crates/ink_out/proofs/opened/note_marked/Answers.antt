@@ -23,3 +23,6 @@ returns-clause-back c = λ n room went.
     (held_page room c.args.line.now _ c.args.sections.now _ n c.in_ok-note.ensures.within c.note.auto.sections (goes-now room _ _ went))
     (c.open_state-state.ensures n) (omega arith)
     (goes-as room room _ _ _ _ c.ready.ensures.kept.0 refl (omega arith) went))
+
+pub returns-clause-within : goal.returns-clause-within
+returns-clause-within c = c.in_ok-note.ensures.within

@@ -28,3 +28,6 @@ returns c =
     let marks = c.args.marks.now in
     let all = take_all c.loop-at.at marks c.loop-at-test.false in
     rw all at (finished c.finish.result c.args.cleans c.args.enters.now.starts.items (reverse (take c.loop-at.at marks)) c.loop-at.walk c.finish.ensures c.loop-at.invariant)
+
+pub loop-at-init : goal.loop-at-init
+loop-at-init c = c.new-walk.ensures c.args.cleans c.args.enters.now.starts.items c.new.ensures c.unpassed.ensures

@@ -8,6 +8,6 @@ use Rattle.ink_parts.proofs.flows.add_flows.Goals as goal
 
 pub returns : goal.returns
 returns c =
-    let name = c.in_ok-name.ensures ∙ ap string (c.current_name.ensures ∙ sym (current_seen (flow_of (story_tree c.args.tree.now)) c.args.aside.now)) in
+    let name = ap string (c.current_name.ensures ∙ sym (current_seen (flow_of (story_tree c.args.tree.now)) c.args.aside.now)) in
     let flows = c.in_ok-put.ensures.ok ∙ ap (λ d. put (codes "flows") d (members_view c.args.members.now.entries)) c.in_ok-flows.ensures in
-    subst (λ ms. OnOk c.put-2.result (members_view c.put-2.new.map.entries ≡ ms)) (λ i. put (codes "current") (name i) (flows i)) c.put-2.ensures.ok
+    subst (λ ms. OnOk c.add_text.result (members_view c.add_text.new.members.entries ≡ ms)) (λ i. put (codes "current") (name i) (flows i)) c.add_text.ensures

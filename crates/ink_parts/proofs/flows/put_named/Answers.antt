@@ -4,5 +4,5 @@ use Rattle.ink_parts.proofs.flows.put_named.Goals as goal
 pub returns : goal.returns
 returns c =
     let r = c.put-2.result in
-    finally r _ _ _ _ _ c.in_ok-put.ensures (finally r _ _ _ _ _ c.in_ok-put_choices.ensures (finally r _ _ _ _ _ c.in_ok-put_text.ensures
-    (finally r _ _ _ _ _ c.in_ok-put_flag.ensures (finally r _ _ _ _ _ c.in_ok-put_stack.ensures (finally r _ _ _ _ _ c.in_ok-put_threads.ensures c.put-2.ensures)))))
+    finally r _ _ _ _ _ c.in_ok-put.ensures (finally r _ _ _ _ _ c.in_ok-put_member.ensures (finally r _ _ _ _ _ c.in_ok-put_text.ensures
+    (finally r _ _ _ _ _ c.in_ok-put_flag.ensures (finally r _ _ _ _ _ c.in_ok-put_member-2.ensures (finally r _ _ _ _ _ c.in_ok-put_member-3.ensures c.put-2.ensures)))))

@@ -1,11 +1,10 @@
-use Rattle.std.proofs.Common.{◌∙◌, ◌∷◌, ◌++◌, [], ap, append_assoc, codes, sym, List, ℕ}
-use Rattle.ink_protocol.proofs.Answering.{newline_after}
+use Rattle.std.proofs.Common.{◌∙◌, ◌∷◌, ◌++◌, [], ap, append_assoc, codes, refl, sym, List, ℕ}
+use Rattle.ink_protocol.proofs.Answering.{made_as, newline_after}
 use Rattle.ink_protocol.proofs.answer.close_plain.Goals as goal
 
 pub returns : goal.returns
 returns c =
     let before = c.args.line.now.items in
-    let quoted = c.in_ok-push.ensures.items in
-    let plain = c.as_bytes.ensures.value ∙ sym c.requires in
-    let all = c.in_ok-extend_from_slice.ensures.items ∙ ap (λ (xs : List ℕ). xs ++ c.as_bytes.result.now) quoted ∙ append_assoc before (34 ∷ []) c.as_bytes.result.now ∙ ap (λ (xs : List ℕ). before ++ 34 ∷ xs) plain in
-    newline_after before c.args.front.now _ (codes "}\n") _ all c.in_ok-extend_from_slice-2.ensures.items
+    let front = c.args.front.now in
+    let all = c.in_ok-append.ensures ∙ ap (λ (xs : List ℕ). xs ++ front) c.in_ok-push.ensures.items ∙ append_assoc before (34 ∷ []) front ∙ ap (λ (xs : List ℕ). before ++ 34 ∷ xs) (sym c.requires) in
+    made_as c.append-2.result _ _ _ c.append-2.ensures (sym (newline_after before front _ (codes "}\n") _ all refl))

@@ -6,5 +6,5 @@ use Rattle.ink_protocol.proofs.answer.put_choices.Goals as goal
 
 pub returns : goal.returns
 returns c =
-    let front = c.in_ok-extend_from_slice-2.ensures.items ∙ ap (λ (xs : List ℕ). xs ++ codes "{\"choices\":[") c.requires in
+    let front = c.in_ok-append.ensures ∙ ap (λ (xs : List ℕ). xs ++ codes "{\"choices\":[") c.requires in
     made_as c.put_shown_all.result _ _ _ c.put_shown_all.ensures (sym (ap (λ (xs : List ℕ). xs ++ items_text false (items_of (map shown_data c.args.choices.now))) front))

@@ -1,9 +1,7 @@
-use Rattle.std.proofs.Common.{◌∙◌, ◌++◌, ap, List, ℕ}
 use Rattle.ink_protocol.proofs.Answering.{made_as, passage_from}
 use Rattle.ink_protocol.proofs.answer.put_quiet.Goals as goal
 
 pub returns : goal.returns
 returns c =
-    let told = c.in_ok-extend_from_slice.ensures.items ∙ ap (λ (xs : List ℕ). c.put_choices.new.line.items ++ xs) c.as_bytes.ensures.value in
     made_as c.close_text.result _ _ _ c.close_text.ensures
-    (passage_from c.args.passage.now c.as_slice.result.now c.as_str.result.now c.args.middle.now _ _ c.as_slice.ensures c.as_str.ensures c.in_ok-put_choices.ensures told)
+    (passage_from c.args.passage.now c.as_slice.result.now c.as_str.result.now c.args.middle.now _ _ c.as_slice.ensures c.as_str.ensures c.in_ok-put_choices.ensures c.in_ok-append.ensures)

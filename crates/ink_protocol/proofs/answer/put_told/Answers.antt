@@ -1,8 +1,9 @@
-use Rattle.std.proofs.Common.{◌∙◌, ap}
-use Rattle.ink_protocol.proofs.Answering.{answer_from_tokens}
+use Rattle.std.proofs.Common.{◌∙◌, refl, sym}
+use Rattle.ink_protocol.specs.Replies.{reply_by}
+use Rattle.ink_protocol.proofs.Answering.{answer_from_tokens, made_as}
 use Rattle.ink_protocol.proofs.answer.put_told.Goals as goal
 
 pub returns : goal.returns
 returns c saved =
-    let none = c.new-out.ensures.before ∙ ap (λ v. v.items) c.replace.ensures.value ∙ c.requires.empty in
-    answer_from_tokens _ _ _ _ _ none c.new-out.ensures.tokens (c.in_ok-write_reply.ensures saved) c.into_inner.ensures.items c.in_ok-push.ensures.items
+    made_as c.end_line.result _ _ _ c.end_line.ensures
+    (sym (answer_from_tokens (reply_by saved c.args.outcome.now) _ _ _ _ (c.writer_behind-out.ensures.before ∙ c.requires.empty) c.writer_behind-out.ensures.tokens (c.in_ok-write_reply.ensures saved) refl refl))

@@ -1,6 +1,6 @@
 use Rattle.std.proofs.Common.{◌≡◌, ◌∙◌, IfOk, OnErr, option_map, subst, sym, true}
 use Rattle.ink_protocol.specs.Commands.{command_by}
-use Rattle.ink_protocol.proofs.Commands.{choose_word, drop_word, flow_word, get_word, jump_word, load_word, set_word, set_word_asks, visits_word}
+use Rattle.ink_protocol.proofs.Commands.{choose_word, drop_word, flow_word, get_word, jump_word, load_word, no_word, restart_word, save_word, set_word, set_word_asks, through_word, visits_word}
 use Rattle.ink_protocol.proofs.command.command_in.Goals as goal
 
 pub returns-in-Some-clause-command : goal.returns-in-Some-clause-command
@@ -31,3 +31,17 @@ returns-in-Some-after-6-clause-command c = c.flow_command.ensures ∙ sym (flow_
 
 pub returns-in-Some-after-7-clause-command : goal.returns-in-Some-after-7-clause-command
 returns-in-Some-after-7-clause-command c = c.drop_command.ensures ∙ sym (drop_word c.args.text.now c.in-Some-after-7.name.now (sym c.in-Some-after-7.ensures))
+
+pub returns-then-eq-clause-command : goal.returns-then-eq-clause-command
+returns-then-eq-clause-command c = through_word c.args.text.now (sym c.if-eq.ensures)
+
+pub returns-then-eq-2-clause-command : goal.returns-then-eq-2-clause-command
+returns-then-eq-2-clause-command c = save_word c.args.text.now (sym c.if-eq-2.ensures)
+
+pub returns-then-eq-3-clause-command : goal.returns-then-eq-3-clause-command
+returns-then-eq-3-clause-command c = restart_word c.args.text.now (sym c.if-eq-3.ensures)
+
+pub returns-in-None-clause-command : goal.returns-in-None-clause-command
+returns-in-None-clause-command c =
+    no_word c.args.text.now c.requires (sym c.if-eq.ensures) (sym c.if-eq-2.ensures) (sym c.if-eq-3.ensures) (sym c.in_default.ensures) (sym c.in_default-after.ensures) (sym c.in_default-after-2.ensures)
+    (sym c.in_default-after-3.ensures) (sym c.in_default-after-4.ensures) (sym c.in_default-after-5.ensures) (sym c.in_default-after-6.ensures) (sym c.in-None.ensures)

@@ -1,9 +1,10 @@
-use Rattle.std.proofs.Common.{◌≡◌, ◌∙◌, ◌<◌, ◌≤◌, arith, inl, length, subst, sym}
+use Rattle.std.proofs.Common.{◌≡◌, ◌∙◌, ◌<◌, ◌≤◌, arith, get_or, inl, length, subst, sym}
 use Rattle.ink_model.specs.Places.{places}
 use Rattle.ink_model.specs.Save.Sound.{RowCounts}
 use Rattle.ink_model.specs.declared.limits.TheConstants.{MAX_COUNT}
 use Rattle.ink_restore.specs.Counted.{flag_of, least_of, row_at, rows_at}
-use Rattle.ink_restore.proofs.Numbering.{numbers_done, numbers_more, order_refused, slots_below}
+use Rattle.ink_restore.proofs.Making.{never}
+use Rattle.ink_restore.proofs.Numbering.{numbers_done, numbers_more, order_refused, row_refused, slots_below}
 use Rattle.ink_tree.specs.Nodes.{story_tree}
 use Rattle.ink_restore.proofs.Asking.{first_at}
 use Rattle.ink_spelling.proofs.Asking.{or_else}
@@ -43,3 +44,12 @@ returns-in_err-put_last-clause-memory c =
     let fits = RowCounts s (flag_of c.args.what) (least_of c.args.what) in
     or_else _ (first_at fits fits c.args.rows.now (rows_at s (rows_from 0 c.loop-row.slots.items)) c.loop-row.row-index c.row-item.result c.loop-row-test.true
     c.loop-row.invariant.joined c.loop-row.invariant.each (inl (subst fits c.row-item.is c.in-Some.ensures.row.1)))
+
+pub returns-in_default-clause-rows : goal.returns-in_default-clause-rows
+returns-in_default-clause-rows c =
+    let s = story_tree c.args.tree.now in
+    let r = c.row-item.result in
+    let i = c.loop-row.row-index in
+    let counts = RowCounts s (flag_of c.args.what) (least_of c.args.what) in
+    row_refused s (flag_of c.args.what) (least_of c.args.what) c.args.rows.now c.loop-row.slots.items i r c.loop-row-test.true
+    (never (row_at s) counts r (get_or c.args.rows.now i r) c.build_row.result c.row-item.is c.in_default.is c.build_row.ensures.row) c.loop-row.invariant

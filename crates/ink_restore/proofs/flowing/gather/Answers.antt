@@ -3,11 +3,11 @@ use Rattle.ink_flows.specs.Words.{flow_of, rows_of}
 use Rattle.ink_model.specs.Flows.{is_flow_name}
 use Rattle.ink_model.specs.Named.{at}
 use Rattle.ink_model.specs.Save.Sound.{FlowSound}
-use Rattle.ink_restore.proofs.Gathers.{gathers_all, gathers_barred, gathers_more}
-use Rattle.ink_restore.proofs.Making.{built}
+use Rattle.ink_restore.proofs.Gathers.{gathers_all, gathers_barred, gathers_more, gathers_refused}
+use Rattle.ink_restore.proofs.Making.{built, never}
 use Rattle.ink_tree.specs.Nodes.{story_tree}
 use Rattle.ink_restore.proofs.Asking.{first_at, list_now, named_asks}
-use Rattle.ink_restore.proofs.Standing.{both}
+use Rattle.ink_restore.proofs.Standing.{both, none_is}
 use Rattle.ink_restore.specs.Asks.{FlowAsks, NamedAsks}
 use Rattle.ink_restore.specs.Gathered.{NamedSound}
 use Rattle.ink_spelling.proofs.Asking.{or_else}
@@ -56,3 +56,18 @@ returns-in_err-join-in-Some-clause-memory c =
     or_else _ (list_now (NamedSound s) (NamedAsks s) c.args.flows.now ⊥ (named_asks s)
     (first_at (NamedSound s) (NamedAsks s) c.args.flows.now c.loop-named.invariant.taken c.loop-named.named-index r c.loop-named-test.true c.loop-named.invariant.joined c.loop-named.invariant.each
     (inl (ap is_flow_name (sym (c.name-name.ensures ∙ ap (λ y. y.0) c.named-item.is)) ∙ name, made.1))))
+
+pub returns-in-None-clause-gathers : goal.returns-in-None-clause-gathers
+returns-in-None-clause-gathers c =
+    let s = story_tree c.args.tree.now in
+    let i = c.loop-named.named-index in
+    let r = c.named-item.result in
+    gathers_refused s c.args.current.now c.args.flows.now (rows_of c.loop-named.made.rows.entries) c.loop-named.made.current i r c.loop-named-test.true
+    (λ k. never (flow_of s) (FlowSound s) _ (get_or c.args.flows.now i r).1 c.in_ok-flow.field-0 (c.flow.ensures ∙ ap (λ x. x.1) c.named-item.is) c.in-None.is c.in_ok-flow.ensures.builds k.1)
+    c.loop-named.invariant
+
+pub join-requires : goal.join-requires
+join-requires c =
+    let name = c.name-name.result.now in
+    let o = at name (rows_of c.loop-named.made.rows.entries) in
+    none_is o (both (is_flow_name name) (is_none o) (sym c.may_join.ensures ∙ c.if-not-may_join.false)).1

@@ -21,3 +21,13 @@ returns-in_ok-insert-2-clause-rows c =
     let same : bytes_eq c.args.current.now name ≡ false = sym c.eq.ensures ∙ c.if-eq.false in
     ap rows_of c.in_ok-insert-2.ensures.entries ∙ kept c.in_ok-key.key flow entries ∙ ap (λ n. put n flow (rows_of entries)) c.in_ok-key.ensures.ok ∙ put_absent name flow (rows_of entries) c.requires
     ∙ ap (λ b. rows_of entries ++ (name, if b then None else flow) ∷ []) (sym same)
+
+pub returns-in_ok-insert-2-clause-current : goal.returns-in_ok-insert-2-clause-current
+returns-in_ok-insert-2-clause-current c =
+    let same : bytes_eq c.args.current.now c.args.name.now ≡ false = sym c.eq.ensures ∙ c.if-eq.false in
+    ap (λ b. if b then Some c.args.flow else c.args.made.now.current) (sym same)
+
+pub returns-in_ok-insert-clause-current : goal.returns-in_ok-insert-clause-current
+returns-in_ok-insert-clause-current c =
+    let same : bytes_eq c.args.current.now c.args.name.now ≡ true = sym c.eq.ensures ∙ c.if-eq.true in
+    ap (λ b. if b then Some c.args.flow else c.args.made.now.current) (sym same)

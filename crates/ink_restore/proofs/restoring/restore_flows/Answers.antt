@@ -6,6 +6,7 @@ use Rattle.ink_model.specs.Save.Unspelled.{aside_but}
 use Rattle.ink_tree.specs.Nodes.{story_tree}
 use Rattle.ink_restore.proofs.Making.{built, never}
 use Rattle.ink_restore.proofs.Whole.{Plain, flows_built, flows_found, gather_refused, rows_current}
+use Rattle.ink_restore.proofs.Standing.{whether}
 use Rattle.ink_restore.specs.Gathered.{FlowsFit, gathered_as, may_be_all}
 use Rattle.ink_restore.specs.Asks.{FlowsAsk}
 use Rattle.ink_spelling.proofs.Asking.{or_else}
@@ -44,3 +45,7 @@ returns-in_err-gathered-clause-memory c =
     let s = story_tree c.args.tree.now in
     or_else _ (subst (λ xs. (may_be_all xs ≡ true) × FlowsAsk s xs) (c.as_slice-flows.ensures ∙ ap (λ x. x.flows) c.saved.view_is)
     (sym c.may_be_all.ensures ∙ c.if-not-may_be_all.false, c.in_err-gathered.ensures.memory))
+
+pub returns-in-Some-clause-all : goal.returns-in-Some-clause-all
+returns-in-Some-clause-all c =
+    whether _ c.with_aside.result (ap may_be_all (sym (c.as_slice-flows.ensures ∙ ap (λ x. x.flows) c.saved.view_is)) ∙ sym c.may_be_all.ensures ∙ c.if-not-may_be_all.false)

@@ -11,6 +11,7 @@ use Rattle.ink_stack.proofs.Quietness.{quiet_run}
 use Rattle.ink_stack.proofs.Staling.{staled_twice}
 use Rattle.ink_stack.proofs.undo.end_freshness.Given.{Over}
 use Rattle.ink_stack.proofs.undo.end_freshness.Goals.{After-end_freshness, After-end_one}
+use Rattle.ink_stack.proofs.Numbers.{one_there}
 use Rattle.ink_stack.proofs.undo.end_freshness.Goals as goal
 
 -- the top frame is fresh no more
@@ -61,3 +62,6 @@ pub returns-clause-held : goal.returns-clause-held
 returns-clause-held g c =
     subst (λ (w : RunningView g.row.P.Denot). StaysHeld (record { frames = w.room; threads = vec_capacity c.args.below.now }) (trail_of c.end_run.new.trail.undo) (threads_in w c.args.below.now.items))
     (sym (same g (goal.at.returns-clause-held g c).After-end_freshness)) c.end_run.ensures.held
+
+pub returns-then-is_quiet-clause-trail : goal.returns-then-is_quiet-clause-trail
+returns-then-is_quiet-clause-trail g c = trails-more threads_back 1 (frame_count c.args.running.now.thread) _ _ _ _ (one_there c.args.running.now.thread) c.end_one.ensures.trail

@@ -1,7 +1,8 @@
 use Rattle.std.proofs.Common.{◌∙◌, [], ◌∷◌, ap, arith, refl, reverse, vec_capacity}
 use Rattle.std.proofs.lemmas.List.{reverse-append}
 use Rattle.ink_stack.specs.Running.{threads_in}
-use Rattle.ink_stack.proofs.Holding.{room-refl, room-same, running-back}
+use Rattle.ink_stack.proofs.Holding.{room-refl, room-same, running-back, room-under}
+use Rattle.ink_stack.proofs.Lengths.{room_behind}
 use Rattle.ink_stack.proofs.undo.put_one_back.Goals as goal
 
 pub returns-in-Placed : goal.returns-in-Placed
@@ -43,3 +44,8 @@ returns-in-ThreadPopped g c =
 
 pub returns-in-Replaced : goal.returns-in-Replaced
 returns-in-Replaced g c = rw c.in-Replaced.is (record { threads = refl; room = record { frames = room-refl _; threads = omega arith } })
+
+pub push_reserved-requires : goal.push_reserved-requires
+push_reserved-requires g c =
+    room_behind c.args.below.now (vec_capacity c.args.below.now)
+    (room-under c.args.pair c.in-ThreadPopped.top (record { frames = c.args.running.now.room; threads = vec_capacity c.args.below.now }) (threads_in c.args.running.now c.args.below.now.items) c.in-ThreadPopped.is c.requires)

@@ -1,4 +1,5 @@
-use Rattle.std.proofs.Common.{◌≡◌, ◌≢◌, ◌∙◌, ◌++◌, ◌∷◌, [], ap, sym, true, false}
+use Rattle.std.proofs.Common.{◌≡◌, ◌≢◌, ◌∙◌, ◌++◌, ◌∷◌, [], ap, arith, sym, take, true, false}
+use Rattle.std.proofs.lemmas.List.{take_all}
 use Rattle.ink_host.specs.Desk.{watches}
 use Rattle.ink_model.specs.Store.{stored}
 use Rattle.ink_model.specs.Told.{change_of, is_other, told}
@@ -45,3 +46,9 @@ loop-number-preserved g c =
           ]
       | in_default w ↦ ap (λ v. v.items) w.told-is ∙ c.loop-number.invariant ∙ sym (told_past watched old new i (sym w.in_default.ensures))
     ]
+
+pub returns-clause-told : goal.returns-clause-told
+returns-clause-told g c =
+    let new = c.args.new.now.rows in
+    let all : take c.loop-number.number new ≡ new = take_all c.loop-number.number new (omega (arith, c.len-number-end.ensures, c.loop-number-test.false)) in
+    c.from_vec.ensures ∙ c.loop-number.invariant ∙ ap (told (watches c.args.desk.now.watchers) c.args.old.now.rows) all

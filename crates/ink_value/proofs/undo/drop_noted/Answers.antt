@@ -28,3 +28,13 @@ loop-preserved c =
       held = rw c.note.ensures.undo (held-with (Popped c.in-Some.value) 1 old.items new.items c.loop.trail.undo (vec_capacity old) (vec_capacity new) (sym was)
           (omega (arith, more, held.0), omega (arith, more, held.1, c.pop.ensures.capacity)) (omega (arith, c.pop.ensures.capacity)) inv.held);
     }
+
+pub returns-clause-items : goal.returns-clause-items
+returns-clause-items c =
+    let done : c.loop.counter ≡ c.args.count = omega (arith, c.loop.auto.counter-end, c.loop-test.false) in
+    c.loop.invariant.items ∙ ap (λ n. take (vec_len c.args.items.now - n) c.args.items.now.items) done
+
+pub returns-clause-trail : goal.returns-clause-trail
+returns-clause-trail c =
+    let done : c.loop.counter ≡ c.args.count = omega (arith, c.loop.auto.counter-end, c.loop-test.false) in
+    rw (← done) c.loop.invariant.trail

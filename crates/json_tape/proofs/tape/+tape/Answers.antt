@@ -26,6 +26,21 @@ items-loop-reader-smaller t c =
     let moves = subst (λ ts. Moves c.args.depth l.nodes ts c.value.new.nodes c.value.new.reader) going.1 c.in_ok-value.ensures.ok in
     (item_turn c.args.depth n c.push.new.self l.nodes c.value.new.nodes c.args.reader.now l.reader c.value.new.reader l.invariant.1 going.0 moves).1
 
+pub items-value-requires : goal.items-value-requires
+items-value-requires t c =
+    let l = c.loop-reader in
+    let going : (after_end_array l.reader ≡ None) × (c.take_end_array.new.self ≡ l.reader) = grind arith in (
+      omega arith,
+      omega (
+        arith,
+        grown_length c.push.new.self l.nodes c.args.reader.now l.reader l.invariant.1.2,
+        ap length c.in_ok-push.ensures,
+        length-append c.args.nodes.now (Array 0 ∷ []),
+        ap length going.1,
+        c.requires,
+      ),
+    )
+
 pub items-returns-in_err-value-clause-invalid : goal.items-returns-in_err-value-clause-invalid
 items-returns-in_err-value-clause-invalid t c invalid =
     let l = c.loop-reader in

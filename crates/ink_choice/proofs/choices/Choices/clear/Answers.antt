@@ -1,6 +1,7 @@
-use Rattle.std.proofs.Common.{◌∙◌, ap, arith, refl, sym}
+use Rattle.std.proofs.Common.{◌∙◌, ap, arith, refl, sym, vec_capacity}
 use Rattle.ink_trail.proofs.Undoing.{stood-trails, trails-unmarked}
 use Rattle.ink_choice.specs.Undo.{choices_back, choices_spare, choices_stood}
+use Rattle.ink_choice.proofs.Undoing.{held-empty, held-unmarked}
 use Rattle.ink_choice.proofs.choices.Choices.clear.Goals as goal
 
 pub returns-else-is_marked-clause-trail : goal.returns-else-is_marked-clause-trail
@@ -14,3 +15,9 @@ returns-else-is_marked-clause-stood g c = stood-trails choices_back (returns-els
 pub returns-else-is_marked-clause-spare : goal.returns-else-is_marked-clause-spare
 unfolding choices_spare
 returns-else-is_marked-clause-spare g c = omega (arith, ap choices_spare c.self.view_is)
+
+pub invariant_of-self : goal.invariant_of-self
+invariant_of-self g c =
+    let new = c.clear.new.self in
+    let held = held-empty (vec_capacity new) new.items c.clear.ensures.items in
+    (held.0, held-unmarked (vec_capacity new) c.self.inside.trail.undo new.items (sym c.is_marked.ensures ∙ c.if-is_marked.false) held, tt)

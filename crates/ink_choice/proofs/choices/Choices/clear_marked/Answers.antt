@@ -1,4 +1,4 @@
-use Rattle.std.proofs.Common.{ap, arith, length, vec_capacity}
+use Rattle.std.proofs.Common.{ap, arith, length, vec_capacity, ◌≤◌, subst, sym}
 use Rattle.ink_trail.proofs.Undoing.{spare-trails, stood-trails, trails-one}
 use Rattle.ink_choice.specs.Undo.{choices_back, choices_spare, choices_stood}
 use Rattle.ink_choice.specs.declared.undo.ChoicePair.TheVariants.{Cleared}
@@ -30,3 +30,7 @@ returns-clause-stood g c = stood-trails choices_back (returns-clause-trail g c)
 pub returns-clause-spare : goal.returns-clause-spare
 unfolding choices_spare
 returns-clause-spare g c = spare-trails choices_back (returns-clause-trail g c)
+
+pub note-requires-clause-spare : goal.note-requires-clause-spare
+unfolding choices_spare
+note-requires-clause-spare g c = subst (λ s. 1 ≤ choices_spare s) (sym c.self.view_is) c.requires.room

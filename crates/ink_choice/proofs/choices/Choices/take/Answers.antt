@@ -1,4 +1,4 @@
-use Rattle.std.proofs.Common.{◌≡◌, ◌∙◌, ◌<◌, ◌⊎◌, ◌||◌, None, Some, ap, arith, not, refl, subst, sym, true}
+use Rattle.std.proofs.Common.{◌≡◌, ◌∙◌, ◌<◌, ◌⊎◌, ◌||◌, None, Some, ap, arith, not, refl, subst, sym, true, length}
 use Rattle.ink_choice.specs.Undo.{choices_back, choices_spare}
 use Rattle.ink_choice.specs.Words.{FindsIndex}
 use Rattle.ink_model.specs.Choices.{none_visible, option_asks}
@@ -41,3 +41,6 @@ returns-in-Err-clause-asks g c =
 
 pub returns-in-None-clause-trail : goal.returns-in-None-clause-trail
 returns-in-None-clause-trail g c = rw (← c.self.view_is) (trails-kept choices_back 1 _ _ _ _ refl (refl, omega arith))
+
+pub take_at-requires : goal.take_at-requires
+take_at-requires g c = subst (λ cs. c.in-Some.index < length cs) (c.as_slice-2.ensures.value ∙ ap (λ s. s.items) c.self.view_is) c.in-Some.ensures.0

@@ -1,9 +1,10 @@
-use Rattle.std.proofs.Common.{◌∙◌, ap, arith, refl, sym, vec_capacity}
-use Rattle.ink_trail.proofs.Undoing.{stood-trails, trails-unmarked}
+use Rattle.std.proofs.Common.{◌∙◌, ap, arith, refl, sym, vec_capacity, ◌≡◌, is_some, subst, true, get_or}
+use Rattle.ink_trail.proofs.Undoing.{stood-trails, trails-unmarked, stood-marked}
 use Rattle.ink_trail.specs.Undo.{trail_of}
 use Rattle.ink_choice.specs.Undo.{choices_back, choices_spare, choices_stood}
 use Rattle.ink_choice.proofs.Settling.{settled-removed}
 use Rattle.ink_choice.proofs.Undoing.{held-now, held-unmarked}
+use Rattle.ink_choice.proofs.Lists.{on_err, in_list}
 use Rattle.ink_choice.proofs.choices.Choices.take_at.Goals as goal
 
 pub invariant_of-self : goal.invariant_of-self
@@ -28,3 +29,15 @@ returns-clause-stood g c = stood-trails choices_back (returns-clause-trail g c)
 pub returns-clause-spare : goal.returns-clause-spare
 unfolding choices_spare
 returns-clause-spare g c = omega (arith, ap choices_spare c.self.view_is)
+
+pub returns-then-is_marked-clause-memory : goal.returns-then-is_marked-clause-memory
+unfolding choices_stood
+returns-then-is_marked-clause-memory g c =
+    let marked = stood-marked choices_back c.self.inside.trail c.self.inside.items.items ∙ sym c.is_marked.ensures ∙ c.if-is_marked.true in
+    on_err c.take_marked.result (subst (λ s. is_some (choices_stood s) ≡ true) c.self.view_is marked)
+
+pub remove-requires : goal.remove-requires
+remove-requires g c = in_list c.self.inside.items c.args.self.now.items c.args.index (ap (λ s. s.items) c.self.view_is) c.requires
+
+pub returns-clause-choice : goal.returns-clause-choice
+returns-clause-choice g c = subst (λ s. c.remove.result ≡ get_or s.items c.args.index c.remove.result) c.self.view_is c.remove.ensures.value

@@ -1,4 +1,4 @@
-use Rattle.std.proofs.Common.{◌≡◌, ◌∙◌, ◌<◌, Some, ap, arith, inl, inr, length, refl, rules, slice_get, vec_capacity}
+use Rattle.std.proofs.Common.{◌≡◌, ◌∙◌, ◌<◌, Some, ap, arith, inl, inr, length, refl, slice_get, vec_capacity, get_or, subst}
 use Rattle.std.proofs.lemmas.Option.{slice_get_read}
 use Rattle.std.proofs.lemmas.Result.{err_from_is_err_and}
 use Rattle.std.specs.List.{insert}
@@ -9,6 +9,8 @@ use Rattle.ink_choice.specs.Undo.{choices_back, choices_spare, choices_stood}
 use Rattle.ink_choice.specs.declared.undo.ChoicePair.TheVariants.{Taken}
 use Rattle.ink_choice.proofs.Settling.{settled-removed}
 use Rattle.ink_choice.proofs.Undoing.{held-as, held-now, held-with, taken_back}
+use Rattle.ink_choice.proofs.Lists.{in_list}
+use Rattle.std.proofs.lemmas.List.{get_or_default}
 use Rattle.ink_choice.proofs.choices.Choices.take_marked.Goals as goal
 
 pub invariant_of-self-2 : goal.invariant_of-self-2
@@ -84,5 +86,17 @@ pub returns-in_err-copy-clause-asks : goal.returns-in_err-copy-clause-asks
 returns-in_err-copy-clause-asks g c =
     let p = err_from_is_err_and c.from_residual-in_err-copy.result c.from_residual-in_err-copy.ensures.1 in
     let items = c.args.self.now.items in
-    let there : slice_get items c.args.index ≡ Some c.index.result.now = slice_get_read items (length items) c.args.index c.index.result.now refl c.requires (search (rules, arith, c.index.ensures, c.self.view_is)) in
+    let there : slice_get items c.args.index ≡ Some c.index.result.now = slice_get_read items (length items) c.args.index c.index.result.now refl c.requires (subst (λ s. c.index.result.now ≡ get_or s.items c.args.index c.index.result.now) c.self.view_is c.index.ensures) in
     rw p.1 (inr (ap option_asks there ∙ c.in_err-copy.ensures.memory))
+
+pub returns-clause-choice : goal.returns-clause-choice
+returns-clause-choice g c =
+    let items = c.args.self.now.items in
+    let read : c.index.result.now ≡ get_or items c.args.index c.index.result.now = subst (λ s. c.index.result.now ≡ get_or s.items c.args.index c.index.result.now) c.self.view_is c.index.ensures in
+    c.in_ok-copy.ensures.copy ∙ read ∙ get_or_default items c.args.index c.index.result.now c.in_ok-copy.copy c.requires
+
+pub remove-choice-requires : goal.remove-choice-requires
+remove-choice-requires g c = in_list c.self.inside.items c.args.self.now.items c.args.index (ap (λ s. s.items) c.self.view_is) c.requires
+
+pub index-requires : goal.index-requires
+index-requires g c = in_list c.self.inside.items c.args.self.now.items c.args.index (ap (λ s. s.items) c.self.view_is) c.requires

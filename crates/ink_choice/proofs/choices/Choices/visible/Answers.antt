@@ -1,7 +1,7 @@
-use Rattle.std.proofs.Common.{◌≢◌, ◌<◌, ◌∙◌, [], arith, length, sym}
+use Rattle.std.proofs.Common.{◌≢◌, ◌<◌, ◌∙◌, [], arith, length, sym, ◌≡◌, ap}
 use Rattle.std.proofs.lemmas.Result.{err_from_is_err_and}
 use Rattle.ink_model.specs.Choices.{visible}
-use Rattle.ink_choice.proofs.Lists.{shows_none, shows_one, some_shown}
+use Rattle.ink_choice.proofs.Lists.{shows_none, shows_one, some_shown, all_shown}
 use Rattle.ink_choice.proofs.choices.Choices.visible.Goals.{then-is_visible+in_ok-shown_choice+in_ok-push, else-is_visible}
 use Rattle.ink_choice.proofs.choices.Choices.visible.Goals as goal
 
@@ -36,3 +36,9 @@ loop-choice-preserved g c =
       | else-is_visible w ↦
           rw w.shown-is (shows_none cs i x inside c.choice-item.is c.loop-choice.shown.items _ (sym c.is_visible.ensures ∙ w.if-is_visible.false) c.loop-choice.invariant)
     ]
+
+pub returns-clause-shown : goal.returns-clause-shown
+returns-clause-shown g c =
+    let seen = c.deref-choice-items.result.now in
+    let same : seen ≡ c.args.self.now.items = c.deref-choice-items.ensures.value ∙ ap (λ s. s.items) c.self.view_is in
+    c.from_vec.ensures ∙ all_shown c.loop-choice.shown.items seen c.args.self.now.items c.loop-choice.choice-index c.loop-choice.invariant c.loop-choice-test.false same

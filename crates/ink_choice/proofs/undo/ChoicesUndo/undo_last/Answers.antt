@@ -1,6 +1,6 @@
 use Rattle.std.proofs.Common.{◌∙◌, ap, arith, refl, subst, sym, vec_capacity}
 use Rattle.ink_trail.proofs.Parting.{stays-last}
-use Rattle.ink_trail.specs.Undo.{trail_of}
+use Rattle.ink_trail.specs.Undo.{trail_of, writes_of}
 use Rattle.ink_choice.specs.Undo.{Held, StaysHeld, choices_back, room_of}
 use Rattle.ink_choice.proofs.Undoing.{held-as, held-more, held-now}
 use Rattle.ink_choice.proofs.undo.ChoicesUndo.undo_last.Goals as goal
@@ -37,3 +37,9 @@ returns-in_default-clause-cells g c =
 
 pub returns-clause-cells : goal.returns-clause-cells
 returns-clause-cells g c = rw (← c.self.view_is) (c.in-Some.pair, c.in-Some.ensures.pair, c.put_one_back.ensures.items, c.take_last.ensures.room)
+
+pub returns-clause-writes : goal.returns-clause-writes
+returns-clause-writes g c = c.take_last.ensures.writes ∙ ap (λ s. writes_of s.trail.undo) c.self.view_is
+
+pub returns-in_default-clause-writes : goal.returns-in_default-clause-writes
+returns-in_default-clause-writes g c = c.take_last.ensures.writes ∙ ap (λ s. writes_of s.trail.undo) c.self.view_is

@@ -1,5 +1,6 @@
-use Rattle.std.proofs.Common.{◌≡◌, ◌∙◌, ◌++◌, List, ap, false, filter, is_ok, string_bytes, subst, sym, true}
+use Rattle.std.proofs.Common.{◌≡◌, ◌∙◌, ◌++◌, List, ap, false, filter, is_ok, refl, string_bytes, subst, sym, true}
 use Rattle.ink_model.specs.declared.host.Event.{Event}
+use Rattle.ink_host.proofs.Entries.{desk_of, rows_of}
 use Rattle.ink_host.proofs.TellingLoops.{named-filter, stand-begun, stand-round, states-standing}
 use Rattle.ink_host.proofs.TellingRows.{resting-stand, stand-resting}
 use Rattle.ink_host.proofs.TellingWhole.{grew-told, view}
@@ -74,3 +75,30 @@ returns-clause-rest g c = λ resting.
     let In : Rows Watching → Type 0 = λ rs. Stand (λ n. true) true rs in
     resting-stand state last (subst In (sym rows) (stand-round n cs watched t.answers first
     (stand-resting state (λ n. true) inside.watchers.entries (subst Old (sym c.self.view_is) resting))))
+
+pub returns-clause-functions : goal.returns-clause-functions
+returns-clause-functions g c = ap (λ d. d.functions) c.self.view_is
+
+pub returns-clause-no_room : goal.returns-clause-no_room
+returns-clause-no_room g c none = absurd (c.change_all-outcome.ensures.fault none)
+
+pub returns-clause-memory : goal.returns-clause-memory
+returns-clause-memory g c none = absurd (c.change_all-outcome.ensures.fault none)
+
+pub returns-in_default-clause-told : goal.returns-in_default-clause-told
+returns-in_default-clause-told g c told = absurd (told refl)
+
+pub returns-then-is_err-clause-functions : goal.returns-then-is_err-clause-functions
+returns-then-is_err-clause-functions g c = ap (λ d. d.functions) c.self.view_is
+
+pub returns-then-is_err-clause-told : goal.returns-then-is_err-clause-told
+returns-then-is_err-clause-told g c told = absurd (told refl)
+
+pub returns-then-is_err-clause-no_room : goal.returns-then-is_err-clause-no_room
+returns-then-is_err-clause-no_room g c none =
+    ap (λ es. desk_of (rows_of c.self.inside.functions.entries) (rows_of c.self.inside.watchers.entries) es c.self.inside.next) c.reserve.ensures.items ∙ c.self.view_is
+
+pub returns-then-is_err-clause-rest : goal.returns-then-is_err-clause-rest
+returns-then-is_err-clause-rest g c resting =
+    let Old : DeskView g.row.P.Denot g.row.T.Denot g.row.W.Denot → Type 0 = λ v. Resting (rests g.W.Watcher.state) v.watchers in
+    subst Old (sym c.self.view_is) resting

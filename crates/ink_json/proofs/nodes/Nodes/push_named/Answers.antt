@@ -19,3 +19,9 @@ returns-then-is_name c =
     ∙ again_pushed names c.args.name.now (get_or c.self.inside.slots c.slot-slot.result 0) c.self.inside.list.items _ refl (c.is_name.ensures.there c.if-is_name.true)
     (omega (arith, c.self.invariant.0, c.self.invariant.1)) (c.is_name.ensures.same c.if-is_name.true)
     ∙ ap (λ before. before ++ record { content = c.args.content; holder = c.args.holder; last = Some (Name c.args.name.now) } ∷ []) c.self.view_is
+
+pub invariant_of-self : goal.invariant_of-self
+invariant_of-self c = rw c.in_err-push.ensures.items c.self.invariant
+
+pub push_new_name-requires : goal.push_new_name-requires
+push_new_name-requires c = omega (arith, c.requires, ap length c.self.view_is)

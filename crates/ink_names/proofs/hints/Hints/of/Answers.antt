@@ -4,11 +4,11 @@ use Rattle.std.proofs.lemmas.List.{length-map, length-take, map-append, take_all
 use Rattle.ink_names.specs.Hints.{Finds}
 use Rattle.ink_names.specs.Names.{names_of}
 use Rattle.ink_names.proofs.Numbers.{nth_number}
-use Rattle.ink_names.proofs.Noting.{finds_on}
+use Rattle.ink_names.proofs.Noting.{finds_none, finds_on}
 use Rattle.ink_names.proofs.hints.Hints.of.Goals as goal
 
 pub loop-number-init : goal.loop-number-init
-loop-number-init c = (omega (arith, c.in_ok-from_elem.ensures.len), λ name number has. has, λ differ right. (right, λ name number its. absurd (cc)))
+loop-number-init c = (omega (arith, c.in_ok-from_elem.ensures.len), λ name number has. has, λ differ right. (right, finds_none _ c.args.others.now))
 
 pub returns-in_err-note-clause-right : goal.returns-in_err-note-clause-right
 returns-in_err-note-clause-right c = λ differ right.

@@ -3,7 +3,7 @@ use Rattle.std.proofs.lemmas.List.{length-append, length-map, map-append}
 use Rattle.ink_names.specs.Hints.{Finds, Right}
 use Rattle.ink_names.specs.Names.{Differ, names_of, number_of}
 use Rattle.ink_names.proofs.Numbers.{differ_pushed, number_behind}
-use Rattle.ink_names.proofs.Noting.{finds_on, right_pushed}
+use Rattle.ink_names.proofs.Noting.{finds_on, right_pushed, settled}
 use Rattle.ink_names.proofs.names.Names.add.Goals as goal
 
 pub invariant_of-self-2 : goal.invariant_of-self-2
@@ -38,3 +38,28 @@ invariant_of-self-in_err-note c =
       subst (Finds c.note.new.self c.note.new.others) (sym same) (λ q i its. c.note.ensures.leads q i (slots.finds inv.0 inv.1 inv.2 q i its)),
       omega (arith, ap length c.in_ok-reserve.ensures.items, c.note.ensures.slots, slots.enough inv.3),
     )
+
+pub invariant_of-self : goal.invariant_of-self
+invariant_of-self c =
+    let slots = c.in_err-make_slots.ensures in
+    let inv = c.self.invariant in
+    (inv.0, slots.right inv.0 inv.1, slots.finds inv.0 inv.1 inv.2, rw slots.err inv.3)
+
+pub invariant_of-self-in_err-listed : goal.invariant_of-self-in_err-listed
+invariant_of-self-in_err-listed c =
+    let slots = c.in_ok-make_slots.ensures in
+    let inv = c.self.invariant in
+    (inv.0, slots.right inv.0 inv.1, slots.finds inv.0 inv.1 inv.2, omega (arith, slots.enough inv.3))
+
+pub invariant_of-self-in_err-reserve : goal.invariant_of-self-in_err-reserve
+invariant_of-self-in_err-reserve c =
+    let slots = c.in_ok-make_slots.ensures in
+    let inv = c.self.invariant in
+    settled c.self.inside.list.items c.reserve.new.self.items c.make_slots.new.self c.make_slots.new.others c.in_err-reserve.ensures.items inv.0 (slots.right inv.0 inv.1) (slots.finds inv.0 inv.1 inv.2) (omega (arith, slots.enough inv.3))
+
+pub returns-clause-ok : goal.returns-clause-ok
+returns-clause-ok c =
+    let name = c.args.name.now in
+    ap names_of (c.push_reserved.ensures.items ∙ ap (λ items. items ++ c.in_ok-listed.listed ∷ []) c.in_ok-reserve.ensures.items)
+    ∙ map-append string_bytes c.self.inside.list.items (c.in_ok-listed.listed ∷ []) ∙ ap (λ listed. names_of c.self.inside.list.items ++ listed ∷ []) c.in_ok-listed.ensures.ok
+    ∙ ap (λ names. names ++ name ∷ []) c.self.view_is

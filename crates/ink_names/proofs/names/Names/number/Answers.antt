@@ -1,9 +1,10 @@
-use Rattle.std.proofs.Common.{◌≡◌, ◌∙◌, ◌-◌, Some, ap, arith, string_bytes, sym}
+use Rattle.std.proofs.Common.{◌≡◌, ◌∙◌, ◌-◌, ◌<◌, Some, ap, length, string_bytes, subst, sym}
+use Rattle.std.proofs.lemmas.Bool.{true≢false}
 use Rattle.std.proofs.lemmas.List.{length-map}
 use Rattle.std.proofs.lemmas.Option.{slice_get_within}
 use Rattle.std.proofs.lemmas.Slice.Eq.{bytes_eq-Decides}
 use Rattle.ink_names.specs.Names.{names_of, number_of}
-use Rattle.ink_names.proofs.Numbers.{nth_number, same_name, stands}
+use Rattle.ink_names.proofs.Numbers.{nth_number, past_end, same_name, stands}
 use Rattle.ink_names.proofs.Noting.{among_others}
 use Rattle.ink_names.proofs.names.Names.number.Goals.{in_default-via-in-Some+else-eq, in_default-via-in_default}
 use Rattle.ink_names.proofs.names.Names.number.Goals as goal
@@ -25,10 +26,10 @@ returns-in_default c =
           let facts = w.in-Some.ensures.lookup in
           let same = same_name items _ at w.in-Some.there.now name c.deref.ensures.value facts.3.0 facts.1 its in
           let equal = (bytes_eq-Decides w.as_str.result.now name).1 (w.as_str.ensures.value ∙ same) in
-          absurd (cc)
+          true≢false (sym equal ∙ sym w.eq.ensures ∙ w.if-eq.false)
       | in_default-via-in_default w ↦
           let within = slice_get_within (names_of items) at name (stands (names_of items) name at its) in
-          absurd (omega (arith, within, length-map items string_bytes, c.deref.ensures.len, w.in_default.ensures.lookup))
+          past_end at (length c.deref.result.now) (subst (λ n. at < n) (length-map items string_bytes ∙ sym (ap length c.deref.ensures.value)) within) w.in_default.ensures.lookup.0
     ] in
     c.copied.ensures ∙ c.get-in_default.ensures.value ∙ among_others c.self.inside.hints c.self.inside.others (names_of items) name c.self.invariant.1 c.self.invariant.2 (λ its. elsewhere (its ∙ ap (λ n. Some (n - 1)) (sym c.behind-behind.ensures)))
     ∙ ap (λ names. number_of names name) c.self.view_is

@@ -1,8 +1,8 @@
-use Rattle.std.proofs.Common.{◌≡◌, ◌∙◌, ap, inl, inr, refl, sym}
+use Rattle.std.proofs.Common.{◌≡◌, ◌∙◌, ap, inl, inr, refl, sym, ◌<◌, arith, length, reverse, subst}
 use Rattle.ink_model.specs.Output.{closes_string}
 use Rattle.ink_model.specs.declared.fault.Fault.TheVariants.{OutOfMemory}
 use Rattle.ink_out.specs.Writing.{page_of}
-use Rattle.ink_out.proofs.Closing.{hands_nothing, no_string, none_closed, nothing_open, on_top, string_asks, string_closed, string_refused}
+use Rattle.ink_out.proofs.Closing.{hands_nothing, no_string, none_closed, nothing_open, on_top, string_asks, string_closed, string_refused, close_asks}
 use Rattle.ink_out.proofs.Marks.{spare_after, stood_after}
 use Rattle.ink_out.proofs.output.Output.close_string.Goals as goal
 
@@ -44,3 +44,20 @@ returns-clause-stood c = rw (← c.self.view_is) (stood_after c.close.result 1 _
 
 pub returns-clause-spare : goal.returns-clause-spare
 returns-clause-spare c = rw (← c.self.view_is) (spare_after c.close.result 1 _ _ c.close.ensures.trail)
+
+pub close-requires : goal.close-requires
+close-requires c =
+    let s = c.self.inside in
+    let top = on_top s.sections.items c.deref.result.now (reverse s.sections.items) c.in-Some.opened.now refl c.deref.ensures.value (sym c.in-Some.ensures.value) in
+    subst (λ xs. 0 < length xs) (sym top) (omega arith)
+
+pub returns-in_err-close-clause-page : goal.returns-in_err-close-clause-page
+returns-in_err-close-clause-page c =
+    let s = c.self.inside in
+    let page = c.args.self.now.page in
+    let top = on_top c.self.inside.sections.items c.deref.result.now page.sections c.in-Some.opened.now (ap (λ w. w.page.sections) c.self.view_is) c.deref.ensures.value (sym c.in-Some.ensures.value) in
+    let failed = c.in_err-close.ensures.page in
+    hands_nothing (closes_string page) page _ c.in_err-close.field-0.0 c.from_residual-in_err-close.result (failed.1 ∙ ap (λ w. w.page) c.self.view_is) c.from_residual-in_err-close.ensures.1 (inl (close_asks (page_of s.line s.sections.items s.next_enter) c.in_err-close.field-0.0 failed.0, string_asks page c.in-Some.opened.now top c.if-not-is_string.ensures))
+
+pub returns-clause-trail : goal.returns-clause-trail
+returns-clause-trail c = rw (← c.self.view_is) c.in_ok-close.ensures.trail

@@ -47,3 +47,6 @@ returns-clause-stood c = rw (← c.self.view_is) (stood_after c.end_tag.result 2
 
 pub returns-clause-spare : goal.returns-clause-spare
 returns-clause-spare c = rw (← c.self.view_is) (spare_after c.end_tag.result 2 _ _ c.end_tag.ensures.trail)
+
+pub returns-clause-trail : goal.returns-clause-trail
+returns-clause-trail c = rw (← c.self.view_is) c.end_tag.ensures.trail

@@ -40,3 +40,8 @@ returns-clause-page c =
     let some = some_open c.self.inside.sections.items c.args.self.now.page.sections (ap (λ w. w.page.sections) c.self.view_is) c.requires in
     let written = closed_ok ((mark_of c.args.form) ∷ []) c.self.inside.line c.note_below.new.line c.self.inside.sections.items c.deref_mut.result.now c.note_below.new.sections c.pop.new.self.items c.self.inside.sections.len c.self.inside.next_enter c.deref_mut.ensures.value c.self.inside.sections.ok.0 some c.note_below.auto.sections c.pop.ensures.rest (c.in_ok-note_below.ensures.page c.self.inside.next_enter) in
     rw (← c.self.view_is, written) (refl, tt)
+
+pub note_below-requires : goal.note_below-requires
+note_below-requires c =
+    let some = some_open c.self.inside.sections.items c.args.self.now.page.sections (ap (λ w. w.page.sections) c.self.view_is) c.requires in
+    rw c.deref_mut.ensures.value some

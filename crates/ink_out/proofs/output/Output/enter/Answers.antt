@@ -1,8 +1,11 @@
-use Rattle.std.proofs.Common.{arith, refl, vec_capacity}
+use Rattle.ink_model.specs.Output.{begins_function}
+use Rattle.ink_model.specs.Memory.{Gives}
+use Rattle.ink_model.specs.Configuration.{Page}
+use Rattle.std.proofs.Common.{arith, refl, vec_capacity, Err, subst, sym, ap}
 use Rattle.ink_out.specs.Undo.{output_back, output_spare, output_stood}
 use Rattle.ink_out.specs.Writing.{page_of}
 use Rattle.ink_out.specs.declared.undo.OutputPair.TheVariants.{Numbered}
-use Rattle.ink_out.proofs.Closing.{refilled}
+use Rattle.ink_out.proofs.Closing.{refilled, begins, unchanged, limited}
 use Rattle.ink_out.proofs.Undoing.{goes-now, goes-with, or_keeps}
 use Rattle.ink_out.proofs.Marks.{spare_after, stood_after}
 use Rattle.ink_out.proofs.output.Output.enter.Goals as goal
@@ -53,3 +56,44 @@ returns-clause-stood c = stood-trails output_back (returns-clause-trail c)
 pub returns-clause-spare : goal.returns-clause-spare
 unfolding output_spare
 returns-clause-spare c = spare-trails output_back (returns-clause-trail c)
+
+pub returns-clause-page : goal.returns-clause-page
+returns-clause-page c =
+    let s = c.self.inside in
+    let next = c.in_ok-next.next in
+    let whole = refilled s.sections.items c.deref_mut.result.now c.note_in.new.sections s.sections.len s.sections.ok.0 c.deref_mut.ensures.value c.note_in.auto.sections in
+    let begun = begins s.line s.sections.items s.next_enter next (grind arith) (grind arith) in
+    let written = (rw c.deref_mut.ensures.value at (c.in_ok-note_in.ensures.page next)).0 in
+    rw (← c.self.view_is, whole, begun, written) (refl, tt)
+
+pub returns-in_err-note_in-clause-page : goal.returns-in_err-note_in-clause-page
+returns-in_err-note_in-clause-page c =
+    let s = c.self.inside in
+    let next = c.in_ok-next.next in
+    let page = page_of s.line s.sections.items s.next_enter in
+    let f = c.in_err-note_in.field-0.0 in
+    let whole = refilled s.sections.items c.deref_mut.result.now c.note_in.new.sections s.sections.len s.sections.ok.0 c.deref_mut.ensures.value c.note_in.auto.sections in
+    let begun = begins s.line s.sections.items s.next_enter next (grind arith) (grind arith) in
+    let kept = (rw c.deref_mut.ensures.value at (c.in_err-note_in.ensures.page s.next_enter)).1 in
+    let refused = (rw c.deref_mut.ensures.value at (c.in_err-note_in.ensures.page next)).0 in
+    rw (← c.self.view_is, whole)
+    (unchanged (begins_function page) page _ f c.from_residual-in_err-note_in.result kept c.from_residual-in_err-note_in.ensures.1 (subst (λ r. Gives {A = Page} (Err f) r) (sym begun) refused))
+
+pub returns-in_err-note_in-clause-limit : goal.returns-in_err-note_in-clause-limit
+returns-in_err-note_in-clause-limit c =
+    let s = c.self.inside in
+    let next = c.in_ok-next.next in
+    let begun = begins s.line s.sections.items s.next_enter next (grind arith) (grind arith) in
+    let limit = rw c.deref_mut.ensures.value at (c.in_err-note_in.ensures.limit next) in
+    rw (← c.self.view_is, begun) (limited _ c.in_err-note_in.field-0.0 c.from_residual-in_err-note_in.result c.from_residual-in_err-note_in.ensures.1 limit)
+
+pub returns-clause-limit : goal.returns-clause-limit
+returns-clause-limit c =
+    let s = c.self.inside in
+    let next = c.in_ok-next.next in
+    let begun = begins s.line s.sections.items s.next_enter next (grind arith) (grind arith) in
+    let written = (rw c.deref_mut.ensures.value at (c.in_ok-note_in.ensures.page next)).0 in
+    rw (← c.self.view_is, begun, written) tt
+
+pub returns-clause-number : goal.returns-clause-number
+returns-clause-number c = ap (λ w. w.page.next_enter) c.self.view_is

@@ -1,4 +1,6 @@
-use Rattle.std.proofs.Common.{◌≡◌, ◌∙◌, ◌≤◌, [], ◌∷◌, ◌++◌, ap, arith, vec_capacity}
+use Rattle.ink_out.specs.Opened.{section_kind}
+use Rattle.ink_out.proofs.Closing.{opens_one}
+use Rattle.std.proofs.Common.{◌≡◌, ◌∙◌, ◌≤◌, [], ◌∷◌, ◌++◌, ap, arith, vec_capacity, length, refl, sym}
 use Rattle.std.proofs.lemmas.List.{length-reverse}
 use Rattle.ink_out.specs.Undo.{output_back, output_spare, output_stood}
 use Rattle.ink_out.specs.Writing.{page_of}
@@ -56,3 +58,21 @@ returns-clause-stood c = stood-trails output_back (returns-clause-trail c)
 pub returns-clause-spare : goal.returns-clause-spare
 unfolding output_spare
 returns-clause-spare c = spare-trails output_back (returns-clause-trail c)
+
+pub returns-clause-page : goal.returns-clause-page
+returns-clause-page c =
+    let s = c.self.inside in
+    let new = c.push_reserved.new.self in
+    let opened = c.again-opened.result in
+    let is : new.items ≡ s.sections.items ++ opened ∷ [] = c.push_reserved.ensures.items ∙ ap (λ xs. xs ++ opened ∷ []) c.reserve.ensures.items in
+    let depth = c.depth.ensures ∙ ap (λ w. length w.page.sections) (sym c.self.view_is) in
+    rw (← c.self.view_is, opens_one (section_kind c.args.kind) s.line s.sections.items new.items s.next_enter c.depth.result opened depth c.if-depth-ge-MAX_SECTIONS.false is c.again-opened.ensures) (refl, tt)
+
+pub returns-clause-limit : goal.returns-clause-limit
+returns-clause-limit c =
+    let s = c.self.inside in
+    let new = c.push_reserved.new.self in
+    let opened = c.again-opened.result in
+    let is : new.items ≡ s.sections.items ++ opened ∷ [] = c.push_reserved.ensures.items ∙ ap (λ xs. xs ++ opened ∷ []) c.reserve.ensures.items in
+    let depth = c.depth.ensures ∙ ap (λ w. length w.page.sections) (sym c.self.view_is) in
+    rw (← c.self.view_is, opens_one (section_kind c.args.kind) s.line s.sections.items new.items s.next_enter c.depth.result opened depth c.if-depth-ge-MAX_SECTIONS.false is c.again-opened.ensures) tt

@@ -1,4 +1,4 @@
-use Rattle.std.proofs.Common.{◌≡◌, ◌≢◌, ℕ, true, false, not, cond, List, [], ◌∷◌, length, refl, arith, rules}
+use Rattle.std.proofs.Common.{◌≡◌, ◌≢◌, ℕ, true, false, not, cond, List, [], ◌∷◌, length, refl, arith, rules, vec_capacity}
 use Rattle.std.specs.List.{list_any}
 use Rattle.std.proofs.lemmas.List.{nil_from_length}
 use Rattle.ink_model.specs.Bytes.{is_blank}
@@ -60,3 +60,22 @@ returns-else-is_cut-clause-stood c = stood_after c.note_piece.result _ _ _ (retu
 
 pub returns-else-is_cut-clause-spare : goal.returns-else-is_cut-clause-spare
 returns-else-is_cut-clause-spare c = spare_after c.note_piece.result _ _ _ (returns-else-is_cut-clause-trail c)
+
+pub invariant_of-self-then-is_cut : goal.invariant_of-self-then-is_cut
+invariant_of-self-then-is_cut c =
+    let s = c.self.inside in
+    let kept = refilled s.sections.items c.deref_mut.result.now c.note_cut.new.sections s.sections.len s.sections.ok.0 c.deref_mut.ensures.value c.note_cut.auto.sections in
+    rw kept (c.note_cut.ensures.within c.self.invariant.0, (rw c.deref_mut.ensures.value at (c.note_cut.ensures.back s.next_enter (vec_capacity s.sections))) c.self.invariant.1)
+
+pub invariant_of-self-else-is_cut : goal.invariant_of-self-else-is_cut
+invariant_of-self-else-is_cut c =
+    let s = c.self.inside in
+    let kept = refilled s.sections.items c.deref_mut-else-is_cut.result.now c.note_piece.new.sections s.sections.len s.sections.ok.0 c.deref_mut-else-is_cut.ensures.value c.note_piece.auto.sections in
+    rw kept (c.note_piece.ensures.within c.self.invariant.0, (rw c.deref_mut-else-is_cut.ensures.value at (c.note_piece.ensures.back s.next_enter (vec_capacity s.sections))) c.self.invariant.1)
+
+pub returns-then-is_cut-clause-page : goal.returns-then-is_cut-clause-page
+returns-then-is_cut-clause-page c =
+    let s = c.self.inside in
+    let kept = refilled s.sections.items c.deref_mut.result.now c.note_cut.new.sections s.sections.len s.sections.ok.0 c.deref_mut.ensures.value c.note_cut.auto.sections in
+    let page = rw c.deref_mut.ensures.value at (c.note_cut.ensures.page s.next_enter) in
+    rw (← c.self.view_is, kept) page

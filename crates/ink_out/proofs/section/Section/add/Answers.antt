@@ -15,3 +15,12 @@ invariant_of-self-2 c =
     (c.add.ensures before (reverse s.settled.items) at (c.in_ok-note.ensures.ok before at c.self.invariant.knows))
     (c.in_ok-note.ensures.ok before at c.self.invariant.knows)
     c.self.invariant)
+
+pub invariant_of-self-in_err-make_room : goal.invariant_of-self-in_err-make_room
+invariant_of-self-in_err-make_room c = rw (c.reserve.ensures.items, c.make_room.ensures.items) c.self.invariant
+
+pub invariant_of-self-in_err-note : goal.invariant_of-self-in_err-note
+invariant_of-self-in_err-note c = rw (c.reserve.ensures.items, c.make_room.ensures.items) (record { stands = c.self.invariant.stands; knows = c.in_err-note.ensures.err _ c.self.invariant.knows })
+
+pub settle-requires : goal.settle-requires
+settle-requires c = c.in_ok-make_room.ensures.room

@@ -1,6 +1,6 @@
 use Rattle.std.proofs.Common.{◌≡◌, length, take, ap, arith}
 use Rattle.std.proofs.lemmas.List.{take_all}
-use Rattle.ink_protocol.proofs.Reading.{as_slice, cuts_all, cuts_newline}
+use Rattle.ink_protocol.proofs.Reading.{as_slice, cuts_all, cuts_before, cuts_newline, newline_left}
 use Rattle.ink_protocol.proofs.input.Ahead.cut.Goals as goal
 
 pub returns-in-Err-give : goal.returns-in-Err-give
@@ -28,3 +28,16 @@ returns-in_default-give c =
       omega (arith, ap length whole, c.requires.some),
       end.line,
     )
+
+pub returns-in-Err : goal.returns-in-Err
+returns-in-Err c =
+    let a = c.self.inside in
+    let same = as_slice a.chunk _ a.at a.end (omega arith) (ap (λ v. v.unread) c.self.view_is) in
+    let end = c.in-Err.ensures in
+    (take c.in-Some.count c.args.self.now.unread, cuts_before _ _ _ c.in-Some.count same c.in-Some.ensures end.bytes end.count, end.line)
+
+pub skip-requires-clause-some : goal.skip-requires-clause-some
+skip-requires-clause-some c =
+    let a = c.self.inside in
+    let same = as_slice a.chunk _ a.at a.end (omega arith) (ap (λ v. v.unread) c.self.view_is) in
+    newline_left c.in-Some.count _ _ _ same c.in-Some.ensures c.in_default.ensures.bytes

@@ -1,4 +1,4 @@
-use Rattle.std.proofs.Common.{◌∙◌, ◌<◌, [], ap, arith, get_or, length, sym}
+use Rattle.std.proofs.Common.{◌∙◌, ◌<◌, [], ap, arith, get_or, length, sym, ◌≤◌, length-set, subst}
 use Rattle.ink_model.specs.Threads.{stale}
 use Rattle.ink_stack.specs.Frames.{frame_with}
 use Rattle.ink_stack.proofs.Flat.{framed_at, framed_length, header_changed}
@@ -30,3 +30,6 @@ returns-clause-kept g c = λ d.
     let inside : c.args.index < length hs = omega (arith, c.requires, ap (λ v. length v.items) c.self.view_is, framed_length hs ts) in
     let is = framed_at hs ts c.args.index d c.index_mut.result.now inside ∙ ap (λ h. frame_with h (get_or ts c.args.index [])) (sym c.index_mut.ensures.value) in
     rw (← c.self.view_is) (rw is (c.end_one.ensures.kept (get_or ts c.args.index [])))
+
+pub invariant_of-self : goal.invariant_of-self
+invariant_of-self g c = subst (λ n. length c.self.inside.temps.items ≤ n) (sym (length-set c.self.inside.headers.items c.args.index c.end_one.new.self)) c.self.invariant

@@ -1,4 +1,4 @@
-use Rattle.std.proofs.Common.{◌<◌, true, ap, arith, length}
+use Rattle.std.proofs.Common.{◌<◌, true, ap, arith, length, ◌≤◌, length-set, subst, sym}
 use Rattle.ink_stack.specs.Cells.{with_fresh}
 use Rattle.ink_stack.specs.Frames.{frame_with}
 use Rattle.ink_stack.proofs.Flat.{framed_length, header_changed}
@@ -14,3 +14,6 @@ returns-clause-items g c = λ d.
     let inside : c.args.index < length hs = omega (arith, c.requires, ap (λ v. length v.items) c.self.view_is, framed_length hs ts) in
     rw (← c.self.view_is) (header_changed (with_fresh true) hs ts c.args.index (record c.index_mut.result.now { fresh = true }) c.index_mut.result.now d inside
     (λ rows. ap (λ h. with_fresh true (frame_with h rows)) c.index_mut.ensures.value))
+
+pub invariant_of-self : goal.invariant_of-self
+invariant_of-self g c = subst (λ n. length c.self.inside.temps.items ≤ n) (sym (length-set c.self.inside.headers.items c.args.index (record c.index_mut.result.now { fresh = true }))) c.self.invariant

@@ -1,6 +1,7 @@
 use Rattle.std.proofs.Common.{◌≡◌, ◌∙◌, ◌++◌, [], ◌∷◌, false, ap, arith, reverse, subst, sym}
 use Rattle.ink_stack.specs.Frames.{FitsIn, frame_with, framed, is_bare}
-use Rattle.ink_stack.proofs.Flat.{bare_none, framed_bare, framed_put, room_more, room_with}
+use Rattle.ink_stack.proofs.Flat.{bare_none, framed_bare, framed_put, room_more, room_with, put_within}
+use Rattle.ink_model.specs.Frames.{FrameOf}
 use Rattle.ink_stack.proofs.frames.Frames.push_from.Goals as goal
 
 pub push_reserved-requires : goal.push_reserved-requires
@@ -45,3 +46,11 @@ returns-clause-items g c =
     (ap (λ xs. framed xs c.put_last.new.temps.items) c.push_reserved-2.ensures.items ∙ ap (λ ys. framed (hs ++ header ∷ []) ys) c.put_last.ensures.items
     ∙ framed_put hs ts c.len-index.result header rows (omega (arith, c.len-index.ensures, c.self.inside.headers.ok.0)) (omega (arith, c.self.invariant, c.len-index.ensures, c.self.inside.headers.ok.0))
     ∙ ap (λ f. framed hs ts ++ f ∷ []) c.frame.view_is)
+
+pub invariant_of-self-2 : goal.invariant_of-self-2
+invariant_of-self-2 g c =
+    put_within c.self.inside.headers.items c.push_reserved-2.new.self.items c.self.inside.temps.items c.put_last.new.temps.items c.len-index.result c.frame.inside.header c.frame.inside.temps
+    c.push_reserved-2.ensures.items c.put_last.ensures.items (c.len-index.ensures ∙ c.self.inside.headers.ok.0) c.self.invariant
+
+pub returns-clause-frame : goal.returns-clause-frame
+returns-clause-frame g c = ap (λ rows. frame_with c.frame.inside.header rows) c.put_last.ensures.own ∙ ap (λ (f : FrameOf g.row.P.Denot). record f { temps = [] }) c.frame.view_is

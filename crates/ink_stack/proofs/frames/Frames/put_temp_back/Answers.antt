@@ -1,4 +1,4 @@
-use Rattle.std.proofs.Common.{◌≡◌, ◌∙◌, ◌<◌, [], ap, arith, get_or, length, set, sym, false, nat_lt}
+use Rattle.std.proofs.Common.{◌≡◌, ◌∙◌, ◌<◌, [], ap, arith, get_or, length, set, sym, false, nat_lt, ◌≤◌, length-set, subst}
 use Rattle.std.proofs.lemmas.Bool.Decides.{nat_tests}
 use Rattle.std.proofs.lemmas.List.{get_or_default}
 use Rattle.ink_stack.specs.Cells.{temps_back}
@@ -24,3 +24,6 @@ returns-else-index-len-clause-items g c = λ d.
     let inside : c.args.index < length hs = omega (arith, c.requires, ap (λ v. length v.items) c.self.view_is, framed_length hs ts) in
     let past : false ≡ nat_lt i (length ts) = grind (arith, nat_tests, c.if-index-len.false, c.self.inside.temps.ok.0) in
     rw (← c.self.view_is) (bare_back (framed hs ts) i c.args.row c.args.was d (temps_at hs ts i d inside ∙ rows_past ts i past))
+
+pub invariant_of-self : goal.invariant_of-self
+invariant_of-self g c = subst (λ n. n ≤ length c.self.inside.headers.items) (sym (length-set c.self.inside.temps.items c.args.index c.put_back.new.self)) c.self.invariant

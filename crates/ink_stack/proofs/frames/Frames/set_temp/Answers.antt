@@ -1,11 +1,12 @@
-use Rattle.std.proofs.Common.{rules, ◌≡◌, ◌∙◌, ◌<◌, ◌+◌, ◌-◌, ap, arith, false, get_or, length, length-set, nat_lt, set, sym}
+use Rattle.std.proofs.Common.{rules, ◌≡◌, ◌∙◌, ◌<◌, ◌+◌, ◌-◌, ap, arith, false, get_or, length, length-set, nat_lt, set, sym, subst, ◌≤◌, vec_capacity}
 use Rattle.std.proofs.lemmas.Bool.Decides.{nat_tests}
 use Rattle.std.proofs.lemmas.List.{length-append, length-replicate, set-get_or}
 use Rattle.std.proofs.lemmas.Result.{IfOk-weaker, err_from_is_err_and, on_err_weaker, on_ok_weaker}
 use Rattle.ink_model.specs.Rows.{name_order, row, with_row}
 use Rattle.ink_stack.specs.Frames.{framed}
 use Rattle.ink_stack.specs.Temps.{text_of}
-use Rattle.ink_stack.proofs.Flat.{framed_length, rows_past, temps_at, temps_filled, temps_put, temps_restored, temps_were}
+use Rattle.ink_stack.proofs.Flat.{framed_length, rows_past, temps_at, temps_filled, temps_put, temps_restored, temps_were, filled_past}
+use Rattle.std.proofs.Math.Nat.{le_refl}
 use Rattle.ink_stack.proofs.frames.Frames.set_temp.Goals as goal
 
 pub overflow_add-index : goal.overflow_add-index
@@ -87,3 +88,12 @@ returns-clause-back g c = λ d.
     (IfOk-weaker c.set.result _ _
     (λ was back. temps_restored hs ts filled n i was.0 c.set.new.self was.1 d c.in_ok-fill_up.ensures.ok (omega arith) (omega (arith, c.self.invariant)) (back ∙ c.index_mut.ensures.value ∙ were))
     c.set.ensures.back)
+
+pub index_mut-requires : goal.index_mut-requires
+index_mut-requires g c = subst (λ n. c.args.index < n) (sym c.fill_up.new.temps.ok.0) (filled_past c.self.inside.temps.items c.fill_up.new.temps.items c.args.index c.in_ok-fill_up.ensures.ok)
+
+pub invariant_of-self : goal.invariant_of-self
+invariant_of-self g c = subst (λ ts. length ts ≤ length c.self.inside.headers.items) (sym c.in_err-fill_up.ensures.err) c.self.invariant
+
+pub returns-clause-room : goal.returns-clause-room
+returns-clause-room g c = rw (← c.self.view_is) (record { frames = le_refl (vec_capacity c.self.inside.headers); temps = c.fill_up.ensures.room })

@@ -7,3 +7,6 @@ pub returns-in_err-below-clause-memory : goal.returns-in_err-below-clause-memory
 returns-in_err-below-clause-memory g c =
     let p = err_from_is_err_and c.from_residual-in_err-below.result c.from_residual-in_err-below.ensures.1 in
     rw p.1 (inr (rw (← c.self.view_is) (some_reversed _ c.in_err-below.ensures.memory)))
+
+pub invariant_of-result : goal.invariant_of-result
+invariant_of-result g c = rw (c.in_ok-below.ensures.copy, c.in_ok-frame.ensures.copy) c.self.invariant

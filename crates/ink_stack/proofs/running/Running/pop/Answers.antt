@@ -1,4 +1,4 @@
-use Rattle.std.proofs.Common.{◌≡◌, ◌∙◌, [], ◌∷◌, true, ap, arith, reverse}
+use Rattle.std.proofs.Common.{◌≡◌, ◌∙◌, [], ◌∷◌, true, ap, arith, reverse, length}
 use Rattle.std.proofs.lemmas.List.{reverse-append}
 use Rattle.ink_model.specs.Frames.{ThreadOf}
 use Rattle.ink_stack.proofs.Keeping.{kept_fewer}
@@ -20,3 +20,9 @@ returns-in-Some-clause-thread g c =
     rw (← c.self.view_is)
     (popped_made c.args.kind c.args.depth t f c.replace.new.dest c.replace.result (reverse rest) kind (omega (arith, c.depth.ensures))
     (ap reverse c.in-Some.ensures.items ∙ reverse-append rest (f ∷ [])) c.replace.ensures.after)
+
+pub invariant_of-self-in-None : goal.invariant_of-self-in-None
+invariant_of-self-in-None g c = absurd (c.if-len-eq0.false (c.len.ensures ∙ ap length c.in-None.ensures.items.0))
+
+pub returns-in-None-clause-thread : goal.returns-in-None-clause-thread
+returns-in-None-clause-thread g c = absurd (c.if-len-eq0.false (c.len.ensures ∙ ap length c.in-None.ensures.items.0))

@@ -1,8 +1,8 @@
-use Rattle.std.proofs.Common.{◌≡◌, ◌∙◌, [], ◌∷◌, ◌++◌, false, ap, arith, is_some, length, refl}
+use Rattle.std.proofs.Common.{◌≡◌, ◌∙◌, [], ◌∷◌, ◌++◌, false, ap, arith, is_some, length, refl, sym}
 use Rattle.std.proofs.lemmas.List.{length-append, length-reverse}
 use Rattle.ink_stack.specs.Calls.{frame_kind}
 use Rattle.ink_stack.proofs.Bases.{call_is}
-use Rattle.ink_stack.proofs.Keeping.{base_more, quiet_more, unnumbered_more}
+use Rattle.ink_stack.proofs.Keeping.{base_more, quiet_more, unnumbered_more, true_false}
 use Rattle.ink_stack.proofs.running.Running.push.Goals.{then-self, else-self}
 use Rattle.ink_stack.proofs.running.Running.push.Goals as goal
 
@@ -14,8 +14,8 @@ invariant_of-self-2 g c =
     let kind : c.begin.new.self.kind ≡ frame_kind c.args.kind = ap (λ h. h.kind) c.begin.ensures ∙ c.frame_kind.ensures in
     let numbered : c.if-self.self ≡ false → (c.self.inside.numbered ≡ false) × (is_some f.enter ≡ false) =
     elim c.if-self.branch [
-      | then-self w ↦ λ is. (cc, cc)
-      | else-self w ↦ λ is. (cc, cc)
+      | then-self w ↦ λ is. true_false c.self.inside.numbered w.if-self.true (sym w.self-is ∙ is)
+      | else-self w ↦ λ is. (w.if-self.false, ap is_some (sym w.number.ensures) ∙ sym w.is_some-self-inside.ensures ∙ sym w.self-is ∙ is)
     ] in
     rw more (
       omega (arith, c.frames.ensures.count, ap (λ v. length v.thread.below) c.self.view_is, length-reverse items, length-append items (f ∷ [])),

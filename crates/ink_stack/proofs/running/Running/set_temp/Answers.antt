@@ -5,7 +5,7 @@ use Rattle.ink_stack.specs.Cells.{temp_back, with_frame}
 use Rattle.ink_stack.specs.Temps.{text_of}
 use Rattle.ink_stack.proofs.Bases.{base_same, same_along}
 use Rattle.ink_stack.proofs.Framing.{base_set, unframed_below}
-use Rattle.ink_stack.proofs.Numbers.{memory_along, quiet_set, row_kept, row_made, set_either, temp_along}
+use Rattle.ink_stack.proofs.Numbers.{memory_along, quiet_set, row_kept, row_made, set_either, temp_along, number_below, some_number}
 use Rattle.ink_stack.proofs.Unnumbered.{unnumbered_set}
 use Rattle.ink_stack.proofs.Tops.{back_top, memory_top, temp_top}
 use Rattle.ink_model.specs.Frames.{ThreadOf}
@@ -100,3 +100,8 @@ returns-then-number-frames-clause-back g c =
     let top : c.args.number ≡ frame_count c.args.self.now.thread = c.if-number-frames.true ∙ c.frames.ensures.count in
     let t : ThreadOf g.row.P.Denot = record { frame = c.self.inside.frame; below = reverse c.self.inside.below.items; previous = c.self.inside.previous } in
     rw (← c.self.view_is) (back_top c.set_temp.result t c.args.number c.set_temp.new.self (top ∙ ap (λ v. frame_count v.thread) (sym c.self.view_is)) c.set_temp.ensures.back)
+
+pub set_temp-requires-2 : goal.set_temp-requires-2
+set_temp-requires-2 g c =
+    number_below c.args.self.now.thread c.self.inside.below.items c.args.number (ap (λ v. v.thread.below) c.self.view_is)
+    c.requires.there (λ is. c.if-number-frames.false (is ∙ sym c.frames.ensures.count)) (some_number c.args.number c.requires.from)

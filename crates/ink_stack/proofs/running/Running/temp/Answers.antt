@@ -1,7 +1,7 @@
-use Rattle.std.proofs.Common.{◌≡◌, ◌∙◌, ◌∷◌, ◌<◌, ◌≤◌, ap, arith, length, option_and_then, refl, reverse, sym}
+use Rattle.std.proofs.Common.{◌≡◌, ◌∙◌, ◌∷◌, ◌<◌, ◌≤◌, ap, arith, length, option_and_then, refl, reverse, sym, subst}
 use Rattle.std.proofs.lemmas.List.{length-reverse}
 use Rattle.ink_model.specs.Rows.{name_order, row}
-use Rattle.ink_stack.proofs.Numbers.{none_numbered, temp_below}
+use Rattle.ink_stack.proofs.Numbers.{none_numbered, temp_below, number_below}
 use Rattle.ink_stack.proofs.running.Running.temp.Goals.{then-number-eq0-via-then-number-eq0, then-number-eq0-via-else-number-eq0+then-number-frames-2}
 use Rattle.ink_stack.proofs.running.Running.temp.Goals as goal
 
@@ -22,3 +22,8 @@ returns g c =
     let above : 0 < c.args.number = omega arith in
     let within : c.args.number ≤ length items = omega (arith, count) in
     rw (← c.self.view_is) (c.temp-2.ensures d ∙ sym (temp_below (record { frame = d; below = reverse items; previous = c.self.inside.previous }) items c.args.number d c.args.name.now refl above within))
+
+pub temp-requires-2 : goal.temp-requires-2
+temp-requires-2 g c =
+    number_below c.args.self.now.thread c.self.inside.below.items c.args.number (ap (λ v. v.thread.below) c.self.view_is)
+    (subst (λ n. c.args.number ≤ n) c.frames-else-number-eq0.ensures.count c.if-number-frames-2.false) (λ is. c.if-number-frames.false (is ∙ sym c.frames.ensures.count)) c.if-number-eq0.false

@@ -1,7 +1,7 @@
-use Rattle.std.proofs.Common.{◌≡◌, ◌∙◌, [], ◌∷◌, false, ap, arith, is_some, length, refl, reverse}
+use Rattle.std.proofs.Common.{◌≡◌, ◌∙◌, [], ◌∷◌, false, ap, arith, is_some, length, refl, reverse, sym}
 use Rattle.std.proofs.lemmas.List.{length-append, length-reverse, reverse-append}
 use Rattle.ink_model.specs.Frames.{ThreadOf}
-use Rattle.ink_stack.proofs.Keeping.{base_more, quiet_more, unnumbered_more}
+use Rattle.ink_stack.proofs.Keeping.{base_more, quiet_more, unnumbered_more, true_false}
 use Rattle.ink_stack.specs.Cells.{unpopped}
 use Rattle.ink_stack.proofs.Staling.{running_is}
 use Rattle.ink_stack.proofs.running.Running.unpop.Goals.{then-self, else-self}
@@ -14,8 +14,8 @@ invariant_of-self g c =
     let within = rw (← c.self.view_is) at c.requires.base in
     let numbered : c.if-self.self ≡ false → (c.self.inside.numbered ≡ false) × (is_some f.enter ≡ false) =
     elim c.if-self.branch [
-      | then-self w ↦ λ is. (cc, cc)
-      | else-self w ↦ λ is. (cc, cc)
+      | then-self w ↦ λ is. true_false c.self.inside.numbered w.if-self.true (sym w.self-is ∙ is)
+      | else-self w ↦ λ is. (w.if-self.false, ap is_some (sym w.number.ensures) ∙ sym w.is_some-self-inside.ensures ∙ sym w.self-is ∙ is)
     ] in
     rw c.push_reserved.ensures.items (
       omega (arith, c.requires.few, ap (λ v. length v.thread.below) c.self.view_is, length-reverse items, length-append items (f ∷ [])),

@@ -1,4 +1,4 @@
-use Rattle.std.proofs.Common.{ap, arith, length, option_to_list, refl, sym, ◌++◌, ◌∙◌, ◌≡◌, ◌≤◌, vec_capacity}
+use Rattle.std.proofs.Common.{ap, arith, length, option_to_list, refl, sym, ◌++◌, ◌∙◌, ◌≡◌, ◌≤◌, vec_capacity, reverse, unwrap_or, is_some}
 use Rattle.std.proofs.lemmas.List.{append-nil, length-reverse}
 use Rattle.ink_trail.proofs.Undoing.{trails-kept, trails-one}
 use Rattle.ink_trail.specs.Undo.{trail_of}
@@ -9,6 +9,7 @@ use Rattle.ink_stack.proofs.Backs.{room-of, spare-of, stood-of, thread-popped-ba
 use Rattle.ink_stack.proofs.Holding.{held-as, held-next, held-now, held-with, room-refl, room-same}
 use Rattle.ink_stack.proofs.threads.Threads.pop_thread_marked.Given.{Over}
 use Rattle.ink_stack.proofs.threads.Threads.pop_thread_marked.Goals.{After-note}
+use Rattle.ink_stack.proofs.Tops.{dropped_is}
 use Rattle.ink_stack.proofs.threads.Threads.pop_thread_marked.Goals as goal
 
 -- the top thread comes back, and the next one lies below it again
@@ -66,3 +67,14 @@ returns-in_default-clause-spare g c = spare-of 1 _ _ (returns-in_default-clause-
 
 pub note-requires-clause-spare : goal.note-requires-clause-spare
 note-requires-clause-spare g c = room-of 1 _ _ c.self.view_is c.requires.room
+
+pub returns-clause-new : goal.returns-clause-new
+returns-clause-new g c =
+    let rest = c.pop.new.self.items in
+    let is = dropped_is c.self.inside.running.thread c.in-Some.next rest c.self.inside.below.items c.in-Some.ensures.items in
+    let top = ap (λ t. t.thread) c.replace-top.ensures.after ∙ c.run.ensures.thread in
+    rw (← c.self.view_is) (ap (λ t. record { thread = t; below = reverse rest }) top ∙ sym (ap (λ o. unwrap_or o (threads_in c.self.inside.running c.self.inside.below.items)) is))
+
+pub returns-clause-dropped : goal.returns-clause-dropped
+returns-clause-dropped g c =
+    rw (← c.self.view_is) (sym (ap is_some (dropped_is c.self.inside.running.thread c.in-Some.next c.pop.new.self.items c.self.inside.below.items c.in-Some.ensures.items)))

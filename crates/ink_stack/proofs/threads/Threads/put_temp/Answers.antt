@@ -1,8 +1,9 @@
-use Rattle.std.proofs.Common.{◌∙◌, Err, ap, inl, refl, reverse, sym}
+use Rattle.std.proofs.Common.{◌∙◌, Err, ap, inl, refl, reverse, sym, ◌≤◌, subst}
 use Rattle.ink_model.specs.declared.fault.Fault.TheVariants.{OutOfMemory}
 use Rattle.ink_stack.proofs.Backs.{as-it-was, spare-of, stood-of, stood-same}
 use Rattle.ink_stack.proofs.Holding.{held-moved}
 use Rattle.ink_stack.proofs.Unmarked.{free, spare-or}
+use Rattle.ink_model.specs.Threads.{frame_count}
 use Rattle.ink_stack.proofs.threads.Threads.put_temp.Goals as goal
 
 pub returns-then-is_marked : goal.returns-then-is_marked
@@ -29,3 +30,6 @@ returns g c =
     let trail = free 1 _ _ c.self.inside.trail (sym c.is_marked.ensures ∙ c.if-is_marked.false) in
     let ok = ap (λ t. record { thread = t; below = reverse c.self.inside.below.items }) c.in-Ok.ensures.ok in
     rw (← c.self.view_is) (record { ok = ok; fault = tt; kept = tt; memory = tt; trail = trail; stood = stood-of 1 _ _ trail; spare = spare-of 1 _ _ trail })
+
+pub set_temp-set-requires-clause-there : goal.set_temp-set-requires-clause-there
+set_temp-set-requires-clause-there g c = subst (λ v. c.args.frame ≤ frame_count v.threads.thread) (sym c.self.view_is) c.requires.there

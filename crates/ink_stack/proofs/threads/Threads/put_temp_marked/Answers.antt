@@ -1,4 +1,4 @@
-use Rattle.std.proofs.Common.{Err, ap, arith, inl, inr, refl, reverse, vec_capacity}
+use Rattle.std.proofs.Common.{Err, ap, arith, inl, inr, refl, reverse, vec_capacity, ◌≤◌, subst, sym}
 use Rattle.ink_model.specs.declared.fault.Fault.TheVariants.{OutOfMemory}
 use Rattle.ink_trail.proofs.Undoing.{trails-after, trails-one}
 use Rattle.ink_stack.specs.Running.{threads_in}
@@ -7,6 +7,7 @@ use Rattle.ink_stack.specs.declared.undo.ThreadsPair.TheVariants.{Temp}
 use Rattle.ink_stack.proofs.Backs.{but-for-room, few-of, spare-of, stood-of, stood-same}
 use Rattle.ink_stack.proofs.Holding.{held-as, held-noted, more-refl, rooms_at}
 use Rattle.ink_stack.proofs.Unmarked.{spare-or}
+use Rattle.ink_model.specs.Threads.{frame_count}
 use Rattle.ink_stack.proofs.threads.Threads.put_temp_marked.Goals as goal
 
 pub invariant_of-self : goal.invariant_of-self
@@ -52,3 +53,6 @@ returns g c =
     c.note.ensures.undo c.note.ensures.room) in
     let ok = ap (λ t. record { thread = t; below = ts.below }) c.in-Ok-set.ensures.ok in
     rw (← c.self.view_is) (record { ok = ok; fault = tt; kept = tt; memory = tt; trail = trail; stood = stood-of 1 _ _ trail; spare = spare-of 1 _ _ trail })
+
+pub set_temp-set-requires-clause-there : goal.set_temp-set-requires-clause-there
+set_temp-set-requires-clause-there g c = subst (λ v. c.args.frame ≤ frame_count v.threads.thread) (sym c.self.view_is) c.requires.there

@@ -1,4 +1,4 @@
-use Rattle.std.proofs.Common.{◌≡◌, ◌∙◌, ◌≤◌, [], ap, arith, vec_capacity}
+use Rattle.std.proofs.Common.{◌≡◌, ◌∙◌, ◌≤◌, [], ap, arith, vec_capacity, reverse}
 use Rattle.ink_trail.proofs.Undoing.{trails-one}
 use Rattle.ink_stack.specs.Running.{threads_in}
 use Rattle.ink_stack.specs.Undo.{threads_back}
@@ -40,3 +40,8 @@ returns-clause-spare g c = spare-of 1 _ _ (returns-clause-trail g c)
 
 pub note-requires-clause-spare : goal.note-requires-clause-spare
 note-requires-clause-spare g c = room-of 1 _ _ c.self.view_is c.requires.room
+
+pub returns-clause-threads : goal.returns-clause-threads
+returns-clause-threads g c =
+    ap (λ v. record { thread = v.thread; below = reverse c.replace-below.new.dest.items }) c.replace-top.ensures.after
+    ∙ ap (λ ts. record { thread = c.args.running.thread; below = reverse ts }) (ap (λ v. v.items) c.replace-below.ensures.after ∙ c.new.ensures.items)

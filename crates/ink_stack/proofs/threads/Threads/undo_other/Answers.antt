@@ -1,7 +1,7 @@
-use Rattle.std.proofs.Common.{arith, refl}
+use Rattle.std.proofs.Common.{arith, refl, ◌∙◌, ap}
 use Rattle.std.proofs.lemmas.List.{length-reverse}
 use Rattle.ink_trail.proofs.Parting.{stays-last}
-use Rattle.ink_trail.specs.Undo.{trail_of}
+use Rattle.ink_trail.specs.Undo.{trail_of, writes_of}
 use Rattle.ink_stack.specs.Running.{threads_in}
 use Rattle.ink_stack.specs.Undo.{Held, rooms_of, threads_back}
 use Rattle.ink_stack.proofs.Holding.{held-as, held-now}
@@ -19,3 +19,9 @@ invariant_of-self-2 g c =
     let was = stays-last threads_back rooms_of Held c.in-Some.pair _ _ (trail_of u) _ c.in-Some.ensures.pair c.self.invariant.1 in
     let held = held-as u u _ _ _ us refl c.put_one_back.ensures.threads c.put_one_back.ensures.room was in
     (omega (arith, length-reverse c.put_one_back.new.below.items, (held-now _ (trail_of u) us held).few), held)
+
+pub returns-clause-writes : goal.returns-clause-writes
+returns-clause-writes g c = c.take_last.ensures.writes ∙ ap (λ v. writes_of v.trail.undo) c.self.view_is
+
+pub returns-in_default-clause-writes : goal.returns-in_default-clause-writes
+returns-in_default-clause-writes g c = c.take_last.ensures.writes ∙ ap (λ v. writes_of v.trail.undo) c.self.view_is

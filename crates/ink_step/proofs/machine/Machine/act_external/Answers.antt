@@ -1,4 +1,4 @@
-use Rattle.std.proofs.Common.{◌≡◌, refl, rules, sym, subst, Err}
+use Rattle.std.proofs.Common.{◌≡◌, refl, rules, sym, subst, Err, ◌∙◌, ap}
 use Rattle.ink_check.specs.Words.{story_tree}
 use Rattle.ink_host.specs.Desk.{bound_by}
 use Rattle.ink_model.specs.Asks.{calling_asks, external_asks}
@@ -6,7 +6,7 @@ use Rattle.ink_model.specs.Effect.{fields_of}
 use Rattle.ink_model.specs.Step.{call_made}
 use Rattle.ink_model.specs.Step.Host.{call_external}
 use Rattle.ink_effects.specs.External.{call_of}
-use Rattle.ink_step.specs.Marks.{pressed}
+use Rattle.ink_step.specs.Marks.{pressed, stood_of}
 use Rattle.ink_step.specs.Steps.{StepMakes}
 use Rattle.ink_step.specs.Words.{config_of}
 use Rattle.ink_step.proofs.Makes.{external_call, makes_broken, makes_ended}
@@ -61,3 +61,6 @@ returns-in_err-transfer-clause-refusals g c =
 
 pub returns-clause-refusals : goal.returns-clause-refusals
 returns-clause-refusals g c = stops_kept g.T.TurnFn.refusals c.args.desk.now c.call_external.new.desk c.finish.result c.in_ok-transfer.ensures.refusals
+
+pub returns-clause-mark : goal.returns-clause-mark
+returns-clause-mark g c = c.finish.ensures.mark ∙ ap (λ o. record (stood_of c.args.self.now) { stack = o }) c.in_ok-transfer.ensures.mark

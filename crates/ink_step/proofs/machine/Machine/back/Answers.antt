@@ -1,6 +1,6 @@
 use Rattle.std.proofs.Common.{◌∙◌, ap, refl}
-use Rattle.ink_step.specs.Words.{start_of}
-use Rattle.ink_step.proofs.Backs.{OwnAlone, few_pairs, own_goes_back, pairs_from}
+use Rattle.ink_step.specs.Words.{start_of, aside_in}
+use Rattle.ink_step.proofs.Backs.{OwnAlone, few_pairs, own_goes_back, pairs_from, as_roomy, room_with}
 use Rattle.ink_step.proofs.machine.Machine.back.Goals as goal
 
 pub returns-clause-config : goal.returns-clause-config
@@ -41,3 +41,12 @@ returns-clause-few c =
     rw (c.saturating_add-6.ensures, c.saturating_add-5.ensures, c.saturating_add-4.ensures, c.saturating_add-3.ensures, c.saturating_add-2.ensures, c.saturating_add.ensures)
     (few_pairs c.args.self.now c.back_own-own.new.self alone _ _ _ _ _ _ _ c.back_own-own.ensures.writes c.back-threads.ensures.writes c.back-stack.ensures.writes c.back-choices.ensures.writes
     c.back-globals.ensures.writes c.back-counts.ensures.writes c.back-output.ensures.writes)
+
+pub returns-clause-aside : goal.returns-clause-aside
+returns-clause-aside c = ap aside_in c.back_own-own.ensures.same
+
+pub returns-clause-room : goal.returns-clause-room
+returns-clause-room c =
+    let old = c.args.self.now in
+    as_roomy old c.back_own-own.new.self (ap (room_with old.trail.room) c.back_own-own.ensures.same) _ _ _ _ _ _ _ c.back_own-own.ensures.room
+    c.back-threads.ensures.trail.1 c.back-stack.ensures.trail.1 c.back-choices.ensures.trail.1 c.back-globals.ensures.trail.1 c.back-counts.ensures.trail.1 c.back-output.ensures.trail.1

@@ -1,4 +1,4 @@
-use Rattle.std.proofs.Common.{◌≡◌, ◌∙◌, ◌⊎◌, ◌*◌, ◌||◌, Bool, List, Option, length, ap, refl, rules, subst, sym, true, false, is_some, slice_get, option_map, MatchOption, Some, None, Ok, Err, unwrap_or}
+use Rattle.std.proofs.Common.{◌≡◌, ◌∙◌, ◌⊎◌, ◌*◌, ◌||◌, Bool, List, Option, length, ap, refl, rules, subst, sym, true, false, is_some, slice_get, option_map, MatchOption, Some, None, Ok, Err, unwrap_or, arith}
 use Rattle.ink_check.specs.Words.{story_tree}
 use Rattle.ink_choice.specs.Undo.{choices_stood}
 use Rattle.ink_choice.specs.Words.{Takes}
@@ -159,3 +159,56 @@ returns-in-Ok-Some-clause-mark c =
 
 pub returns-in-Err-clause-mark : goal.returns-in-Err-clause-mark
 returns-in-Err-clause-mark c = ap (λ o. record (stood_of c.make_choosing_room.new.self) { counts = o }) c.in-Err.ensures.mark ∙ c.make_choosing_room.ensures.mark
+
+pub returns-in-Some-copied-clause-start : goal.returns-in-Some-copied-clause-start
+returns-in-Some-copied-clause-start c = c.take_up_next.ensures.start ∙ c.make_choosing_room.ensures.start
+
+pub returns-in-Ok-Some-clause-start : goal.returns-in-Ok-Some-clause-start
+returns-in-Ok-Some-clause-start c = c.take_up_next-in-Ok-Some.ensures.start ∙ c.make_choosing_room.ensures.start
+
+pub returns-in-Ok-None-clause-start : goal.returns-in-Ok-None-clause-start
+returns-in-Ok-None-clause-start c = c.make_choosing_room.ensures.start
+
+pub returns-in-Ok-None-clause-aside : goal.returns-in-Ok-None-clause-aside
+returns-in-Ok-None-clause-aside c = c.make_choosing_room.ensures.aside
+
+pub returns-in-Ok-None-clause-mark : goal.returns-in-Ok-None-clause-mark
+returns-in-Ok-None-clause-mark c =
+    let counted = ap (λ o. record (stood_of c.make_choosing_room.new.self) { counts = o }) c.in-Ok.ensures.mark in
+    let taken = ap (λ o. record (stood_of c.make_choosing_room.new.self) { choices = o; counts = counts_stood c.enter_landed.new.counts }) c.in-Ok-None.ensures.stood in
+    taken ∙ counted ∙ c.make_choosing_room.ensures.mark
+
+pub returns-in-Err-take-clause-start : goal.returns-in-Err-take-clause-start
+returns-in-Err-take-clause-start c = c.make_choosing_room.ensures.start
+
+pub returns-in-Err-take-clause-aside : goal.returns-in-Err-take-clause-aside
+returns-in-Err-take-clause-aside c = c.make_choosing_room.ensures.aside
+
+pub returns-in-Err-take-clause-mark : goal.returns-in-Err-take-clause-mark
+returns-in-Err-take-clause-mark c =
+    let counted = ap (λ o. record (stood_of c.make_choosing_room.new.self) { counts = o }) c.in-Ok.ensures.mark in
+    let taken = ap (λ o. record (stood_of c.make_choosing_room.new.self) { choices = o; counts = counts_stood c.enter_landed.new.counts }) c.in-Err-take.ensures.stood in
+    taken ∙ counted ∙ c.make_choosing_room.ensures.mark
+
+pub returns-in-Err-clause-start : goal.returns-in-Err-clause-start
+returns-in-Err-clause-start c = c.make_choosing_room.ensures.start
+
+pub returns-in-Err-clause-aside : goal.returns-in-Err-clause-aside
+returns-in-Err-clause-aside c = c.make_choosing_room.ensures.aside
+
+-- ---- room
+
+pub take_up_next-requires-clause-room : goal.take_up_next-requires-clause-room
+take_up_next-requires-clause-room c = c.in_ok-make_choosing_room.ensures.threads
+
+pub take_up_next-requires-clause-choices_room : goal.take_up_next-requires-clause-choices_room
+take_up_next-requires-clause-choices_room c = omega (arith, c.in_ok-make_choosing_room.ensures.choices)
+
+pub take_up_next-requires-clause-own_room : goal.take_up_next-requires-clause-own_room
+take_up_next-requires-clause-own_room c = omega (arith, c.in_ok-make_choosing_room.ensures.own)
+
+pub take_up_next-requires-in-Ok-Some-clause-room : goal.take_up_next-requires-in-Ok-Some-clause-room
+take_up_next-requires-in-Ok-Some-clause-room c = c.in_ok-make_choosing_room.ensures.threads
+
+pub take_up_next-requires-in-Ok-Some-clause-own_room : goal.take_up_next-requires-in-Ok-Some-clause-own_room
+take_up_next-requires-in-Ok-Some-clause-own_room c = omega (arith, c.in_ok-make_choosing_room.ensures.own)

@@ -58,3 +58,14 @@ returns-clause-ends c old asking e performs keeps offers safely counted turned s
     let moved = ends_after s old mid safely counted turned (m || asking) e mid.shared.globals.rows new c.store.result keeps offers together in
     let ended = subst (λ b. StepEnds b (following s (move s e before)) mid.shared.globals.rows new c.store.result) (or_whole m asking (move_asks s e before) (following_asks s (move s e before))) moved in
     subst (λ vs. StepEnds (m || ((asking || move_asks s e before) || following_asks s (move s e before))) (following s (move s e before)) vs new c.store.result) same ended
+
+-- ---- what stays
+
+pub returns-clause-start : goal.returns-clause-start
+returns-clause-start c = c.store.ensures.start ∙ c.go.ensures.start
+
+pub returns-clause-aside : goal.returns-clause-aside
+returns-clause-aside c = c.store.ensures.aside ∙ c.go.ensures.aside
+
+pub returns-clause-mark : goal.returns-clause-mark
+returns-clause-mark c = c.store.ensures.mark ∙ c.go.ensures.mark

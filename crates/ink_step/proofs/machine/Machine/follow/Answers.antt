@@ -241,3 +241,13 @@ returns-in-Fork-clause-enough c = when_ok c.fork.result (2 ≤ threads_spare c.f
 
 pub returns-in_ok-change_safe-in-Done-clause-enough : goal.returns-in_ok-change_safe-in-Done-clause-enough
 returns-in_ok-change_safe-in-Done-clause-enough c = when_ok c.done.result (2 ≤ threads_spare c.done.new.threads) (omega (arith, c.done.ensures.enough))
+
+pub returns-in_ok-ready_choices-in-End-clause-mark : goal.returns-in_ok-ready_choices-in-End-clause-mark
+returns-in_ok-ready_choices-in-End-clause-mark c =
+    let mid = c.change_safe-in-End.new.self in
+    let here : stood_of (record mid { flow = record mid.flow { threads = c.end.new.threads; choices = c.clear.new.self } }) ≡ stood_of mid =
+    rw (c.end.ensures.mark, c.clear.ensures.stood, c.ready_choices.ensures.stood) refl in
+    here ∙ c.change_safe-in-End.ensures.mark
+
+pub returns-in-Fork-clause-mark : goal.returns-in-Fork-clause-mark
+returns-in-Fork-clause-mark c = rw (c.fork.ensures.threads_mark, c.fork.ensures.stack_mark, c.fork.ensures.output_mark) refl

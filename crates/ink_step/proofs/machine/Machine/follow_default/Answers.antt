@@ -104,3 +104,6 @@ returns-in-Err-clause-aside c = c.in-Err.ensures.aside ∙ c.take_up.ensures.asi
 pub returns-in-Err-clause-mark : goal.returns-in-Err-clause-mark
 returns-in-Err-clause-mark c =
     c.in-Err.ensures.mark ∙ c.take_up.ensures.mark ∙ ap (λ o. record (stood_of c.args.self.now) { choices = o }) (c.ready_choices.ensures.stood ∙ c.in_ok-choice.ensures.stood)
+
+pub returns-in-None-clause-mark : goal.returns-in-None-clause-mark
+returns-in-None-clause-mark c = ap (λ o. record (stood_of c.args.self.now) { choices = o }) c.in_ok-choice.ensures.stood

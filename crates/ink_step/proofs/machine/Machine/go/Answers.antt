@@ -1,4 +1,4 @@
-use Rattle.std.proofs.Common.{◌≡◌, ◌||◌, Err, Ok, rules, subst, sym}
+use Rattle.std.proofs.Common.{◌≡◌, ◌||◌, ◌∙◌, Err, Ok, rules, subst, sym}
 use Rattle.ink_check.specs.Words.{story_tree}
 use Rattle.ink_model.specs.Choosing.{default_asks, default_choice, following, following_asks, stopped_by}
 use Rattle.ink_model.specs.Move.{move}
@@ -40,3 +40,12 @@ returns-in-Stopped-clause-ends c asks e performs has offers =
     let went = subst (λ end. StepEnds asking o machine.shared.globals.rows mid (Ok end)) c.in-Stopped.is stops in
     let follows = subst (λ vs. StepEnds (m || default_asks s choice mid) (stopped_by s choice mid) vs new c.follow_default.result) c.follow.ensures.globals c.follow_default.ensures.ends in
     stopped_so s m (asks || move_asks s e old) o machine.shared.globals.rows machine.shared.globals.rows mid new c.follow_default.result went follows
+
+pub returns-in-Stopped-clause-mark : goal.returns-in-Stopped-clause-mark
+returns-in-Stopped-clause-mark c = c.follow_default.ensures.mark ∙ c.follow.ensures.mark
+
+pub returns-in-Stopped-clause-aside : goal.returns-in-Stopped-clause-aside
+returns-in-Stopped-clause-aside c = c.follow_default.ensures.aside ∙ c.follow.ensures.aside
+
+pub returns-in-Stopped-clause-start : goal.returns-in-Stopped-clause-start
+returns-in-Stopped-clause-start c = c.follow_default.ensures.start ∙ c.follow.ensures.start

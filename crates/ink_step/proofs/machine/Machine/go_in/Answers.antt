@@ -2,6 +2,7 @@ use Rattle.std.proofs.Common.{ap, sym}
 use Rattle.ink_model.specs.Visits.{all_visited}
 use Rattle.ink_step.specs.Words.{counts_in}
 use Rattle.ink_step.proofs.Goings.{goes_nowhere_in, passes_none, went_in}
+use Rattle.ink_step.specs.Marks.{stood_of}
 use Rattle.ink_step.proofs.machine.Machine.go_in.Goals as goal
 use Rattle.ink_tree.specs.Nodes.{place_of, story_tree}
 
@@ -15,3 +16,6 @@ returns-in_default-clause-ok c =
     let machine = c.args.self.now in
     went_in s p machine c.args.place c.put.new.self.threads c.put.ensures.threads machine.shared.counts.rows (goes_nowhere_in s p c.in_default.ensures)
     (ap (λ ps. all_visited s machine.shared.turn ps (counts_in s machine.shared.counts.rows)) (sym (passes_none s p c.in_default.ensures)))
+
+pub returns-in_default-clause-mark : goal.returns-in_default-clause-mark
+returns-in_default-clause-mark c = ap (λ o. record (stood_of c.args.self.now) { threads = o }) c.put.ensures.stood

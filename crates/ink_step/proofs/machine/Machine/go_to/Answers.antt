@@ -1,11 +1,11 @@
-use Rattle.std.proofs.Common.{◌≡◌, ◌&&◌, ◌||◌, cond, false, rules, subst, sym, true, Err}
+use Rattle.std.proofs.Common.{◌≡◌, ◌&&◌, ◌||◌, cond, false, rules, subst, sym, true, Err, ◌∙◌, ap}
 use Rattle.ink_check.specs.Words.{story_tree}
 use Rattle.ink_model.specs.Flow.{reach}
 use Rattle.ink_model.specs.Frames.{map_threads}
 use Rattle.ink_model.specs.Move.{landing, written_in}
 use Rattle.ink_model.specs.MoveMemory.{landed_asks}
 use Rattle.ink_model.specs.Visits.{adds_rows, around, entering_around}
-use Rattle.ink_step.specs.Marks.{landing_lacks, pressed}
+use Rattle.ink_step.specs.Marks.{landing_lacks, pressed, stood_of}
 use Rattle.ink_step.specs.Steps.{StepEnds}
 use Rattle.ink_step.specs.Words.{config_of, counts_in}
 use Rattle.ink_step.proofs.Marks.{pressed_landing}
@@ -41,3 +41,6 @@ returns-clause-ends c =
     let entered = subst (λ t. config_of t after ≡ cond to.enters (entering_around t (config_of t landed)) (config_of t landed)) c.tree.ensures.tree c.in_ok-enter_around.ensures.ok in
     lands s (pressed s after) false old (config_of s after) machine.shared.globals.rows (map_threads (place_of s) c.land-end.new.threads.threads) (written_in old) to.enters _ c.land-end.result (λ e. tt)
     (c.land-end.ensures.flow s (written_in old)) entered
+
+pub returns-clause-mark : goal.returns-clause-mark
+returns-clause-mark c = c.enter_around.ensures.mark ∙ ap (λ o. record (stood_of c.args.self.now) { threads = o }) c.land-end.ensures.mark

@@ -1,13 +1,15 @@
-use Rattle.std.proofs.Common.{◌≡◌, ◌∙◌, ◌⊎◌, ◌*◌, ◌||◌, length, ap, subst, true, false, map, None, Some}
+use Rattle.std.proofs.Common.{◌≡◌, ◌∙◌, ◌⊎◌, ◌*◌, ◌||◌, length, ap, subst, true, false, map, None, Some, ◌≤◌, arith, is_err, sym, Result, Ok, Err, OnOk}
 use Rattle.ink_check.specs.Words.{story_tree}
 use Rattle.ink_model.specs.Configuration.{Configuration, map_choice}
 use Rattle.ink_model.specs.Entered.{entered_places}
 use Rattle.ink_model.specs.Frames.{map_threads, on_top, put_in}
 use Rattle.ink_model.specs.Visits.{adds_rows, all_visited}
-use Rattle.ink_stack.specs.Undo.{threads_stood}
-use Rattle.ink_step.specs.Marks.{choices_lack, counts_lack, lacks, own_lacks, stood_of, threads_lack, turn_lacks}
-use Rattle.ink_step.specs.Words.{config_of, counts_in}
+use Rattle.ink_stack.specs.Undo.{threads_stood, threads_spare}
+use Rattle.ink_step.specs.Marks.{choices_lack, counts_lack, lacks, own_lacks, stood_of, threads_lack, turn_lacks, own_spare}
+use Rattle.ink_step.specs.Words.{config_of, counts_in, aside_in}
 use Rattle.ink_step.proofs.Chosen.{asks_or_lacks, jump_lands, jumped_in}
+use Rattle.ink_choice.specs.Undo.{choices_spare}
+use Rattle.ink_step.proofs.machine.Machine.jump.Goals.{Else-is_err}
 use Rattle.ink_step.proofs.machine.Machine.jump.Goals as goal
 use Rattle.ink_tree.specs.Nodes.{place_of}
 use Rattle.ink_vars.specs.Undo.{counts_spare, counts_stood}
@@ -49,3 +51,52 @@ returns-in-Err-clause-memory c =
     let refused = subst (λ t. let rs = entered_places t None (place_of t c.args.place) in (adds_rows t rs (counts_in t mid.shared.counts.rows) ≡ true) ⊎ (lacks (counts_stood left) (counts_spare left) (4 * length rs) ≡ true)) c.tree.ensures.tree c.in-Err.ensures.memory in
     let short = asks_or_lacks false (threads_lack 2 new) (choices_lack 2 new) (own_lacks 2 new) (counts_lack (4 * length ps) new) (adds_rows s ps (config_of s mid).shared.counts) refused in
     subst (λ d. (turn_lacks (length ps) new || adds_rows s ps d.shared.counts) ≡ true) (c.make_choosing_room.ensures.config s) short
+
+pub returns-in-Ok-clause-aside : goal.returns-in-Ok-clause-aside
+returns-in-Ok-clause-aside c = ap aside_in c.set_turn.ensures.set ∙ ap aside_in c.set_safe.ensures.set ∙ c.make_choosing_room.ensures.aside
+
+pub returns-in-Err-clause-err : goal.returns-in-Err-clause-err
+returns-in-Err-clause-err c =
+    let s = story_tree c.args.story.now in
+    let mid = c.make_choosing_room.new.self in
+    ap (λ rows. config_of s (record mid { shared = record mid.shared { counts = record c.enter_landed.new.counts { rows = rows } } })) c.in-Err.ensures.kept ∙ c.make_choosing_room.ensures.config s
+
+pub returns-in-Err-clause-mark : goal.returns-in-Err-clause-mark
+returns-in-Err-clause-mark c = ap (λ o. record (stood_of c.make_choosing_room.new.self) { counts = o }) c.in-Err.ensures.mark ∙ c.make_choosing_room.ensures.mark
+
+pub returns-then-is_err-clause-err : goal.returns-then-is_err-clause-err
+returns-then-is_err-clause-err c = c.make_choosing_room.ensures.config (story_tree c.args.story.now)
+
+-- ---- room
+
+ready : {A B : Type 0} (r : Result A B) (P : Type 0) → is_err r ≡ false → OnOk r P → P
+ready (Ok a) P h p = p
+ready (Err e) P h p = absurd (cc)
+
+module _ (c : Else-is_err) where
+  made : is_err c.make_choosing_room.result ≡ false
+  made = sym c.is_err.ensures.value ∙ c.if-is_err.false
+
+  threads_room : 2 ≤ threads_spare c.make_choosing_room.new.self.flow.threads
+  threads_room = ready c.make_choosing_room.result _ made c.make_choosing_room.ensures.threads
+
+  choices_room : 2 ≤ choices_spare c.make_choosing_room.new.self.flow.choices
+  choices_room = ready c.make_choosing_room.result _ made c.make_choosing_room.ensures.choices
+
+  own_room : 2 ≤ own_spare c.make_choosing_room.new.self.trail
+  own_room = ready c.make_choosing_room.result _ made c.make_choosing_room.ensures.own
+
+pub reset-requires : goal.reset-requires
+reset-requires c = record { room = omega (arith, threads_room (goal.at.reset-requires c).Else-is_err) }
+
+pub put-requires : goal.put-requires
+put-requires c = record { room = omega (arith, threads_room (goal.at.put-requires c).Else-is_err, c.reset.ensures.spare) }
+
+pub clear-requires : goal.clear-requires
+clear-requires c = record { room = omega (arith, choices_room (goal.at.clear-requires c).Else-is_err) }
+
+pub set_safe-requires : goal.set_safe-requires
+set_safe-requires c = record { room = omega (arith, own_room (goal.at.set_safe-requires c).Else-is_err) }
+
+pub set_turn-requires : goal.set_turn-requires
+set_turn-requires c = record { room = omega (arith, own_room (goal.at.set_turn-requires c).Else-is_err, c.set_safe.ensures.spare) }

@@ -1,4 +1,4 @@
-use Rattle.std.proofs.Common.{◌≡◌, ◌&&◌, ◌||◌, ap, option_map, rules, subst, sym, Some, Result, Err}
+use Rattle.std.proofs.Common.{◌≡◌, ◌&&◌, ◌||◌, ap, option_map, rules, subst, sym, Some, Result, Err, ◌∙◌}
 use Rattle.ink_check.specs.Words.{story_tree}
 use Rattle.ink_model.specs.Asks.{acting_asks, asks, content_asks}
 use Rattle.ink_model.specs.Configuration.{Configuration}
@@ -9,7 +9,7 @@ use Rattle.ink_model.specs.Tree.{leaf}
 use Rattle.ink_model.specs.declared.fault.Fault.{Fault}
 use Rattle.ink_step.specs.Marks.{Stood, keeps_mark, pressed, presses, stood_of, takes_there}
 use Rattle.ink_step.specs.Steps.{EndsPlainly, StepEnds}
-use Rattle.ink_step.specs.Words.{config_of}
+use Rattle.ink_step.specs.Words.{config_of, start_of, aside_in}
 use Rattle.ink_moves.specs.declared.flow.StepEnd.{StepEnd}
 use Rattle.ink_step.specs.declared.machine.Machine.{Machine}
 use Rattle.ink_step.proofs.Finished.{not_external, passed, takes_here}
@@ -74,3 +74,14 @@ returns-clause-ends c b =
     c.make_step_room.ensures.mark c.act_here.ensures.ends in
     passes_there (goal.at.returns-clause-ends c).Start b new c.act_here.result
     (subst (λ d. Acts (goal.at.returns-clause-ends c).Start d new c.act_here.result) (ready_alike s old ready c.make_step_room.ensures.same c.make_step_room.ensures.threads c.make_step_room.ensures.items) acts)
+
+-- ---- what stays
+
+pub returns-clause-start : goal.returns-clause-start
+returns-clause-start c = c.act_here.ensures.start ∙ ap start_of c.make_step_room.ensures.same
+
+pub returns-clause-aside : goal.returns-clause-aside
+returns-clause-aside c = c.act_here.ensures.aside ∙ ap aside_in c.make_step_room.ensures.same
+
+pub returns-clause-mark : goal.returns-clause-mark
+returns-clause-mark c = c.act_here.ensures.mark ∙ c.make_step_room.ensures.mark

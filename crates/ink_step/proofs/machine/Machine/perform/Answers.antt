@@ -1,12 +1,14 @@
-use Rattle.std.proofs.Common.{◌≡◌, ◌&&◌, ◌||◌, OnOk, Some, ap, is_some, option_map, refl, subst, sym}
+use Rattle.std.proofs.Common.{◌≡◌, ◌&&◌, ◌||◌, OnOk, Some, ap, is_some, option_map, refl, subst, sym, ◌∙◌}
 use Rattle.ink_check.specs.Words.{story_tree}
-use Rattle.ink_model.specs.Effect.{context_of, fields_of}
+use Rattle.ink_model.specs.Effect.{context_of, fields_of, Moves}
 use Rattle.ink_model.specs.Memory.{content_asks}
 use Rattle.ink_model.specs.Step.{effect}
-use Rattle.ink_model.specs.Tree.{leaf}
+use Rattle.ink_model.specs.Tree.{leaf, at}
 use Rattle.ink_step.specs.Marks.{takes_there}
 use Rattle.ink_effects.specs.Performs.{Keeps, KeepsChoices, Performs, fields_in, leading}
 use Rattle.ink_step.specs.Words.{config_of}
+use Rattle.ink_effects.proofs.Plain.{keeps_plain, offers_plain}
+use Rattle.ink_step.proofs.Finished.{leaf_there}
 use Rattle.ink_step.proofs.machine.Machine.perform.Goals as goal
 use Rattle.ink_step.proofs.machine.Machine.perform.Goals.{In-Some}
 use Rattle.ink_tree.specs.Nodes.{place_of}
@@ -46,3 +48,27 @@ returns-in-Some-clause-choices c =
 
 pub returns-in-Some-clause-mark : goal.returns-in-Some-clause-mark
 returns-in-Some-clause-mark c = rw (c.perform_leaf.ensures.threads_mark, c.perform_leaf.ensures.stack_mark, c.perform_leaf.ensures.choices_mark, c.perform_leaf.ensures.output_mark) refl
+
+pub perform_leaf-requires-clause-stands : goal.perform_leaf-requires-clause-stands
+perform_leaf-requires-clause-stands c =
+    let s = story_tree c.args.story.now in
+    sym (leaf_there (at s (place_of s c.args.here)) c.in-Some.content.now (sym c.requires.stands ∙ ap (option_map (λ l. l.now)) c.in-Some.is))
+
+-- nothing is passed over
+pub returns-in-None-clause-threads : goal.returns-in-None-clause-threads
+returns-in-None-clause-threads c =
+    let s = story_tree c.args.story.now in
+    let machine = c.args.self.now in
+    let before = config_of s machine in
+    let ts = machine.flow.threads.threads in
+    subst (λ o. Keeps s (effect s (place_of s c.args.here) (option_map (λ l. leaf l.now) o) (context_of before) (fields_of before)) ts ts) (sym c.in-None.is)
+    (keeps_plain s (Moves (fields_of before)) ts ts tt refl)
+
+pub returns-in-None-clause-choices : goal.returns-in-None-clause-choices
+returns-in-None-clause-choices c =
+    let s = story_tree c.args.story.now in
+    let machine = c.args.self.now in
+    let before = config_of s machine in
+    let cs = machine.flow.choices.items in
+    subst (λ o. KeepsChoices s (effect s (place_of s c.args.here) (option_map (λ l. leaf l.now) o) (context_of before) (fields_of before)) cs cs) (sym c.in-None.is)
+    (offers_plain s (Moves (fields_of before)) cs tt)

@@ -83,3 +83,6 @@ returns-in_err-forward-clause-refusals g c =
 
 pub returns-clause-refusals : goal.returns-clause-refusals
 returns-clause-refusals g c = inl c.loop-step.invariant.refusals
+
+pub returns-then-not-branch-clause-aside : goal.returns-then-not-branch-clause-aside
+returns-then-not-branch-clause-aside g c = c.in_ok-forward.ensures.aside ∙ c.loop-step.invariant.aside

@@ -28,3 +28,6 @@ pub clear-requires : goal.clear-requires
 clear-requires c =
     let none : output_stood c.args.self.now.output ≡ None = ap (λ (t : Stood). t.page) c.requires.unmarked in
     omega (arith, output_free c.args.self.now.output none)
+
+pub returns-clause-mark : goal.returns-clause-mark
+returns-clause-mark c = rw (c.clear_numbers.ensures.stood, c.clear_numbers-2.ensures.stood, c.clear.ensures.stood) c.requires.unmarked

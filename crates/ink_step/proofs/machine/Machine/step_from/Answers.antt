@@ -1,4 +1,4 @@
-use Rattle.std.proofs.Common.{◌≡◌, ◌∙◌, ◌&&◌, ◌||◌, List, Bool, Option, Some, None, Result, ap, option_map, rules, subst, sym, true, refl, [], Err}
+use Rattle.std.proofs.Common.{◌≡◌, ◌∙◌, ◌&&◌, ◌||◌, List, Bool, Option, Some, None, Result, ap, option_map, rules, subst, sym, true, refl, [], Err, length, ◌+◌, ◌≤◌}
 use Rattle.ink_check.specs.Words.{story_tree}
 use Rattle.ink_host.proofs.Laws.{grew-none}
 use Rattle.ink_host.specs.Desk.{bound_by}
@@ -23,6 +23,7 @@ use Rattle.ink_step.proofs.Makes.{found_leaves, makes_more, makes_short, makes_w
 use Rattle.ink_step.proofs.Marks.{pressed_counts, takes_alike, takes_at}
 use Rattle.ink_step.proofs.machine.Machine.step_from.Given as given
 use Rattle.ink_effects.proofs.Refusals.{keeps_all, stops_kept}
+use Rattle.ink_value.specs.Undo.{stack_spare}
 use Rattle.ink_step.proofs.machine.Machine.step_from.Goals as goal
 use Rattle.ink_step.proofs.machine.Machine.step_from.Goals.{In_ok-here}
 use Rattle.ink_tree.specs.Kept.{leaf_in}
@@ -126,3 +127,29 @@ returns-in_err-here-clause-refusals g c = stops_kept g.T.TurnFn.refusals c.args.
 
 pub returns-in-None-clause-refusals : goal.returns-in-None-clause-refusals
 returns-in-None-clause-refusals g c = stops_kept g.T.TurnFn.refusals c.args.desk.now c.args.desk.now c.act.result (keeps_all g.T.TurnFn.refusals c.args.desk.now)
+
+-- ---- what stays
+
+pub returns-in-Some-clause-start : goal.returns-in-Some-clause-start
+returns-in-Some-clause-start g c = c.act_external.ensures.start ∙ c.go_in.ensures.start
+
+pub returns-in-Some-clause-aside : goal.returns-in-Some-clause-aside
+returns-in-Some-clause-aside g c = c.act_external.ensures.aside ∙ c.go_in.ensures.aside
+
+pub returns-in-Some-clause-mark : goal.returns-in-Some-clause-mark
+returns-in-Some-clause-mark g c = c.act_external.ensures.mark ∙ c.go_in.ensures.mark
+
+pub returns-in-None-clause-start : goal.returns-in-None-clause-start
+returns-in-None-clause-start g c = c.act.ensures.start ∙ c.go_in.ensures.start
+
+pub returns-in-None-clause-aside : goal.returns-in-None-clause-aside
+returns-in-None-clause-aside g c = c.act.ensures.aside ∙ c.go_in.ensures.aside
+
+pub returns-in-None-clause-mark : goal.returns-in-None-clause-mark
+returns-in-None-clause-mark g c = c.act.ensures.mark ∙ c.go_in.ensures.mark
+
+pub act_external-requires-clause-stack_room : goal.act_external-requires-clause-stack_room
+act_external-requires-clause-stack_room g c = subst (λ k. length k.items + 2 ≤ stack_spare k) (sym c.go_in.ensures.stack) c.requires.stack_room
+
+pub act-requires-clause-stack_room : goal.act-requires-clause-stack_room
+act-requires-clause-stack_room g c = subst (λ k. length k.items + 2 ≤ stack_spare k) (sym c.go_in.ensures.stack) c.requires.stack_room

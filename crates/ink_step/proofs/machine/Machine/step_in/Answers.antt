@@ -7,7 +7,7 @@ use Rattle.ink_model.specs.Asks.{asks}
 use Rattle.ink_model.specs.Step.{step}
 use Rattle.ink_step.specs.Marks.{Stood, keeps_mark, pressed, presses, stood_of, takes_first}
 use Rattle.ink_step.specs.Steps.{StepMakes, Steps, wants}
-use Rattle.ink_step.specs.Words.{config_of}
+use Rattle.ink_step.specs.Words.{aside_in, config_of, start_of}
 use Rattle.ink_moves.specs.declared.flow.StepEnd.TheVariants as ends
 use Rattle.ink_effects.proofs.Bools.{or_first, or_more}
 use Rattle.ink_step.proofs.Follows.{ready_alike}
@@ -101,3 +101,14 @@ returns-then-wants_call-clause-refusals g c = keeps_all g.T.TurnFn.refusals c.ar
 
 pub returns-in_err-make_step_room-clause-refusals : goal.returns-in_err-make_step_room-clause-refusals
 returns-in_err-make_step_room-clause-refusals g c = stops_kept g.T.TurnFn.refusals c.args.desk.now c.args.desk.now _ (keeps_all g.T.TurnFn.refusals c.args.desk.now)
+
+-- ---- what stays
+
+pub returns-clause-start : goal.returns-clause-start
+returns-clause-start g c = c.step_from.ensures.start ∙ ap start_of c.make_step_room.ensures.same
+
+pub returns-clause-aside : goal.returns-clause-aside
+returns-clause-aside g c = c.step_from.ensures.aside ∙ ap aside_in c.make_step_room.ensures.same
+
+pub returns-clause-mark : goal.returns-clause-mark
+returns-clause-mark g c = c.step_from.ensures.mark ∙ c.make_step_room.ensures.mark

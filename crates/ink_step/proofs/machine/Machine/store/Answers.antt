@@ -1,9 +1,10 @@
-use Rattle.std.proofs.Common.{◌≡◌, ◌⊎◌, Bool, false, is_some, rules, subst, sym, true, Ok, Err}
+use Rattle.std.proofs.Common.{◌≡◌, ◌⊎◌, Bool, false, is_some, rules, subst, sym, true, Ok, Err, ap}
 use Rattle.ink_model.specs.Store.{stored}
 use Rattle.ink_model.specs.declared.fault.Fault.TheVariants.{OutOfMemory}
 use Rattle.ink_effects.specs.Performs.{Performs, storing_in}
 use Rattle.ink_step.specs.Steps.{StepEnds}
 use Rattle.ink_step.proofs.Stopping.{stored_short}
+use Rattle.ink_step.specs.Marks.{stood_of}
 use Rattle.ink_step.proofs.machine.Machine.store.Goals as goal
 use Rattle.ink_vars.specs.Undo.{globals_stood}
 use Rattle.ink_vars.specs.Words.{name_of}
@@ -16,3 +17,6 @@ returns-in_err-put-in-Store-clause-stored c s asks whole e f o allows same perfo
     let short = subst (λ vs. (is_some (stored (name_of c.in-Store.to.name) vs) ≡ false) ⊎ (marked ≡ true)) (sym same) (rw c.as_str.ensures at c.in_err-put-in-Store.ensures.memory) in
     subst (StepEnds whole (storing_in e o) c.args.self.now.shared.globals.rows _) (sym is)
     (stored_short s asks whole marked e f o _ c.args.self.now.shared.globals.rows _ allows storing stores short c.in_err-put-in-Store.ensures.err)
+
+pub returns-in_ok-put-in-Store-clause-mark : goal.returns-in_ok-put-in-Store-clause-mark
+returns-in_ok-put-in-Store-clause-mark c = ap (λ o. record (stood_of c.args.self.now) { globals = o }) c.put.ensures.stood

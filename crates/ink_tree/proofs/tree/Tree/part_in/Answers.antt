@@ -1,6 +1,6 @@
 use Rattle.std.proofs.Common.{◌≡◌, ◌∙◌, sym, arith}
 use Rattle.ink_tree.proofs.Common.{nat_tests, slice_get_within, story_tree, node_place}
-use Rattle.ink_tree.proofs.Down.{leads, leads_not}
+use Rattle.ink_tree.proofs.Down.{leads, leads_not, none_there}
 use Rattle.ink_tree.proofs.tree.Tree.part_in.Goals as goal
 
 pub returns-then-holder-own : goal.returns-then-holder-own
@@ -20,3 +20,6 @@ returns-else-holder-own c =
     let n = c.in-Some.node in
     let got = sym c.in-Some.ensures in
     leads_not s c.args.number n c.own-own.result (node_place s c.args.holder) c.own-own.ensures.1 (c.nodes.ensures.all c.args.number n got).0 t.rising c.own-own.ensures.0 (λ e. c.if-holder-own.false (c.holder.ensures ∙ e))
+
+pub returns-in-None : goal.returns-in-None
+returns-in-None c = λ last within stands. absurd (omega (arith, none_there c.nodes.result.now c.args.number c.in-None.ensures, c.nodes.ensures.many, within))

@@ -1,15 +1,16 @@
-use Rattle.std.proofs.Common.{◌≡◌, ◌∙◌, Option, ap, arith, if◌then◌else◌, length, subst, sym, unwrap_or}
+use Rattle.std.proofs.Common.{◌≡◌, ◌∙◌, Option, ap, arith, if◌then◌else◌, length, subst, sym, unwrap_or, ◌<◌, true}
 use Rattle.std.proofs.lemmas.List.{with_items_is}
 use Rattle.std.specs.Ordering.{nat_cmp}
-use Rattle.ink_model.specs.Counts.{one_more}
+use Rattle.ink_model.specs.Counts.{one_more, counts}
 use Rattle.ink_model.specs.Rows.{row, with_row}
-use Rattle.ink_trail.proofs.Undoing.{stood-trails}
+use Rattle.ink_trail.proofs.Undoing.{stood-trails, spare-trails}
 use Rattle.ink_trail.specs.Undo.{Undo, trail_of}
-use Rattle.ink_vars.specs.Undo.{HaveSlots, counts_back, counts_stood, rows_of, with_rows}
+use Rattle.ink_vars.specs.Undo.{HaveSlots, counts_back, counts_stood, rows_of, with_rows, counts_spare}
 use Rattle.ink_vars.specs.Slots.{AreCounts, rows_from}
 use Rattle.ink_vars.specs.declared.undo.CountPair.{CountPair}
 use Rattle.ink_vars.proofs.Restored.{as_before}
-use Rattle.ink_vars.proofs.Slotting.{have_more, have_rows, visit_trails}
+use Rattle.ink_vars.proofs.Slotting.{have_more, have_rows, visit_trails, counts_late, counts_start, visit_counts}
+use Rattle.ink_vars.proofs.counts.Counts.visit.Goals.{else-not-at_start-via-then-not-at_start+else-counts_at_start, else-not-at_start-via-else-not-at_start}
 use Rattle.ink_vars.proofs.counts.Counts.visit.Goals as goal
 
 pub invariant_of-self : goal.invariant_of-self
@@ -79,3 +80,33 @@ returns-clause-trail c =
 pub returns-clause-stood : goal.returns-clause-stood
 unfolding counts_stood
 returns-clause-stood c = stood-trails counts_back (returns-clause-trail c)
+
+pub put-requires : goal.put-requires
+put-requires c = subst (λ slots. c.notes_turns-turns.result ≡ true → c.args.node < length slots) (sym c.as_mut_slice-2.ensures.value) c.in_ok-make_room-2.ensures.room
+
+pub add_one-requires : goal.add_one-requires
+add_one-requires c = subst (λ slots. c.counts_visits-visits.result ≡ true → c.args.node < length slots) (sym c.as_mut_slice.ensures.value) c.in_ok-make_room.ensures.room
+
+pub returns-clause-spare : goal.returns-clause-spare
+unfolding counts_spare
+returns-clause-spare c = spare-trails counts_back (returns-clause-trail c)
+
+pub returns-clause-ok : goal.returns-clause-ok
+returns-clause-ok c =
+    let vis = with_items_is c.make_room.new.slots c.add_one.new.slots (c.add_one.auto.slots ∙ c.as_mut_slice.ensures.len) in
+    let tur = with_items_is c.make_room-2.new.slots c.put.new.slots (c.put.auto.slots ∙ c.as_mut_slice-2.ensures.len) in
+    let node = c.args.node in
+    let b = c.counts_visits-visits.result in
+    let t = c.notes_turns-turns.result in
+    let was = c.args.self.now.rows in
+    let counted : counts c.args.flags c.args.at_start ≡ true =
+    elim c.else-not-at_start.branch [
+      | else-not-at_start-via-then-not-at_start+else-counts_at_start w ↦ counts_late c.args.flags c.args.at_start (sym w.counts_at_start.ensures ∙ w.if-counts_at_start.false)
+      | else-not-at_start-via-else-not-at_start w ↦ counts_start c.args.flags c.args.at_start w.if-not-at_start.false
+    ] in
+    let vrows : rows_from 0 c.make_room.new.slots.items ≡ was.visits = c.make_room.ensures.rows ∙ ap (λ g. g.rows.visits) c.self.view_is in
+    let trows : rows_from 0 c.make_room-2.new.slots.items ≡ was.turns = c.make_room-2.ensures.rows ∙ ap (λ g. g.rows.turns) c.self.view_is in
+    rw (vis, tur) (visit_counts c.args.flags node c.args.turn c.args.at_start b t was _ counted c.counts_visits-visits.ensures c.notes_turns-turns.ensures
+    (c.add_one.ensures.rows ∙ ap (λ rows. if b then with_row nat_cmp node (one_more (unwrap_or (row nat_cmp node rows) 0)) rows else rows) (ap (rows_from 0) c.as_mut_slice.ensures.value ∙ vrows))
+    (c.put.ensures.rows ∙ ap (λ rows. if t then with_row nat_cmp node c.number.result rows else rows) (ap (rows_from 0) c.as_mut_slice-2.ensures.value ∙ trows)
+    ∙ ap (λ turn. if t then with_row nat_cmp node turn was.turns else was.turns) c.number.ensures.number))

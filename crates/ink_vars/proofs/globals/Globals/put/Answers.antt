@@ -1,11 +1,11 @@
-use Rattle.std.proofs.Common.{◌∙◌, ap, inl, inr, is_some, length, sym}
+use Rattle.std.proofs.Common.{◌∙◌, ap, inl, inr, is_some, length, sym, ◌≡◌, subst, true}
 use Rattle.std.proofs.lemmas.Result.{on_err_weaker}
 use Rattle.ink_model.specs.Store.{stored}
 use Rattle.ink_vars.specs.Changes.{Tracks, as_they_were}
-use Rattle.ink_trail.proofs.Undoing.{stood-or-kept}
+use Rattle.ink_trail.proofs.Undoing.{stood-or-kept, stood-marked}
 use Rattle.ink_vars.specs.Undo.{global_back, globals_stood}
 use Rattle.ink_vars.proofs.Covering.{covers_unmarked}
-use Rattle.ink_vars.proofs.Either.{either-unmarked}
+use Rattle.ink_vars.proofs.Either.{either-unmarked, on_err}
 use Rattle.ink_vars.proofs.Fitting.{as_it_stood, fits_put, tracked}
 use Rattle.ink_vars.proofs.globals.Globals.put.Goals as goal
 
@@ -40,3 +40,9 @@ returns-clause-trail c =
 pub returns-then-is_marked-clause-stood : goal.returns-then-is_marked-clause-stood
 unfolding globals_stood
 returns-then-is_marked-clause-stood c = stood-or-kept global_back c.put_marked.result 1 _ _ _ _ c.put_marked.ensures.trail
+
+pub returns-then-is_marked-clause-memory : goal.returns-then-is_marked-clause-memory
+unfolding globals_stood
+returns-then-is_marked-clause-memory c =
+    let marked = stood-marked global_back c.self.inside.trail c.self.inside.table ∙ sym c.is_marked.ensures ∙ c.if-is_marked.true in
+    on_err c.put_marked.result (inr (subst (λ g. is_some (globals_stood g) ≡ true) c.self.view_is marked))

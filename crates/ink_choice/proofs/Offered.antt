@@ -1,0 +1,30 @@
+-- What a choice point makes.
+use Rattle.std.proofs.Common.{◌≡◌, ◌≢◌, ◌∙◌, ◌≤◌, ◌++◌, ℕ, List, [], ◌∷◌, Bool, true, Ok, Some, ap, append_assoc, arith, length, reverse, sym}
+use Rattle.std.proofs.lemmas.List.{length-append, reverse-reverse}
+use Rattle.ink_choice.specs.Words.{Makes}
+use Rattle.ink_model.specs.Bytes.{fits_text}
+use Rattle.ink_model.specs.Choices.{Operands, choice, choice_text, is_offered, make, operands, tags_first}
+use Rattle.ink_model.specs.Configuration.{ChoiceOf}
+use Rattle.ink_model.specs.Frames.{ThreadOf}
+use Rattle.ink_model.specs.declared.value.Value.{Value}
+use Rattle.ink_model.specs.declared.value.Value.TheVariants.{Tag}
+
+-- a choice is made of what was found, and all of that is popped
+pub makes_one : {P : Type 0} (short : Type 0) (flags : ℕ) (target : P) (visited : Bool) (thread : ThreadOf P) (stack new : List Value) (o : Operands) (made : ChoiceOf P)
+    → operands flags (reverse stack) ≡ Ok o → is_offered flags visited o.condition ≡ true → fits_text (choice_text o) ≡ true → made ≡ choice flags target thread o → reverse new ≡ o.left
+    → Makes short (make flags target visited thread stack) stack new (Ok (Some made))
+makes_one short flags target visited thread stack new o made found offered fits is left = rw (found, offered, fits) (ap Some is, sym (reverse-reverse new) ∙ ap reverse left)
+
+-- ---- tags one after another
+
+-- a tag that comes next is one of all
+pub some_tag : (vs all : List Value) (v : Value) (tag : List ℕ) (rest : List Value) (first tags : List (List ℕ)) → vs ≡ v ∷ rest → v ≡ Tag tag → length first ≤ length tags
+    → tags ++ tags_first vs ≡ first ++ tags_first all → tags_first all ≢ []
+some_tag vs all v tag rest first tags is tagged more same = λ none.
+    absurd (omega (arith, more, ap length same, length-append tags (tags_first vs), length-append first (tags_first all), ap length none, ap (λ ws. length (tags_first ws)) (is ∙ ap (λ w. w ∷ rest) tagged)))
+
+pub next_tag : (vs : List Value) (v : Value) (tag added : List ℕ) (rest : List Value) (all tags new : List (List ℕ)) → vs ≡ v ∷ rest → v ≡ Tag tag → added ≡ tag → new ≡ tags ++ added ∷ []
+    → tags ++ tags_first vs ≡ all → new ++ tags_first rest ≡ all
+next_tag vs v tag added rest all tags new is tagged same more h =
+    ap (λ ts. ts ++ tags_first rest) (more ∙ ap (λ t. tags ++ t ∷ []) same) ∙ append_assoc tags (tag ∷ []) (tags_first rest)
+    ∙ ap (λ ws. tags ++ tags_first ws) (sym (is ∙ ap (λ w. w ∷ rest) tagged)) ∙ h

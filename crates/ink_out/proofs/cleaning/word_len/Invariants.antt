@@ -1,0 +1,10 @@
+use Rattle.std.proofs.Common.{◌≡◌, ◌+◌, ◌-◌, not, drop, length}
+use Rattle.std.specs.List.{prefix_len}
+use Rattle.ink_model.specs.Bytes.{is_white}
+use Rattle.ink_out.proofs.cleaning.word_len.Given as goal
+
+abbrev pub invariant-loop-at : goal.invariant-loop-at
+invariant-loop-at l = prefix_len (λ byte. not (is_white byte)) l.text ≡ l.at + prefix_len (λ byte. not (is_white byte)) (drop l.at l.text)
+
+abbrev pub decreases-loop-at : goal.decreases-loop-at
+decreases-loop-at l = length l.text - l.at

@@ -1,0 +1,6 @@
+use Rattle.std.proofs.Common.{ap}
+use Rattle.ink_step.specs.Marks.{stood_of}
+use Rattle.ink_step.proofs.machine.Machine.go_to_next.Goals as goal
+
+pub returns-clause-mark : goal.returns-clause-mark
+returns-clause-mark c = ap (λ o. record (stood_of c.args.self.now) { threads = o }) c.move_to.ensures.mark

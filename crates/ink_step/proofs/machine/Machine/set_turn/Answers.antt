@@ -1,0 +1,10 @@
+use Rattle.std.proofs.Common.{ap, refl}
+use Rattle.ink_step.specs.Marks.{own_of, stood_of}
+use Rattle.ink_step.specs.declared.own.OwnPair.TheVariants.{Turned}
+use Rattle.ink_step.proofs.Backs.{own_noted}
+use Rattle.ink_step.proofs.machine.Machine.set_turn.Goals as goal
+
+pub returns-clause-mark : goal.returns-clause-mark
+returns-clause-mark c =
+    let old = c.args.self.now in
+    ap (λ o. record (stood_of old) { own = o }) (own_noted old.trail c.note.new.self (Turned old.shared.turn) (own_of old) (record { turn = c.args.turn; safe = old.flow.safe }) refl c.note.ensures.undo)

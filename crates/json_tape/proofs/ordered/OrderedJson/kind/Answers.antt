@@ -1,0 +1,17 @@
+use Rattle.json_tape.specs.Number.{num}
+use Rattle.json_tape.specs.Value.{json_data}
+use Rattle.json_tape.proofs.Sorts.{is_bool, is_null, is_number, is_string}
+use Rattle.json_tape.proofs.ordered.OrderedJson.kind.Goals as goal
+
+pub returns-in-Some : goal.returns-in-Some
+returns-in-Some c = is_string (json_data c.args.self.now.value) c.in-Some.text.now c.in-Some.ensures
+
+pub returns-in-Some-as_number : goal.returns-in-Some-as_number
+returns-in-Some-as_number c = is_number (json_data c.args.self.now.value) (num c.in-Some-as_number.number) c.in-Some-as_number.ensures
+
+pub returns-in-Some-as_bool : goal.returns-in-Some-as_bool
+returns-in-Some-as_bool c = is_bool (json_data c.args.self.now.value) c.in-Some-as_bool.truth c.in-Some-as_bool.ensures
+
+pub returns-in_default-as_bool : goal.returns-in_default-as_bool
+returns-in_default-as_bool c =
+    is_null (json_data c.args.self.now.value) c.in_default.ensures c.in_default-items.ensures c.in_default-members.ensures c.in_default-as_number.ensures c.in_default-as_bool.ensures
