@@ -7,10 +7,10 @@ use Rattle.std.proofs.Math.ListN.{get_or-map}
 use Rattle.std.proofs.Math.Seq.{drop-cons}
 use Rattle.std.proofs.lemmas.List.{drop_all, map-append, take_all, take_more}
 use Rattle.std.proofs.lemmas.Option.{unwrap_or-slice_get}
-use Rattle.ink_model.specs.Acceptance.{accepted, bad_path, bad_places, good_content, has_bad_path}
-use Rattle.ink_model.specs.Path.{ends_in_index}
-use Rattle.ink_model.specs.Places.{places}
-use Rattle.ink_model.specs.Tree.{StoryTree, leaf, container, at}
+use Rattle.ink_model.specs.Story.Acceptance.{accepted, bad_path, bad_places, good_content, has_bad_path}
+use Rattle.ink_model.specs.Story.Path.{ends_in_index}
+use Rattle.ink_model.specs.Story.Places.{places}
+use Rattle.ink_model.specs.Story.Tree.{StoryTree, leaf, container, at}
 use Rattle.ink_model.specs.declared.place.Part.{Part}
 use Rattle.ink_model.specs.declared.place.Part.TheVariants.{Index, Name}
 use Rattle.ink_model.specs.declared.fault.Failure.{Failure}

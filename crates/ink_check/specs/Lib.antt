@@ -1,4 +1,4 @@
-pub mod Words
+pub mod Standing
 pub mod Links
 pub mod Outcome
 pub mod Names

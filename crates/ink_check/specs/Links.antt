@@ -1,10 +1,10 @@
 -- What a written path is for, and what it comes to.
 use Rattle.std.specs.Prelude.{◌≡◌, ℕ, ◌≤◌, List, ◌∷◌, All, length, map, slice_index_or, Bool, true, false, not, if◌then◌else◌, Option, Some, None, is_some}
 use Rattle.std.specs.Option.{option_map}
-use Rattle.ink_model.specs.Acceptance.{is_counted, leads}
-use Rattle.ink_model.specs.Flags.{is_once_only}
-use Rattle.ink_model.specs.Path.{landing, read_path}
-use Rattle.ink_model.specs.Tree.{StoryTree, leaf, container}
+use Rattle.ink_model.specs.Story.Acceptance.{is_counted, leads}
+use Rattle.ink_model.specs.Story.Flags.{is_once_only}
+use Rattle.ink_model.specs.Story.Path.{landing, read_path}
+use Rattle.ink_model.specs.Story.Tree.{StoryTree, leaf, container}
 use Rattle.ink_model.specs.declared.content.Destination.{Destination}
 use Rattle.ink_model.specs.declared.content.Destination.TheVariants as destinations
 use Rattle.ink_model.specs.declared.content.Leaf.{Leaf}

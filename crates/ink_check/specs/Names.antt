@@ -1,8 +1,8 @@
 -- The names of a story's variables, and their numbers.
 use Rattle.std.specs.Prelude.{ℕ, List, [], ◌∷◌, ◌++◌, Option, Some, None, if◌then◌else◌, is_some}
 use Rattle.ink_names.specs.Names.{number_of}
-use Rattle.ink_model.specs.Places.{places}
-use Rattle.ink_model.specs.Tree.{StoryTree, leaf, container, at}
+use Rattle.ink_model.specs.Story.Places.{places}
+use Rattle.ink_model.specs.Story.Tree.{StoryTree, leaf, container, at}
 use Rattle.ink_model.specs.declared.content.Destination.{Destination}
 use Rattle.ink_model.specs.declared.content.Destination.TheVariants as destinations
 use Rattle.ink_model.specs.declared.content.Leaf.{Leaf}

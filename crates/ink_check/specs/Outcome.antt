@@ -1,9 +1,9 @@
 -- How the check of paths ends.
 use Rattle.std.specs.Prelude.{◌≡◌, ◌⊎◌, ⊤, ℕ, List, true, false, Option, Some, None, Result, Ok, Err}
-use Rattle.ink_model.specs.Acceptance.{accepted, bad_path, content_counted, content_target, good_content, leads}
-use Rattle.ink_model.specs.Grammar.{here}
-use Rattle.ink_model.specs.Path.{ends_in_index, read_path, target}
-use Rattle.ink_model.specs.Tree.{StoryTree}
+use Rattle.ink_model.specs.Story.Acceptance.{accepted, bad_path, content_counted, content_target, good_content, leads}
+use Rattle.ink_model.specs.Story.Grammar.{here}
+use Rattle.ink_model.specs.Story.Path.{ends_in_index, read_path, target}
+use Rattle.ink_model.specs.Story.Tree.{StoryTree}
 use Rattle.ink_model.specs.declared.fault.Cause.TheVariants as cause
 use Rattle.ink_model.specs.declared.fault.Failure.{Failure}
 use Rattle.ink_model.specs.declared.fault.Failure.TheVariants.{OutOfMemory, Refused}

@@ -4,12 +4,12 @@ ghost use Rattle.std.specs.Prelude.{◌≡◌, ◌⊎◌, [], map, Some, IfOk, I
 ghost use Rattle.ink_check.specs.Links.{counted_place, number_of, pushed_of, pushed_path, target_place};
 ghost use Rattle.ink_check.specs.Names.{names as story_names, variable_number};
 ghost use Rattle.ink_check.specs.Outcome.{Follows, IsFirstBad, IsRefusedFor};
-ghost use Rattle.ink_check.specs.Words.{story_tree};
+ghost use Rattle.ink_check.specs.Standing.{story_tree};
 ghost use Rattle.ink_json.specs.Story.{tree};
-ghost use Rattle.ink_model.specs.Acceptance.{accepted, bad_places, counted_container, written_target};
-ghost use Rattle.ink_model.specs.Grammar.{here};
-ghost use Rattle.ink_model.specs.Places.{places};
-ghost use Rattle.ink_model.specs.Tree.{StoryTree, at};
+ghost use Rattle.ink_model.specs.Story.Acceptance.{accepted, bad_places, counted_container, written_target};
+ghost use Rattle.ink_model.specs.Story.Grammar.{here};
+ghost use Rattle.ink_model.specs.Story.Places.{places};
+ghost use Rattle.ink_model.specs.Story.Tree.{StoryTree, at};
 ghost use Rattle.ink_model.specs.declared.fault.Cause.TheVariants.{OutOfMemory};
 ghost use Rattle.ink_tree.specs.Nodes as nodes;
 

@@ -4,7 +4,7 @@ ghost use Rattle.std.specs.Prelude.{◌≡◌, None, Some, option_map};
 ghost use Rattle.ink_check.specs.Links as links;
 ghost use Rattle.ink_check.specs.Names.{number_in, variable_name};
 ghost use Rattle.ink_check.specs.Outcome.{Follows};
-ghost use Rattle.ink_model.specs.Tree as trees;
+ghost use Rattle.ink_model.specs.Story.Tree as trees;
 ghost use Rattle.ink_tree.specs.Nodes.{story_tree};
 
 use crate::leading::{follow, link};

@@ -3,10 +3,10 @@
 ghost use Rattle.std.specs.Prelude.{◌≡◌, Some, None, IfOk, OnErr, if◌then◌else◌, option_map};
 ghost use Rattle.ink_check.specs.Links.{IsCountOf, IsLinkFor};
 ghost use Rattle.ink_check.specs.Outcome.{Leads};
-ghost use Rattle.ink_model.specs.Acceptance.{is_counted};
-ghost use Rattle.ink_model.specs.Path as paths;
-ghost use Rattle.ink_model.specs.Path.{ends_in_index, read_path};
-ghost use Rattle.ink_model.specs.Tree.{StoryTree};
+ghost use Rattle.ink_model.specs.Story.Acceptance.{is_counted};
+ghost use Rattle.ink_model.specs.Story.Path as paths;
+ghost use Rattle.ink_model.specs.Story.Path.{ends_in_index, read_path};
+ghost use Rattle.ink_model.specs.Story.Tree.{StoryTree};
 ghost use Rattle.ink_model.specs.declared.place.Path.{Path};
 ghost use Rattle.ink_tree.specs.Nodes.{node_place, place_of, story_tree};
 

@@ -2,7 +2,7 @@
 
 ghost use Rattle.std.specs.Prelude.{◌≡◌, IfOk, OnOk, option_map};
 ghost use Rattle.ink_check.specs.Names as rules;
-ghost use Rattle.ink_model.specs.Tree as trees;
+ghost use Rattle.ink_model.specs.Story.Tree as trees;
 ghost use Rattle.ink_tree.specs.Nodes.{node_place, story_tree};
 
 use ink_model::{Destination, Leaf};

@@ -3,10 +3,10 @@
 ghost use Rattle.std.specs.Prelude.{◌≡◌, [], map, option_and_then, option_map};
 ghost use Rattle.ink_check.specs.Links.{counted_place, number_of, pushed_of, pushed_path, target_place};
 ghost use Rattle.ink_check.specs.Names.{variable_number};
-ghost use Rattle.ink_model.specs.Acceptance.{bad_places, counted_container, written_target};
-ghost use Rattle.ink_model.specs.Grammar.{IsSpelled};
-ghost use Rattle.ink_model.specs.Places.{places};
-ghost use Rattle.ink_model.specs.Tree.{at};
+ghost use Rattle.ink_model.specs.Story.Acceptance.{bad_places, counted_container, written_target};
+ghost use Rattle.ink_model.specs.Story.Grammar.{IsSpelled};
+ghost use Rattle.ink_model.specs.Story.Places.{places};
+ghost use Rattle.ink_model.specs.Story.Tree.{at};
 ghost use Rattle.ink_tree.specs.Nodes as nodes;
 
 use crate::link::Link;
@@ -34,7 +34,7 @@ impl Drop for Story {
 }
 
 impl Story {
-    ghost use Rattle.ink_check.specs.Words.{story_tree};
+    ghost use Rattle.ink_check.specs.Standing.{story_tree};
 
     /// The story's content, by number. Some bytes spell it, so that all limits hold in it. Takes no memory.
     pub fn tree(&self) -> &Tree

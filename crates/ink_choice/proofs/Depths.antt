@@ -4,7 +4,7 @@ use Rattle.std.proofs.Math.Seq.{drop-append_seam}
 use Rattle.std.proofs.lemmas.Bool.Decides.{nat_tests}
 use Rattle.std.proofs.lemmas.List.{drop_all, drop_more, length-drop, length-reverse, reverse-append, take-append-drop}
 use Rattle.std.proofs.lemmas.Option.{get_or_from_slice_get, slice_get_within}
-use Rattle.ink_model.specs.Step.Host.{arguments_on}
+use Rattle.ink_model.specs.Run.Step.Host.{arguments_on}
 use Rattle.ink_model.specs.declared.value.Value.{Value}
 use Rattle.ink_trail.specs.Undo.{TrailView, Trails, TrailsOrKeeps}
 use Rattle.ink_value.specs.Undo.{stack_back}

@@ -5,9 +5,9 @@ use Rattle.std.specs.Result.{OnErr}
 use Rattle.std.proofs.lemmas.Bool.{cases_Bool, le-leb, le-ltb, lt-leb, lt-ltb, not-false, not-true}
 use Rattle.std.proofs.lemmas.List.{append-nil, drop_all, drop_more, take_more}
 use Rattle.std.proofs.lemmas.Option.{slice_get-get_or}
-use Rattle.ink_choice.specs.Words.{Adds, FindsIndex, Takes}
-use Rattle.ink_model.specs.Choices.{added, behind, none_visible, only_invisible, shown, shown_choice, taken, taken_of, visible}
-use Rattle.ink_model.specs.Configuration.{ChoiceOf}
+use Rattle.ink_choice.specs.Outcomes.{Adds, FindsIndex, Takes}
+use Rattle.ink_model.specs.Choices.Making.{added, behind, none_visible, only_invisible, shown, shown_choice, choice_gone, taken_of, visible}
+use Rattle.ink_model.specs.Run.Configuration.{ChoiceOf}
 use Rattle.ink_model.specs.declared.fault.Fault.{Fault}
 use Rattle.ink_model.specs.declared.fault.Fault.TheVariants.{OutOfMemory, TooDeep}
 use Rattle.ink_model.specs.declared.limits.TheConstants.{MAX_CHOICES}
@@ -99,15 +99,15 @@ module _ {P : Type 0} where
   passed_all test n left i cs all p = p.is ∙ ap (λ xs. option_map (after (take i cs)) (taken_of test left xs)) (drop_all i cs all)
 
   pub took : (n i : ℕ) (cs new : List (ChoiceOf P)) (x : ChoiceOf P) (any : Bool) → any ≡ none_visible cs → FindsIndex (λ c. any || not c.hidden) n cs (Some i)
-      → x ≡ get_or cs i x → new ≡ remove cs i → Takes (taken n cs) cs new (Ok (Some x))
+      → x ≡ get_or cs i x → new ≡ remove cs i → Takes (choice_gone n cs) cs new (Ok (Some x))
   took n i cs new x any same found is left =
-      let taken_is : taken n cs ≡ Some (get_or cs i x, remove cs i) = ap (λ b. taken_of (λ c. b || not c.hidden) n cs) (sym same) ∙ found.1 x in
+      let taken_is : choice_gone n cs ≡ Some (get_or cs i x, remove cs i) = ap (λ b. taken_of (λ c. b || not c.hidden) n cs) (sym same) ∙ found.1 x in
       rw taken_is (is, left)
 
   pub took_none : (n : ℕ) (cs : List (ChoiceOf P)) (any : Bool) → any ≡ none_visible cs → FindsIndex (λ c. any || not c.hidden) n cs None
-      → Takes (taken n cs) cs cs (Ok None)
+      → Takes (choice_gone n cs) cs cs (Ok None)
   took_none n cs any same found =
-      let taken_is : taken n cs ≡ None = ap (λ b. taken_of (λ c. b || not c.hidden) n cs) (sym same) ∙ found in
+      let taken_is : choice_gone n cs ≡ None = ap (λ b. taken_of (λ c. b || not c.hidden) n cs) (sym same) ∙ found in
       rw taken_is refl
 
   -- ---- where there is one
@@ -174,15 +174,15 @@ module _ {P : Type 0} where
 
   -- a call that is refused memory for the one that is to be taken
   pub took_nothing : (n i : ℕ) (cs new : List (ChoiceOf P)) (any : Bool) → any ≡ none_visible cs → FindsIndex (λ c. any || not c.hidden) n cs (Some i)
-      → new ≡ cs → Takes (taken n cs) cs new (Err OutOfMemory)
+      → new ≡ cs → Takes (choice_gone n cs) cs new (Err OutOfMemory)
   took_nothing n i [] new any same found h = absurd (omega (arith, found.0))
   took_nothing n i (c ∷ cs) new any same found h =
-      let taken_is : taken n (c ∷ cs) ≡ Some (get_or (c ∷ cs) i c, remove (c ∷ cs) i) = ap (λ b. taken_of (λ c. b || not c.hidden) n (c ∷ cs)) (sym same) ∙ found.1 c in
+      let taken_is : choice_gone n (c ∷ cs) ≡ Some (get_or (c ∷ cs) i c, remove (c ∷ cs) i) = ap (λ b. taken_of (λ c. b || not c.hidden) n (c ∷ cs)) (sym same) ∙ found.1 c in
       rw taken_is (refl, h)
 
   -- the one at the index is taken
   pub taken_at : (n i : ℕ) (cs : List (ChoiceOf P)) (any : Bool) → any ≡ none_visible cs → FindsIndex (λ c. any || not c.hidden) n cs (Some i)
-      → option_map (λ r. r.0) (taken n cs) ≡ slice_get cs i
+      → option_map (λ r. r.0) (choice_gone n cs) ≡ slice_get cs i
   taken_at n i [] any same found = absurd (omega (arith, found.0))
   taken_at n i (c ∷ cs) any same found =
       ap (λ b. option_map (λ r. r.0) (taken_of (λ c. b || not c.hidden) n (c ∷ cs))) (sym same) ∙ ap (option_map (λ r. r.0)) (found.1 c)

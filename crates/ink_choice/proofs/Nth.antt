@@ -1,8 +1,8 @@
 -- The n-th visible choice, looked at and taken.
 use Rattle.std.proofs.Common.{◌≡◌, ◌∙◌, ap, sym, refl, ℕ, zero, suc, Bool, true, false, not, ◌||◌, ◌&&◌, if◌then◌else◌, List, [], ◌∷◌, get_or, slice_get, Option, Some, None, option_map}
-use Rattle.ink_choice.specs.Words.{FindsIndex}
-use Rattle.ink_model.specs.Choices.{behind, none_visible, taken, taken_of, visible}
-use Rattle.ink_model.specs.Configuration.{ChoiceOf}
+use Rattle.ink_choice.specs.Outcomes.{FindsIndex}
+use Rattle.ink_model.specs.Choices.Making.{behind, none_visible, choice_gone, taken_of, visible}
+use Rattle.ink_model.specs.Run.Configuration.{ChoiceOf}
 
 module _ {P : Type 0} where
   behind_first : (c : ChoiceOf P) (r : Option (ChoiceOf P × List (ChoiceOf P))) → option_map (λ x. x.0) (option_map (behind c) r) ≡ option_map (λ x. x.0) r
@@ -42,5 +42,5 @@ module _ {P : Type 0} where
   some_visible [] x n h = absurd (cc)
   some_visible (c ∷ cs) x n h = some_by n c x cs c.hidden (some_visible cs x) h
 
-  pub taken_visible : (n : ℕ) (cs : List (ChoiceOf P)) (x : ChoiceOf P) → slice_get (visible cs) n ≡ Some x → option_map (λ r. r.0) (taken n cs) ≡ Some x
+  pub taken_visible : (n : ℕ) (cs : List (ChoiceOf P)) (x : ChoiceOf P) → slice_get (visible cs) n ≡ Some x → option_map (λ r. r.0) (choice_gone n cs) ≡ Some x
   taken_visible n cs x h = ap (λ b. option_map (λ r. r.0) (taken_of (λ c. b || not c.hidden) n cs)) (some_visible cs x n h) ∙ nth cs n ∙ h

@@ -1,11 +1,11 @@
 -- What a choice point makes.
 use Rattle.std.proofs.Common.{◌≡◌, ◌≢◌, ◌∙◌, ◌≤◌, ◌++◌, ℕ, List, [], ◌∷◌, Bool, true, Ok, Some, ap, append_assoc, arith, length, reverse, sym}
 use Rattle.std.proofs.lemmas.List.{length-append, reverse-reverse}
-use Rattle.ink_choice.specs.Words.{Makes}
-use Rattle.ink_model.specs.Bytes.{fits_text}
-use Rattle.ink_model.specs.Choices.{Operands, choice, choice_text, is_offered, make, operands, tags_first}
-use Rattle.ink_model.specs.Configuration.{ChoiceOf}
-use Rattle.ink_model.specs.Frames.{ThreadOf}
+use Rattle.ink_choice.specs.Outcomes.{Makes}
+use Rattle.ink_model.specs.Text.Bytes.{fits_text}
+use Rattle.ink_model.specs.Choices.Making.{Operands, choice, choice_text, is_offered, make, operands, tags_first}
+use Rattle.ink_model.specs.Run.Configuration.{ChoiceOf}
+use Rattle.ink_model.specs.Flow.Frames.{ThreadOf}
 use Rattle.ink_model.specs.declared.value.Value.{Value}
 use Rattle.ink_model.specs.declared.value.Value.TheVariants.{Tag}
 

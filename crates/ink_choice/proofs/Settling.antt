@@ -4,9 +4,9 @@ use Rattle.std.proofs.Math.Seq.{take-suc}
 use Rattle.std.proofs.lemmas.List.{drop_all, take_all}
 use Rattle.std.specs.List.{remove}
 use Rattle.std.specs.Result.{OnErr}
-use Rattle.ink_model.specs.Choices.{has_any}
-use Rattle.ink_model.specs.Configuration.{ChoiceOf, unnumbered_choice}
-use Rattle.ink_model.specs.Frames.{FrameOf, unnumbered_frame}
+use Rattle.ink_model.specs.Choices.Making.{has_any}
+use Rattle.ink_model.specs.Run.Configuration.{ChoiceOf, unnumbered_choice}
+use Rattle.ink_model.specs.Flow.Frames.{FrameOf, unnumbered_frame}
 use Rattle.ink_choice.specs.Choices.{Settled}
 
 module _ {P : Type 0} where

@@ -2,7 +2,7 @@
 use Rattle.std.proofs.Common.{◌≡◌, ◌∙◌, ◌≤◌, ◌<◌, ◌+◌, ℕ, zero, suc, List, [], ◌∷◌, ◌++◌, Option, Some, None, false, is_some, ap, arith, drop, get_or, Global, Vec, vec_capacity, length, refl, subst, sym, take}
 use Rattle.std.proofs.lemmas.List.{drop_all, length-append, take-append-drop, take_all}
 use Rattle.std.specs.List.{insert, remove}
-use Rattle.ink_model.specs.Configuration.{ChoiceOf}
+use Rattle.ink_model.specs.Run.Configuration.{ChoiceOf}
 use Rattle.ink_trail.proofs.Ending.{but_last-snoc}
 use Rattle.ink_trail.proofs.Staying.{stays-more, stays-now, stays-with}
 use Rattle.ink_trail.specs.Undo.{Undo, but_last, trail_of, with_pair}

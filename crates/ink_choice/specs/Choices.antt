@@ -1,6 +1,6 @@
 -- Choices, as contracts see them.
 use Rattle.std.specs.Prelude.{◌≡◌, ℕ, zero, suc, List, [], ◌∷◌}
-use Rattle.ink_model.specs.Configuration.{ChoiceOf, unnumbered_choice}
+use Rattle.ink_model.specs.Run.Configuration.{ChoiceOf, unnumbered_choice}
 use Rattle.ink_trail.specs.Undo.{TrailView}
 use Rattle.ink_choice.specs.declared.undo.ChoicePair.{ChoicePair}
 

@@ -1,4 +1,4 @@
 pub mod Choices
-pub mod Words
+pub mod Outcomes
 pub mod Operands
 pub mod Undo

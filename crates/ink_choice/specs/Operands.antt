@@ -2,8 +2,8 @@
 use Rattle.std.specs.Prelude.{List, reverse, drop}
 use Rattle.ink_choice.specs.declared.operands.Operands.{Operands}
 use Rattle.ink_choice.specs.declared.operands.Words.{Words}
-use Rattle.ink_model.specs.Choices as rules
-use Rattle.ink_model.specs.Choices.{tags_first}
+use Rattle.ink_model.specs.Choices.Making as rules
+use Rattle.ink_model.specs.Choices.Making.{tags_first}
 use Rattle.ink_model.specs.declared.value.Value.{Value}
 
 -- a text, and the tags from a depth on

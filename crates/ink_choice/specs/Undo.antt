@@ -1,6 +1,6 @@
 -- How changes of choices are put back (docs/CHOICES.md).
 use Rattle.std.specs.Prelude.{◌≤◌, ℕ, List, Option, length, insert, vec_capacity}
-use Rattle.ink_model.specs.Configuration.{ChoiceOf}
+use Rattle.ink_model.specs.Run.Configuration.{ChoiceOf}
 use Rattle.ink_model.specs.declared.limits.TheConstants.{MAX_CHOICES}
 use Rattle.ink_trail.specs.Stays.{Stays}
 use Rattle.ink_trail.specs.Undo.{but_last, spare, stood_at}

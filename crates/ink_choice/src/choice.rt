@@ -1,7 +1,7 @@
 //! A choice.
 
 ghost use Rattle.std.specs.Prelude.{◌≡◌, true, IfOk, OnErr};
-ghost use Rattle.ink_model.specs.Choices.{choice_asks, has_any};
+ghost use Rattle.ink_model.specs.Choices.Making.{choice_asks, has_any};
 
 use ink_model::{Seq, Shared, Text};
 use ink_stack::Thread;
@@ -19,7 +19,7 @@ pub struct Choice<P> {
 }
 
 impl<P> Model for Choice<P> {
-    ghost use Rattle.ink_model.specs.Configuration.{ChoiceOf};
+    ghost use Rattle.ink_model.specs.Run.Configuration.{ChoiceOf};
 
     ghost Value = { ChoiceOf P };
 

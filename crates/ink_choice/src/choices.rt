@@ -3,9 +3,9 @@
 ghost use Rattle.std.specs.Prelude.{◌≡◌, ◌≢◌, ◌≤◌, ◌<◌, ◌+◌, ◌++◌, ◌||◌, ◌⊎◌, [], None, Some, drop, false, is_some, not, length, map, option_map, remove, slice_get, slice_index_or, take, true, vec_capacity, IfErr, IfOk, OnOk, OnErr};
 ghost use Rattle.ink_model.specs.declared.limits.TheConstants.{MAX_CHOICES};
 ghost use Rattle.ink_choice.specs.Undo.{choices_back, choices_spare, choices_stood};
-ghost use Rattle.ink_choice.specs.Words.{Adds, FindsIndex, Takes};
-ghost use Rattle.ink_model.specs.Choices as rules;
-ghost use Rattle.ink_model.specs.Configuration.{unnumbered_choice};
+ghost use Rattle.ink_choice.specs.Outcomes.{Adds, FindsIndex, Takes};
+ghost use Rattle.ink_model.specs.Choices.Making as rules;
+ghost use Rattle.ink_model.specs.Run.Configuration.{unnumbered_choice};
 ghost use Rattle.ink_trail.specs.Undo.{KeepsTrail, Trails, TrailsOrKeeps, spare, with_pair};
 
 use crate::choice::{Choice, copied_tags, copied_text};
@@ -126,9 +126,9 @@ impl<P: Copy> Choices<P> {
     /// alone there is an error, `OutOfMemory` for a refused request for memory, which is made only for a copy that asks for some, and
     /// where there is no room to note one change more; nothing has changed then (docs/CHOICES.md, "Taking a choice").
     pub fn take(&mut self, number: usize) -> Result<Option<Choice<P>>, Fault>
-        ensures items { Takes (rules.taken number self.old.items) self.old.items self.new.items result }
+        ensures items { Takes (rules.choice_gone number self.old.items) self.old.items self.new.items result }
         ensures memory { OnErr result (is_some (choices_stood self.old) ≡ true) }
-        ensures asks { OnErr result ((choices_spare self.old < 1) ⊎ (rules.option_asks (option_map (λ r. r.0) (rules.taken number self.old.items)) ≡ true)) }
+        ensures asks { OnErr result ((choices_spare self.old < 1) ⊎ (rules.option_asks (option_map (λ r. r.0) (rules.choice_gone number self.old.items)) ≡ true)) }
         ensures trail { TrailsOrKeeps choices_back 1 self.old.items self.old.trail self.new.items self.new.trail result }
         ensures stood { choices_stood self.new ≡ choices_stood self.old }
         ensures spare { choices_spare self.old ≤ choices_spare self.new + 1 }

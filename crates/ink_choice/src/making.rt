@@ -2,9 +2,9 @@
 
 ghost use Rattle.std.specs.Prelude.{◌≡◌, ◌-◌, ◌+◌, ◌<◌, ◌≤◌, length, true, reverse, IfOk, OnErr};
 ghost use Rattle.ink_choice.specs.Operands.{operands_of};
-ghost use Rattle.ink_choice.specs.Words.{Chooses, Makes};
-ghost use Rattle.ink_model.specs.Choices as rules;
-ghost use Rattle.ink_model.specs.Choices.{choice_tags, has_any};
+ghost use Rattle.ink_choice.specs.Outcomes.{Chooses, Makes};
+ghost use Rattle.ink_model.specs.Choices.Making as rules;
+ghost use Rattle.ink_model.specs.Choices.Making.{choice_tags, has_any};
 ghost use Rattle.ink_trail.specs.Undo.{TrailsOrKeeps};
 ghost use Rattle.ink_value.specs.Undo.{stack_back, stack_spare, stack_stood};
 

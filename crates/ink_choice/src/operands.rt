@@ -2,8 +2,8 @@
 
 ghost use Rattle.std.specs.Prelude.{◌≡◌, ◌≢◌, ◌<◌, ◌≤◌, ◌+◌, ◌-◌, ◌^◌, length, [], ◌∷◌, ◌++◌, Ok, Err, drop, reverse, IfSome, MatchOption, MatchResult, OnOk, OnErr};
 ghost use Rattle.ink_choice.specs.Operands.{operands_of, words_of};
-ghost use Rattle.ink_model.specs.Choices as rules;
-ghost use Rattle.ink_model.specs.Choices.{tags_first};
+ghost use Rattle.ink_model.specs.Choices.Making as rules;
+ghost use Rattle.ink_model.specs.Choices.Making.{tags_first};
 ghost use Rattle.ink_trail.specs.Undo.{TrailsOrKeeps};
 ghost use Rattle.ink_value.specs.Undo.{stack_back, stack_spare, stack_stood};
 

@@ -2,9 +2,9 @@
 
 ghost use Rattle.std.specs.Prelude.{◌≡◌, ◌++◌};
 ghost use Rattle.std.specs.List.{prefix_len, suffix_len};
-ghost use Rattle.ink_model.specs.Bytes.{is_blank, trimmed, without};
-ghost use Rattle.ink_model.specs.Choices.{trimmed_text};
-ghost use Rattle.ink_choice.specs.Words.{MakesText};
+ghost use Rattle.ink_model.specs.Text.Bytes.{is_blank, trimmed, without};
+ghost use Rattle.ink_model.specs.Choices.Making.{trimmed_text};
+ghost use Rattle.ink_choice.specs.Outcomes.{MakesText};
 
 use ink_model::{Fault, MAX_TEXT, Text};
 use std::alloc::Global;

@@ -2,7 +2,7 @@
 
 ghost use Rattle.std.specs.Prelude.{◌≡◌, ◌≤◌, ◌<◌, List, insert, refl, vec_capacity, vec_len};
 ghost use Rattle.ink_choice.specs.Undo.{Held, choices_back, choices_spare, choices_stood, room_of};
-ghost use Rattle.ink_model.specs.Configuration.{ChoiceOf};
+ghost use Rattle.ink_model.specs.Run.Configuration.{ChoiceOf};
 
 use crate::choice::Choice;
 use crate::choices::Choices;

@@ -1,13 +1,13 @@
 -- Going to a flow, and taking one away.
 use Rattle.std.proofs.Common.{◌≡◌, ◌∙◌, ap, refl, subst, sym, inl, inr, ℕ, List, [], Bool, true, false, bytes_eq, is_none, is_some, MatchBool, Option, None, Some}
-use Rattle.ink_model.specs.Answer.{Reply, Acts, Refuses}
-use Rattle.ink_model.specs.Changed.{Keeps}
-use Rattle.ink_model.specs.Configuration.{FlowOf}
-use Rattle.ink_model.specs.FlowCommands.{DropsBy, DropsFlow, DropsFrom, Goes, GoesFrom, GoesToFlow}
-use Rattle.ink_model.specs.Flows.{Game, default_flow, has_room, in_flow, is_flow_name, without_flow}
-use Rattle.ink_model.specs.Named.{at}
-use Rattle.ink_model.specs.State.{State, in_game}
-use Rattle.ink_model.specs.Tree.{StoryTree}
+use Rattle.ink_model.specs.Protocol.Answer.{Reply, Acts, Refuses}
+use Rattle.ink_model.specs.Protocol.Changed.{OnlyRefuses}
+use Rattle.ink_model.specs.Run.Configuration.{FlowOf}
+use Rattle.ink_model.specs.Protocol.FlowCommands.{DropsBy, DropsFlow, DropsFrom, Goes, GoesFrom, GoesToFlow}
+use Rattle.ink_model.specs.Run.Flows.{Game, default_flow, has_room, in_flow, is_flow_name, without_flow}
+use Rattle.ink_model.specs.Variables.Named.{at}
+use Rattle.ink_model.specs.Protocol.State.{State, in_game}
+use Rattle.ink_model.specs.Story.Tree.{StoryTree}
 use Rattle.ink_model.specs.declared.fault.Fault.{Fault}
 use Rattle.ink_model.specs.declared.fault.Refusal.TheVariants as refusal
 use Rattle.ink_model.specs.declared.place.Part.{Part}
@@ -27,8 +27,8 @@ module _ (s : StoryTree) (name : List ℕ) (g : Game) (n : ℕ) where
 
   module _ (reply : Reply) (new : State) where
     abbrev pub GoesWhere : Option Fault → Bool → Bool → Type 0
-    GoesWhere b fits room = MatchBool fits (MatchBool room (Goes s name g (old b) reply new) (Keeps (Refuses refusal.TooManyFlows) (old b) reply new))
-        (Keeps (Refuses refusal.BadValue) (old b) reply new)
+    GoesWhere b fits room = MatchBool fits (MatchBool room (Goes s name g (old b) reply new) (OnlyRefuses (Refuses refusal.TooManyFlows) (old b) reply new))
+        (OnlyRefuses (Refuses refusal.BadValue) (old b) reply new)
 
     -- by whether a flow may have the name, and whether there is room for it
     pub goes-by : (b : Option Fault) (fits room : Bool) → b ≡ None → is_flow_name name ≡ fits → has_room name g.aside ≡ room → GoesWhere b fits room → GoesToFlow s name (old b) reply new
@@ -53,7 +53,7 @@ module _ (s : StoryTree) (name : List ℕ) (g : Game) (n : ℕ) where
     drops-from : (b : Option Fault) → b ≡ None → DropsBy s name (at name g.aside) g (old b) reply new → DropsFlow s name (old b) reply new
     drops-from b free p = subst (λ x. DropsFrom s name (condition_by x g.now) (old b) reply new) (sym free) p
 
-    pub drops-none : (b : Option Fault) → b ≡ None → is_some (at name g.aside) ≡ false → Keeps (Refuses refusal.NoSuchFlow) (old b) reply new → DropsFlow s name (old b) reply new
+    pub drops-none : (b : Option Fault) → b ≡ None → is_some (at name g.aside) ≡ false → OnlyRefuses (Refuses refusal.NoSuchFlow) (old b) reply new → DropsFlow s name (old b) reply new
     drops-none b free e p = drops-from b free (by (at name g.aside) e)
       where
         by : (o : Option (Option (FlowOf (List Part)))) → is_some o ≡ false → DropsBy s name o g (old b) reply new
@@ -61,7 +61,7 @@ module _ (s : StoryTree) (name : List ℕ) (g : Game) (n : ℕ) where
         by (Some f) k = absurd (cc)
 
     abbrev DropsWhere : Option Fault → Bool → Type 0
-    DropsWhere b first = MatchBool first (Keeps (Refuses refusal.DefaultFlow) (old b) reply new) ((reply ≡ Acts []) × (new ≡ in_game (without_flow s name g) (old b)))
+    DropsWhere b first = MatchBool first (OnlyRefuses (Refuses refusal.DefaultFlow) (old b) reply new) ((reply ≡ Acts []) × (new ≡ in_game (without_flow s name g) (old b)))
 
     -- by whether it is the first
     pub drops-some : (b : Option Fault) (first : Bool) → b ≡ None → is_some (at name g.aside) ≡ true → bytes_eq name default_flow ≡ first → DropsWhere b first → DropsFlow s name (old b) reply new

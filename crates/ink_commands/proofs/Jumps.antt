@@ -1,14 +1,14 @@
 -- What a jump comes to.
 use Rattle.std.proofs.Common.{◌≡◌, ◌∙◌, ◌||◌, ◌*◌, ap, refl, subst, sym, inl, inr, ℕ, List, [], Bool, true, false, Option, None, Some, Err}
-use Rattle.ink_model.specs.Answer.{Reply, Acts, Refuses}
-use Rattle.ink_model.specs.Choosing.{jump_place, jumped}
-use Rattle.ink_model.specs.Configuration.{Configuration}
-use Rattle.ink_model.specs.Flows.{Aside}
-use Rattle.ink_model.specs.State.{State}
-use Rattle.ink_model.specs.Tree.{StoryTree}
-use Rattle.ink_model.specs.Turns.{Jump, JumpsBy, JumpsFrom}
-use Rattle.ink_model.specs.Unread.{ReadsPath}
-use Rattle.ink_model.specs.Visits.{entering_around, entering_asks}
+use Rattle.ink_model.specs.Protocol.Answer.{Reply, Acts, Refuses}
+use Rattle.ink_model.specs.Choices.Choosing.{jump_place, jumped}
+use Rattle.ink_model.specs.Run.Configuration.{Configuration}
+use Rattle.ink_model.specs.Run.Flows.{Aside}
+use Rattle.ink_model.specs.Protocol.State.{State}
+use Rattle.ink_model.specs.Story.Tree.{StoryTree}
+use Rattle.ink_model.specs.Protocol.Turns.{Jump, JumpsBy, JumpsFrom}
+use Rattle.ink_model.specs.Protocol.Unread.{ReadsPath}
+use Rattle.ink_model.specs.Run.Visits.{entering_around, entering_asks}
 use Rattle.ink_model.specs.declared.fault.Fault.{Fault}
 use Rattle.ink_model.specs.declared.fault.Refusal.{Refusal}
 use Rattle.ink_model.specs.declared.fault.Refusal.TheVariants as refusal

@@ -1,9 +1,9 @@
 -- A story that was opened before opens, unless memory is refused.
 use Rattle.std.proofs.Common.{◌≡◌, ◌∙◌, ap, inl, inr, sym, true, true≢false, is_ok}
-use Rattle.ink_model.specs.Memory.{OpensShort}
-use Rattle.ink_model.specs.Opening.{opening}
-use Rattle.ink_model.specs.Store.{Values}
-use Rattle.ink_model.specs.Tree.{StoryTree}
+use Rattle.ink_model.specs.Memory.Refusals.{OpensShort}
+use Rattle.ink_model.specs.Run.Opening.{opening}
+use Rattle.ink_model.specs.Variables.Store.{Values}
+use Rattle.ink_model.specs.Story.Tree.{StoryTree}
 use Rattle.ink_model.specs.declared.fault.Fault.{Fault}
 use Rattle.ink_step.specs.Steps.{FailsToOpen}
 

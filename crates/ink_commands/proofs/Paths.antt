@@ -1,7 +1,7 @@
 -- Where a host's path leads.
 use Rattle.std.proofs.Common.{◌≡◌, ◌∙◌, ap, sym, List, [], false, cond, None}
-use Rattle.ink_model.specs.Path.{absolute_target, target, walked}
-use Rattle.ink_model.specs.Tree.{StoryTree}
+use Rattle.ink_model.specs.Story.Path.{absolute_target, target, walked}
+use Rattle.ink_model.specs.Story.Tree.{StoryTree}
 use Rattle.ink_model.specs.declared.place.Part.{Part}
 use Rattle.ink_model.specs.declared.place.Path.{Path}
 

@@ -3,8 +3,8 @@ use Rattle.std.proofs.Common.{◌≡◌, ◌≢◌, ◌∙◌, ap, refl, subst, 
 use Rattle.ink_host.specs.Desk.{DeskView, Rows, watches}
 use Rattle.ink_host.specs.Telling.{IsRound, Watching}
 use Rattle.ink_host.specs.declared.objects.Called.{Called}
-use Rattle.ink_model.specs.Store.{Values, stored}
-use Rattle.ink_model.specs.Told.{ToldAs, change_of, is_other, is_told, told}
+use Rattle.ink_model.specs.Variables.Store.{Values, stored}
+use Rattle.ink_model.specs.Host.Told.{ToldAs, change_of, is_other, is_told, told}
 use Rattle.ink_model.specs.declared.host.Change.{Change}
 use Rattle.ink_model.specs.declared.value.Value.{Value}
 use Rattle.ink_commands.specs.Telling.{TellsWatchers}

@@ -1,13 +1,13 @@
 -- Where a host's path leads, and where memory is asked for to read it (docs/PROTOCOL.md, "Command lines").
 use Rattle.std.specs.Prelude.{◌≡◌, ◌⊎◌, ℕ, List, IsSome, Some, None, Result, Ok, Err}
-use Rattle.ink_model.specs.Answer.{Reply}
-use Rattle.ink_model.specs.Choosing.{jump_place}
-use Rattle.ink_model.specs.Path.{read_path}
-use Rattle.ink_model.specs.Changed.{FailsAllocation}
-use Rattle.ink_model.specs.State.{State}
-use Rattle.ink_model.specs.Tree.{StoryTree}
-use Rattle.ink_model.specs.Turns.{Jump}
-pub use Rattle.ink_model.specs.Unread.{ReadsPath}
+use Rattle.ink_model.specs.Protocol.Answer.{Reply}
+use Rattle.ink_model.specs.Choices.Choosing.{jump_place}
+use Rattle.ink_model.specs.Story.Path.{read_path}
+use Rattle.ink_model.specs.Protocol.Changed.{FailsAllocation}
+use Rattle.ink_model.specs.Protocol.State.{State}
+use Rattle.ink_model.specs.Story.Tree.{StoryTree}
+use Rattle.ink_model.specs.Protocol.Turns.{Jump}
+pub use Rattle.ink_model.specs.Protocol.Unread.{ReadsPath}
 use Rattle.ink_model.specs.declared.fault.Cause.{Cause}
 use Rattle.ink_model.specs.declared.fault.Cause.TheVariants as cause
 use Rattle.ink_model.specs.declared.fault.Refusal.{Refusal}

@@ -1,11 +1,11 @@
 -- The state of a player whose machine this is.
 use Rattle.std.specs.Prelude.{ℕ, Option, Some, None}
-use Rattle.ink_model.specs.Configuration.{Configuration}
-use Rattle.ink_model.specs.Flows.{Aside}
-use Rattle.ink_model.specs.State.{State, Condition, Ready, Broken}
-use Rattle.ink_model.specs.Tree.{StoryTree}
+use Rattle.ink_model.specs.Run.Configuration.{Configuration}
+use Rattle.ink_model.specs.Run.Flows.{Aside}
+use Rattle.ink_model.specs.Protocol.State.{State, Condition, Ready, Broken}
+use Rattle.ink_model.specs.Story.Tree.{StoryTree}
 use Rattle.ink_model.specs.declared.fault.Fault.{Fault}
-use Rattle.ink_step.specs.Words.{aside_in, aside_of, config_of}
+use Rattle.ink_step.specs.Standing.{aside_in, aside_of, config_of}
 use Rattle.ink_step.specs.declared.machine.Machine.{Machine}
 
 -- ready, unless a fault broke it

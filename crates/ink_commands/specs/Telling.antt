@@ -3,7 +3,7 @@ use Rattle.std.specs.Prelude.{◌≡◌, ◌≢◌, List, [], Bool, Result, Ok, 
 use Rattle.ink_host.specs.Desk.{DeskView, Grew}
 use Rattle.ink_host.specs.Telling.{IsRound, Watching, log_of}
 use Rattle.ink_host.specs.declared.objects.Called.{Called}
-use Rattle.ink_model.specs.Told.{ToldAs}
+use Rattle.ink_model.specs.Host.Told.{ToldAs}
 use Rattle.ink_model.specs.declared.host.Change.{Change}
 use Rattle.ink_model.specs.declared.host.Event.{Event}
 

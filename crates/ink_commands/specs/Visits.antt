@@ -1,15 +1,15 @@
 -- What is told of visits by a path (docs/PROTOCOL.md, "Command lines").
 use Rattle.std.specs.Prelude.{◌≡◌, ◌⊎◌, ℕ, ℤ, List, IsSome, Option, Some, None, Result, Ok, Err}
-use Rattle.ink_model.specs.Answer.{Reply}
-use Rattle.ink_model.specs.Configuration.{Configuration}
-use Rattle.ink_model.specs.Counts.{visits_of}
-use Rattle.ink_model.specs.Entered.{flags_at}
-use Rattle.ink_model.specs.Path.{read_path}
-use Rattle.ink_model.specs.Rows.{place_order}
-use Rattle.ink_model.specs.Session.{FailsAllocation, Visits}
-use Rattle.ink_model.specs.State.{State}
-use Rattle.ink_model.specs.Tree.{StoryTree, at}
-use Rattle.ink_model.specs.Visits.{counted_visits, visits_by}
+use Rattle.ink_model.specs.Protocol.Answer.{Reply}
+use Rattle.ink_model.specs.Run.Configuration.{Configuration}
+use Rattle.ink_model.specs.Variables.Counts.{visits_of}
+use Rattle.ink_model.specs.Run.Entered.{flags_at}
+use Rattle.ink_model.specs.Story.Path.{read_path}
+use Rattle.ink_model.specs.Variables.Rows.{place_order}
+use Rattle.ink_model.specs.Protocol.Session.{FailsAllocation, Visits}
+use Rattle.ink_model.specs.Protocol.State.{State}
+use Rattle.ink_model.specs.Story.Tree.{StoryTree, at}
+use Rattle.ink_model.specs.Run.Visits.{counted_visits, visits_by}
 use Rattle.ink_model.specs.declared.fault.Refusal.{Refusal}
 use Rattle.ink_model.specs.declared.fault.Refusal.TheVariants as refusal
 use Rattle.ink_model.specs.declared.place.Part.{Part}

@@ -1,14 +1,14 @@
 //! Going to flows, and taking them away (docs/RUNNING.md, "Flows").
 
 ghost use Rattle.std.specs.Prelude.{◌≡◌, ℕ};
-ghost use Rattle.ink_check.specs.Words.{story_tree};
+ghost use Rattle.ink_check.specs.Standing.{story_tree};
 ghost use Rattle.ink_commands.specs.States.{state_in};
-ghost use Rattle.ink_model.specs.Answer.{reply_of_landing};
-ghost use Rattle.ink_model.specs.FlowCommands.{DropsFlow, GoesToFlow};
-ghost use Rattle.ink_model.specs.Flows as rules;
-ghost use Rattle.ink_model.specs.Tree.{StoryTree};
+ghost use Rattle.ink_model.specs.Protocol.Answer.{reply_of_landing};
+ghost use Rattle.ink_model.specs.Protocol.FlowCommands.{DropsFlow, GoesToFlow};
+ghost use Rattle.ink_model.specs.Run.Flows as rules;
+ghost use Rattle.ink_model.specs.Story.Tree.{StoryTree};
 ghost use Rattle.ink_step.specs.Marks.{stood_of, unmarked};
-ghost use Rattle.ink_step.specs.Words.{game_of};
+ghost use Rattle.ink_step.specs.Standing.{game_of};
 
 use ink_check::Story;
 use ink_model::{Fault, MAX_FLOWS, Refusal};

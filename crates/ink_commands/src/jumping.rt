@@ -1,10 +1,10 @@
 //! Jumping to where a path leads (docs/RUNNING.md, "Choosing and jumping").
 
 ghost use Rattle.std.specs.Prelude.{◌≡◌, ℕ};
-ghost use Rattle.ink_check.specs.Words.{story_tree};
+ghost use Rattle.ink_check.specs.Standing.{story_tree};
 ghost use Rattle.ink_commands.specs.Paths.{JumpsTo};
 ghost use Rattle.ink_commands.specs.States.{state_in};
-ghost use Rattle.ink_model.specs.Answer.{reply_of_landing};
+ghost use Rattle.ink_model.specs.Protocol.Answer.{reply_of_landing};
 ghost use Rattle.ink_step.specs.Marks.{stood_of, unmarked};
 
 use crate::path::landing_by;

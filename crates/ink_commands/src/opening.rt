@@ -1,13 +1,13 @@
 //! Opening a story anew (docs/RUNNING.md, "Opening").
 
 ghost use Rattle.std.specs.Prelude.{◌≡◌, true, is_ok, Ok, IfOk, IfErr};
-ghost use Rattle.ink_check.specs.Words.{story_tree};
-ghost use Rattle.ink_model.specs.Flows.{one_flow};
-ghost use Rattle.ink_model.specs.Memory.{OpensShort};
-ghost use Rattle.ink_model.specs.Opening.{opening};
+ghost use Rattle.ink_check.specs.Standing.{story_tree};
+ghost use Rattle.ink_model.specs.Run.Flows.{one_flow};
+ghost use Rattle.ink_model.specs.Memory.Refusals.{OpensShort};
+ghost use Rattle.ink_model.specs.Run.Opening.{opening};
 ghost use Rattle.ink_model.specs.declared.fault.Refusal.TheVariants as refusal;
 ghost use Rattle.ink_step.specs.Marks.{stood_of, unmarked};
-ghost use Rattle.ink_step.specs.Words.{aside_in, config_of};
+ghost use Rattle.ink_step.specs.Standing.{aside_in, config_of};
 
 use ink_check::Story;
 use ink_model::Refusal;

@@ -1,9 +1,9 @@
 //! Where a host's paths lead (docs/PROTOCOL.md, "Command lines").
 
 ghost use Rattle.std.specs.Prelude.{◌≡◌, option_map};
-ghost use Rattle.ink_check.specs.Words as check;
-ghost use Rattle.ink_model.specs.Path as rules;
-ghost use Rattle.ink_model.specs.Path.{absolute_target};
+ghost use Rattle.ink_check.specs.Standing as check;
+ghost use Rattle.ink_model.specs.Story.Path as rules;
+ghost use Rattle.ink_model.specs.Story.Path.{absolute_target};
 ghost use Rattle.ink_commands.specs.Paths.{FindsPlace, refusal_of};
 ghost use Rattle.ink_tree.specs.Nodes.{place_of, story_tree};
 

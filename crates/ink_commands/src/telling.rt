@@ -3,10 +3,10 @@
 ghost use Rattle.std.specs.Prelude.{◌≡◌, [], ◌∷◌, IfOk, filter};
 ghost use Rattle.ink_host.specs.Desk.{Resting, watches};
 ghost use Rattle.ink_host.specs.Telling.{rests};
-ghost use Rattle.ink_model.specs.Told as rules;
-ghost use Rattle.ink_model.specs.Told.{change_of, told};
+ghost use Rattle.ink_model.specs.Host.Told as rules;
+ghost use Rattle.ink_model.specs.Host.Told.{change_of, told};
 ghost use Rattle.ink_commands.specs.Telling.{TellsWatchers};
-ghost use Rattle.ink_step.specs.Words.{globals_of, start_of};
+ghost use Rattle.ink_step.specs.Standing.{globals_of, start_of};
 
 use ink_host::{Change, Desk, PureFn, TellFault, TurnFn, Watcher};
 use ink_model::{Seq, Text, Value};

@@ -1,10 +1,10 @@
 //! Visits by a path (docs/PROTOCOL.md, "Command lines").
 
 ghost use Rattle.std.specs.Prelude.{◌≡◌, option_and_then};
-ghost use Rattle.ink_check.specs.Words as check;
-ghost use Rattle.ink_model.specs.Path.{absolute_target};
+ghost use Rattle.ink_check.specs.Standing as check;
+ghost use Rattle.ink_model.specs.Story.Path.{absolute_target};
 ghost use Rattle.ink_commands.specs.Visits.{FindsVisits, visits_at};
-ghost use Rattle.ink_step.specs.Words.{config_of};
+ghost use Rattle.ink_step.specs.Standing.{config_of};
 
 use crate::path::{absolute_spot, refusal_of};
 use ink_check::Story;

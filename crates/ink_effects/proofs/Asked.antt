@@ -1,15 +1,15 @@
 -- Questions for visits and turns.
 use Rattle.std.proofs.Common.{◌≡◌, ◌∙◌, ◌&&◌, ap, sym, subst, refl, inl, arith, ℕ, ◌≤◌, ℤ, List, [], ◌∷◌, ◌++◌, length, reverse, slice_get, nat_lt, if◌then◌else◌, Bool, true, false, Option, Some, None, option_map, ok_or, Result, Ok, Err, is_ok}
 use Rattle.std.proofs.lemmas.List.{length-append}
-use Rattle.ink_model.specs.Effect.{Context, Effect, Fields, Landing as Goal, Moves, or_else, or_fault, pushing}
-use Rattle.ink_model.specs.Asks.{has_room}
-use Rattle.ink_model.specs.Memory.{Leaves, visit_asks}
-use Rattle.ink_model.specs.Page.{Page}
-use Rattle.ink_model.specs.Stack.{popped, pushed}
-use Rattle.ink_model.specs.Step.Counts.{asking, pushing_count, visits_at}
-use Rattle.ink_model.specs.Step.Diverts.{landing_by}
-use Rattle.ink_model.specs.Store.{Values}
-use Rattle.ink_model.specs.Tree.{StoryTree}
+use Rattle.ink_model.specs.Run.Effect.{Context, Effect, Fields, Landing as Goal, Moves, or_else, or_fault, pushing}
+use Rattle.ink_model.specs.Memory.Asks.{has_room}
+use Rattle.ink_model.specs.Memory.Refusals.{Leaves, visit_asks}
+use Rattle.ink_model.specs.Text.Page.{Page}
+use Rattle.ink_model.specs.Values.Stack.{popped, pushed}
+use Rattle.ink_model.specs.Run.Step.Counts.{asking, pushing_count, visits_at}
+use Rattle.ink_model.specs.Run.Step.Diverts.{landing_by}
+use Rattle.ink_model.specs.Variables.Store.{Values}
+use Rattle.ink_model.specs.Story.Tree.{StoryTree}
 use Rattle.ink_model.specs.declared.fault.Fault.{Fault}
 use Rattle.ink_model.specs.declared.fault.Fault.TheVariants.{BadTarget, NotCounted, OutOfMemory, StackEmpty, TooDeep}
 use Rattle.ink_model.specs.declared.limits.TheConstants.{MAX_STACK}

@@ -7,14 +7,14 @@ use Rattle.ink_host.specs.Desk.{Rows, at, bound_by, kind_of}
 use Rattle.ink_host.specs.declared.objects.Bound.{Bound as Function}
 use Rattle.ink_host.specs.declared.objects.Bound.TheVariants as bound
 use Rattle.ink_host.specs.declared.objects.FnKind.TheVariants as kind
-use Rattle.ink_model.specs.Asks.{binding_asks, takes_arguments}
-use Rattle.ink_model.specs.Effect.{Fields, Moves, Fails}
-use Rattle.ink_model.specs.Host.{Binding, pure_function, turn_function}
-use Rattle.ink_model.specs.Stack.{popped}
-use Rattle.ink_model.specs.Step.Diverts.{condition, leaving_fields, truth_on}
-use Rattle.ink_model.specs.Step.Host.{Acts, Asks, CallEffect, arguments_of, arguments_on, ask_pure, call_bound, fall_back, has_string, is_argument, or_fails}
-use Rattle.ink_model.specs.Tree.{StoryTree}
-use Rattle.ink_model.specs.Value.{is_true}
+use Rattle.ink_model.specs.Memory.Asks.{binding_asks, takes_arguments}
+use Rattle.ink_model.specs.Run.Effect.{Fields, Moves, Fails}
+use Rattle.ink_model.specs.Host.Bindings.{Binding, pure_function, turn_function}
+use Rattle.ink_model.specs.Values.Stack.{popped}
+use Rattle.ink_model.specs.Run.Step.Diverts.{condition, leaving_fields, truth_on}
+use Rattle.ink_model.specs.Run.Step.Host.{Acts, Suspends, CallEffect, arguments_of, arguments_on, ask_pure, call_bound, fall_back, has_string, is_argument, or_fails}
+use Rattle.ink_model.specs.Story.Tree.{StoryTree}
+use Rattle.ink_model.specs.Values.Value.{is_true}
 use Rattle.ink_model.specs.declared.fault.Fault.{Fault}
 use Rattle.ink_model.specs.declared.fault.Fault.TheVariants.{BadOperands, UnsafeInString}
 use Rattle.ink_model.specs.declared.host.Event.{Event}
@@ -65,7 +65,7 @@ module _ (s : StoryTree) (name : List ℕ) (n : ℕ) where
   unasked o conditional f h = where_unasked (call_bound s o name n) (λ g. bound_unasked o g h) (condition conditional f)
 
   abbrev with_taken : Result (List Value × Fields) Fault → CallEffect
-  with_taken x = or_fails x (λ r. Asks name r.0 r.1)
+  with_taken x = or_fails x (λ r. Suspends name r.0 r.1)
 
   abbrev in_section : Bool → Fields → CallEffect
   in_section b g = if b then Acts (Fails UnsafeInString) else with_taken (arguments_of (arguments_on n g.stack) g)

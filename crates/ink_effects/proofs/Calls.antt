@@ -9,17 +9,17 @@ use Rattle.ink_host.specs.declared.objects.Bound.TheVariants as bound
 use Rattle.ink_host.specs.declared.objects.Called.{Called}
 use Rattle.ink_host.specs.declared.objects.FnKind.TheVariants as kind
 use Rattle.ink_host.specs.declared.objects.Seen.{Seen}
-use Rattle.ink_model.specs.Asks.{binding_asks, so_where, takes_arguments}
-use Rattle.ink_model.specs.Effect.{Effect, Fields, Landing as Goal, Calls, Fails, Moves, or_else, or_fault}
-use Rattle.ink_model.specs.Events.{calls}
-use Rattle.ink_model.specs.Host.{Binding, pure_function, shares, turn_function}
-use Rattle.ink_model.specs.Memory.{given_asks}
-use Rattle.ink_model.specs.Place.{knot, landed}
-use Rattle.ink_model.specs.Stack.{popped}
-use Rattle.ink_model.specs.Step.Diverts.{condition, leaving_fields, truth_on}
-use Rattle.ink_model.specs.Value.{is_true}
-use Rattle.ink_model.specs.Step.Host.{Acts, Asks, CallEffect, answering, arguments_of, arguments_on, arguments_taken, ask_pure, call_bound, fall_back, has_string, is_argument, or_fails}
-use Rattle.ink_model.specs.Tree.{StoryTree}
+use Rattle.ink_model.specs.Memory.Asks.{binding_asks, so_where, takes_arguments}
+use Rattle.ink_model.specs.Run.Effect.{Effect, Fields, Landing as Goal, Calls, Fails, Moves, or_else, or_fault}
+use Rattle.ink_model.specs.Host.Events.{calls}
+use Rattle.ink_model.specs.Host.Bindings.{Binding, pure_function, shares, turn_function}
+use Rattle.ink_model.specs.Memory.Refusals.{given_asks}
+use Rattle.ink_model.specs.Run.Place.{knot, landed}
+use Rattle.ink_model.specs.Values.Stack.{popped}
+use Rattle.ink_model.specs.Run.Step.Diverts.{condition, leaving_fields, truth_on}
+use Rattle.ink_model.specs.Values.Value.{is_true}
+use Rattle.ink_model.specs.Run.Step.Host.{Acts, Suspends, CallEffect, answering, arguments_of, arguments_on, arguments_taken, ask_pure, call_bound, fall_back, has_string, is_argument, or_fails}
+use Rattle.ink_model.specs.Story.Tree.{StoryTree}
 use Rattle.ink_model.specs.declared.fault.Fault.{Fault}
 use Rattle.ink_model.specs.declared.fault.Fault.TheVariants.{BadOperands, HostRefused, OutOfMemory, Unbound, UnsafeInString}
 use Rattle.ink_model.specs.declared.frame.FrameKind.TheVariants.{Function}
@@ -168,7 +168,7 @@ module _ (s : StoryTree) (n : ℕ) (name : List ℕ) (k : ℕ) (f : Fields) wher
   Turned es new r = PerformsCall s n (binding_asks (Some turn_function) k f) (call_bound s (Some turn_function) name k f) es new r
 
   abbrev with_taken : Result (List Value × Fields) Fault → CallEffect
-  with_taken x = or_fails x (λ r. Asks name r.0 r.1)
+  with_taken x = or_fails x (λ r. Suspends name r.0 r.1)
 
   abbrev of_string : Bool → CallEffect
   of_string b = if b then Acts (Fails UnsafeInString) else with_taken (arguments_taken k f)
@@ -181,7 +181,7 @@ module _ (s : StoryTree) (n : ℕ) (name : List ℕ) (k : ℕ) (f : Fields) wher
     unlent_turn fault h new = uncalled_fault s n _ new _ fault (ap of_string safe ∙ ap with_taken (unlent k f fault h))
 
     module _ (vs left : List Value) (there : arguments_on k f.stack ≡ Some (vs, left)) (fits : list_all is_argument vs ≡ true) where
-      asked : call_bound s (Some turn_function) name k f ≡ Asks name vs (record f { stack = left })
+      asked : call_bound s (Some turn_function) name k f ≡ Suspends name vs (record f { stack = left })
       asked = ap of_string safe ∙ ap with_taken (taken k f vs left there fits)
 
       asks_memory : binding_asks (Some turn_function) k f ≡ true

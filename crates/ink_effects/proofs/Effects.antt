@@ -1,8 +1,8 @@
 -- What performing does where a call of it fails.
 use Rattle.std.proofs.Common.{◌≡◌, ap, sym, refl, subst, inl, inr, Result, Ok, Err, Bool, true, false, ◌||◌}
-use Rattle.ink_model.specs.Effect.{Fields, Effect, Moves, Stores, Fails, or_fault}
-use Rattle.ink_model.specs.Memory.{Gives, Leaves}
-use Rattle.ink_model.specs.Tree.{StoryTree}
+use Rattle.ink_model.specs.Run.Effect.{Fields, Effect, Moves, Stores, Fails, or_fault}
+use Rattle.ink_model.specs.Memory.Refusals.{Gives, Leaves}
+use Rattle.ink_model.specs.Story.Tree.{StoryTree}
 use Rattle.ink_model.specs.declared.fault.Fault.{Fault}
 use Rattle.ink_model.specs.declared.fault.Fault.TheVariants.{OutOfMemory}
 use Rattle.ink_effects.specs.Performs.{Changes, Performs}

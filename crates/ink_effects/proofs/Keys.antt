@@ -3,7 +3,7 @@ use Rattle.std.proofs.Common.{◌≡◌, ◌∙◌, List, [], ◌∷◌, Some, N
 use Rattle.std.specs.Ordering.{match_ordering}
 use Rattle.std.specs.declared.cmp.Ordering.{Ordering}
 use Rattle.std.specs.declared.cmp.Ordering.TheVariants.{Less, Equal, Greater}
-use Rattle.ink_model.specs.Rows.{map_keys, row, with_row}
+use Rattle.ink_model.specs.Variables.Rows.{map_keys, row, with_row}
 
 module _ {K L : Type 0} (compare : K → K → Ordering) (compare_to : L → L → Ordering) (f : K → L) where
   -- a key stands to those of rows as it does under its other name

@@ -1,14 +1,14 @@
 -- Where diverts land.
 use Rattle.std.proofs.Common.{◌≡◌, ◌∙◌, ap, sym, refl, ℕ, List, [], Some, None, Option, Result, ok_or, option_map, true}
 use Rattle.ink_check.specs.Names.{names, number_in, variable_number, variable_of}
-use Rattle.ink_model.specs.Acceptance.{content_counted, content_target, counted_container, lands_to, leads, leaf_target, written_target}
-use Rattle.ink_model.specs.Effect.{Context, Landing as Goal}
-use Rattle.ink_model.specs.Frames.{ThreadOf, map_thread}
-use Rattle.ink_model.specs.Path.{ends_in_index, target}
-use Rattle.ink_model.specs.Step.Diverts.{landing_by, led_by, led_to}
-use Rattle.ink_model.specs.Store.{Values}
-use Rattle.ink_model.specs.Variables.{read}
-use Rattle.ink_model.specs.Tree.{StoryTree, leaf, container, at}
+use Rattle.ink_model.specs.Story.Acceptance.{content_counted, content_target, counted_container, lands_to, leads, leaf_target, written_target}
+use Rattle.ink_model.specs.Run.Effect.{Context, Landing as Goal}
+use Rattle.ink_model.specs.Flow.Frames.{ThreadOf, map_thread}
+use Rattle.ink_model.specs.Story.Path.{ends_in_index, target}
+use Rattle.ink_model.specs.Run.Step.Diverts.{landing_by, led_by, led_to}
+use Rattle.ink_model.specs.Variables.Store.{Values}
+use Rattle.ink_model.specs.Variables.Access.{read}
+use Rattle.ink_model.specs.Story.Tree.{StoryTree, leaf, container, at}
 use Rattle.ink_model.specs.declared.content.Destination.{Destination}
 use Rattle.ink_model.specs.declared.content.Destination.TheVariants as destination
 use Rattle.ink_model.specs.declared.content.Leaf.{Leaf}

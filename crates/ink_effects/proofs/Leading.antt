@@ -1,7 +1,7 @@
 -- Content that leads elsewhere: diverts and calls.
 use Rattle.std.proofs.Common.{◌≡◌, refl, subst, sym, inl, Bool, true, false, if◌then◌else◌, Result, Ok, Err}
-use Rattle.ink_model.specs.Effect.{Fields, Effect, Landing as Goal, Moves, Lands, Calls, or_fault}
-use Rattle.ink_model.specs.Tree.{StoryTree}
+use Rattle.ink_model.specs.Run.Effect.{Fields, Effect, Landing as Goal, Moves, Lands, Calls, or_fault}
+use Rattle.ink_model.specs.Story.Tree.{StoryTree}
 use Rattle.ink_model.specs.declared.fault.Fault.{Fault}
 use Rattle.ink_effects.specs.Performs.{Performs, landing_of}
 use Rattle.ink_stack.specs.Calls.{frame_kind}

@@ -1,18 +1,18 @@
 -- Choice points: what is made of spots and of places, and what it comes to.
 use Rattle.std.proofs.Common.{◌≡◌, ◌∙◌, ℕ, List, [], ◌∷◌, ◌++◌, length, map, reverse, nat_lt, if◌then◌else◌, Bool, true, false, Option, Some, None, option_map, ◌||◌, Result, Ok, Err, OnOk, is_ok, true≢false, ap, sym, subst, refl, inl, inr}
 use Rattle.std.proofs.lemmas.List.{length-map, map-append}
-use Rattle.ink_choice.specs.Words.{Adds, Makes}
-use Rattle.ink_model.specs.Acceptance.{content_counted, counted_container, lands, leaf_counted, written_target}
-use Rattle.ink_model.specs.Bytes.{fits_text}
-use Rattle.ink_model.specs.Choices.{Operands, added, choice, choice_asks, choice_of, choice_text, has_any, is_offered, make, operands, then_pop}
-use Rattle.ink_model.specs.Configuration.{ChoiceOf, map_choice}
-use Rattle.ink_model.specs.Effect.{Context, Effect, Fields, Offers, or_else, or_fault}
-use Rattle.ink_model.specs.Frames.{FrameOf, ThreadOf, ThreadsOf, map_frame, map_thread}
-use Rattle.ink_model.specs.Asks.{makes_choice, offer_asks}
-use Rattle.ink_model.specs.Page.{Page}
-use Rattle.ink_model.specs.Step.Choices.{is_visited, offer, offering, visited_at, was_visited}
-use Rattle.ink_model.specs.Store.{Values}
-use Rattle.ink_model.specs.Tree.{StoryTree, at, leaf}
+use Rattle.ink_choice.specs.Outcomes.{Adds, Makes}
+use Rattle.ink_model.specs.Story.Acceptance.{content_counted, counted_container, lands, leaf_counted, written_target}
+use Rattle.ink_model.specs.Text.Bytes.{fits_text}
+use Rattle.ink_model.specs.Choices.Making.{Operands, added, choice, choice_asks, choice_of, choice_text, has_any, is_offered, make, operands, then_pop}
+use Rattle.ink_model.specs.Run.Configuration.{ChoiceOf, map_choice}
+use Rattle.ink_model.specs.Run.Effect.{Context, Effect, Fields, Offers, or_else, or_fault}
+use Rattle.ink_model.specs.Flow.Frames.{FrameOf, ThreadOf, ThreadsOf, map_frame, map_thread}
+use Rattle.ink_model.specs.Memory.Asks.{makes_choice, offer_asks}
+use Rattle.ink_model.specs.Text.Page.{Page}
+use Rattle.ink_model.specs.Run.Step.Choices.{is_visited, offer, offering, visited_at, was_visited}
+use Rattle.ink_model.specs.Variables.Store.{Values}
+use Rattle.ink_model.specs.Story.Tree.{StoryTree, at, leaf}
 use Rattle.ink_model.specs.declared.content.Leaf.TheVariants.{Choice}
 use Rattle.ink_model.specs.declared.fault.Fault.{Fault}
 use Rattle.ink_model.specs.declared.fault.Fault.TheVariants.{BadTarget, TooDeep}
@@ -24,7 +24,7 @@ use Rattle.ink_effects.proofs.Bools.{or_first, or_more}
 use Rattle.ink_effects.proofs.Landings.{leaf_landing}
 use Rattle.ink_effects.specs.Asked.{visits_in}
 use Rattle.ink_effects.specs.Performs.{KeepsChoices, Performs, fields, moving}
-use Rattle.ink_effects.specs.Words.{Rest, counts_in, seen_by}
+use Rattle.ink_effects.specs.Standing.{Rest, counts_in, seen_by}
 use Rattle.ink_effects.specs.declared.transfer.Transfer.{Transfer}
 use Rattle.ink_effects.specs.declared.transfer.Transfer.TheVariants as transfer
 use Rattle.ink_tree.specs.Nodes.{place_of}

@@ -1,11 +1,11 @@
 -- Variables of a thread whose places have other names.
 use Rattle.std.proofs.Common.{◌≡◌, ◌∙◌, ℕ, ◌+◌, ℤ, pos, negsuc, zero, suc, List, [], ◌∷◌, Bool, true, false, Option, Some, None, Result, Ok, Err, ap, if◌then◌else◌, is_some, length, map, nat_eq, nat_lt, option_and_then, refl, unwrap_or}
 use Rattle.std.proofs.lemmas.List.{length-map}
-use Rattle.ink_model.specs.Frames.{FrameOf, ThreadOf, frame_numbered, map_frame, map_thread}
-use Rattle.ink_model.specs.Rows.{name_order, row}
-use Rattle.ink_model.specs.Store.{Values, stored, store}
-use Rattle.ink_model.specs.Threads.{changed, frame_count, temp_in, with_row_in, with_temp}
-use Rattle.ink_model.specs.Variables.{assign, assign_at, chain_end, declare, declared, held, kept, kept_pointer, last_pointer, named, on_pointer, read, stands, value_at, with_held, with_named}
+use Rattle.ink_model.specs.Flow.Frames.{FrameOf, ThreadOf, frame_numbered, map_frame, map_thread}
+use Rattle.ink_model.specs.Variables.Rows.{name_order, row}
+use Rattle.ink_model.specs.Variables.Store.{Values, stored, store}
+use Rattle.ink_model.specs.Flow.Threads.{changed, frame_count, temp_in, with_row_in, with_temp}
+use Rattle.ink_model.specs.Variables.Access.{assign, assign_at, chain_end, declare, declared, held, kept, kept_pointer, last_pointer, named, on_pointer, read, stands, value_at, with_held, with_named}
 use Rattle.ink_model.specs.declared.fault.Fault.{Fault}
 use Rattle.ink_model.specs.declared.fault.Fault.TheVariants.{BadPointer, NoTemp}
 use Rattle.ink_model.specs.declared.scope.Scope.{Scope}

@@ -1,25 +1,25 @@
 -- Effects that store nothing and offer nothing: those of control content, and of calls.
 use Rattle.std.proofs.Common.{◌≡◌, ap, refl, ℕ, ℤ, List, Bool, true, false, if◌then◌else◌, Option, Some, None, OnOk, Result, Ok, Err, reverse}
-use Rattle.ink_model.specs.Acceptance.{lands, leads}
-use Rattle.ink_model.specs.Choices.{added, make}
-use Rattle.ink_model.specs.Configuration.{ChoiceOf}
-use Rattle.ink_model.specs.Effect.{Context, Fields, Effect, Stores, Offers, or_else, or_fault, pushing, writing, writing_text}
-use Rattle.ink_model.specs.Frames.{ThreadOf, ThreadsOf, map_threads, mode_in, on_top}
-use Rattle.ink_model.specs.Output.{closes_string, opens, writes_tag}
-use Rattle.ink_model.specs.Page.{Page, tag_section}
-use Rattle.ink_model.specs.Path.{above}
-use Rattle.ink_model.specs.Stack.{applied, popped, pushed}
-use Rattle.ink_model.specs.Step.{control_effect, leaf_effect}
-use Rattle.ink_model.specs.Step.Calls.{led_back}
-use Rattle.ink_model.specs.Step.Choices.{offer, offering, was_visited}
-use Rattle.ink_model.specs.Step.Counts.{asking, pushing_count, turns_there, visits_there}
-use Rattle.ink_model.specs.Step.Diverts.{condition, landing_by, led_to, where_true}
-use Rattle.ink_model.specs.Step.Evaluation.{output_popped, push_value}
-use Rattle.ink_model.specs.Step.Text.{closed_tag, in_tag, keeps_tag, write_tag}
-use Rattle.ink_model.specs.Step.Variables.{assign, declare, storing}
-use Rattle.ink_model.specs.Store.{Values}
-use Rattle.ink_model.specs.Tree.{StoryTree}
-use Rattle.ink_model.specs.Variables.{read}
+use Rattle.ink_model.specs.Story.Acceptance.{lands, leads}
+use Rattle.ink_model.specs.Choices.Making.{added, make}
+use Rattle.ink_model.specs.Run.Configuration.{ChoiceOf}
+use Rattle.ink_model.specs.Run.Effect.{Context, Fields, Effect, Stores, Offers, or_else, or_fault, pushing, writing, writing_text}
+use Rattle.ink_model.specs.Flow.Frames.{ThreadOf, ThreadsOf, map_threads, mode_in, on_top}
+use Rattle.ink_model.specs.Text.Output.{closes_string, opens, writes_tag}
+use Rattle.ink_model.specs.Text.Page.{Page, tag_section}
+use Rattle.ink_model.specs.Story.Path.{above}
+use Rattle.ink_model.specs.Values.Stack.{applied, popped, pushed}
+use Rattle.ink_model.specs.Run.Step.{control_effect, leaf_effect}
+use Rattle.ink_model.specs.Run.Step.Calls.{return_landing}
+use Rattle.ink_model.specs.Run.Step.Choices.{offer, offering, was_visited}
+use Rattle.ink_model.specs.Run.Step.Counts.{asking, pushing_count, turns_there, visits_there}
+use Rattle.ink_model.specs.Run.Step.Diverts.{condition, landing_by, led_to, where_true}
+use Rattle.ink_model.specs.Run.Step.Evaluation.{output_popped, push_value}
+use Rattle.ink_model.specs.Run.Step.Text.{closed_tag, in_tag, keeps_tag, write_tag}
+use Rattle.ink_model.specs.Run.Step.Variables.{assign, declare, storing}
+use Rattle.ink_model.specs.Variables.Store.{Values}
+use Rattle.ink_model.specs.Story.Tree.{StoryTree}
+use Rattle.ink_model.specs.Variables.Access.{read}
 use Rattle.ink_model.specs.declared.content.Control.{Control}
 use Rattle.ink_model.specs.declared.content.Control.TheVariants as control
 use Rattle.ink_model.specs.declared.content.Leaf.{Leaf}
@@ -30,7 +30,7 @@ use Rattle.ink_model.specs.declared.place.Part.{Part}
 use Rattle.ink_model.specs.declared.scope.Scope.{Scope}
 use Rattle.ink_model.specs.declared.value.Value.{Value}
 use Rattle.ink_model.specs.declared.value.Value.TheVariants as value
-use Rattle.ink_effects.specs.Performs.{AsksToStore, Keeps, KeepsChoices}
+use Rattle.ink_effects.specs.Performs.{AsksToStore, KeepsThreads, KeepsChoices}
 use Rattle.ink_tree.specs.Nodes.{place_of}
 use Rattle.ink_tree.specs.declared.spot.Spot.{Spot}
 
@@ -55,7 +55,7 @@ plain_else f (Some a) so plain = plain a
 
 module _ (s : StoryTree) where
   -- threads, but for the mode
-  pub keeps_plain : (e : Effect) (old new : ThreadsOf Spot) → IsPlain e → new ≡ on_top (mode_in new.thread.frame.evaluating) old → Keeps s e old new
+  pub keeps_plain : (e : Effect) (old new : ThreadsOf Spot) → IsPlain e → new ≡ on_top (mode_in new.thread.frame.evaluating) old → KeepsThreads s e old new
   keeps_plain (Stores t f) old new plain h = absurd plain
   keeps_plain e old new plain h = ap (map_threads (place_of s)) h
 
@@ -101,7 +101,7 @@ control_plain s p seen control.EndString f = plain_or (closes_string f.page) _ (
 control_plain s p seen control.BeginTag f = plain_or (if in_tag f.page.sections then closed_tag f.stack f.page else Ok (f.stack, f.page)) _
     (λ r. write_plain (opens tag_section r.1) (record f { stack = r.0 }))
 control_plain s p seen control.EndTag f = plain_or (closed_tag f.stack f.page) _ (λ r. tt)
-control_plain s p seen control.ReturnTunnel f = plain_else _ (popped f.stack) _ (λ r. plain_or (led_back s r.0) _ (λ to. tt))
+control_plain s p seen control.ReturnTunnel f = plain_else _ (popped f.stack) _ (λ r. plain_or (return_landing s r.0) _ (λ to. tt))
 control_plain s p seen control.ChoiceCount f = push_plain _ f
 control_plain s p seen control.Turn f = push_plain _ f
 control_plain s p seen control.Turns f = asking_plain s seen (turns_there s seen) f
@@ -179,7 +179,7 @@ module _ (s : StoryTree) (choices : List (ChoiceOf Spot)) where
 
 module _ (s : StoryTree) (threads : ThreadsOf Spot) where
   abbrev StoresNone : Effect → Type 0
-  StoresNone e = Keeps s e threads threads
+  StoresNone e = KeepsThreads s e threads threads
 
   or_none : {A : Type 0} (r : Result A Fault) (so : A → Effect) → ((a : A) → StoresNone (so a)) → StoresNone (or_fault r so)
   or_none (Ok a) so none = none a

@@ -2,15 +2,15 @@
 use Rattle.std.proofs.Common.{◌≡◌, ◌∙◌, ◌+◌, ◌-◌, ◌<◌, ◌≤◌, ap, sym, subst, refl, arith, ◌&&◌, ℕ, suc, List, [], ◌∷◌, ◌++◌, length, drop, take, get_or, length-append, nat_le, nat_lt, if◌then◌else◌, Bool, true, false, not, Option, Some, None, option_map, Result, Ok, Err}
 use Rattle.std.proofs.lemmas.Bool.{le-leb, leb-true, lt-ltb}
 use Rattle.std.proofs.lemmas.List.{take_all, take_more}
-use Rattle.ink_model.specs.Choices.{has_any}
-use Rattle.ink_model.specs.Effect.{Fields, Moves, Fails, or_fault, pushing}
-use Rattle.ink_model.specs.Host.{fits_given, value_given}
-use Rattle.ink_model.specs.Memory.{Leaves, given_asks, holds_memory}
-use Rattle.ink_model.specs.Page.{Page}
-use Rattle.ink_model.specs.Stack.{popped, pushed}
-use Rattle.ink_model.specs.Step.Host.{answering, arguments_on}
-use Rattle.ink_model.specs.Store.{Values}
-use Rattle.ink_model.specs.Tree.{StoryTree}
+use Rattle.ink_model.specs.Choices.Making.{has_any}
+use Rattle.ink_model.specs.Run.Effect.{Fields, Moves, Fails, or_fault, pushing}
+use Rattle.ink_model.specs.Host.Bindings.{fits_given, value_given}
+use Rattle.ink_model.specs.Memory.Refusals.{Leaves, given_asks, holds_memory}
+use Rattle.ink_model.specs.Text.Page.{Page}
+use Rattle.ink_model.specs.Values.Stack.{popped, pushed}
+use Rattle.ink_model.specs.Run.Step.Host.{answering, arguments_on}
+use Rattle.ink_model.specs.Variables.Store.{Values}
+use Rattle.ink_model.specs.Story.Tree.{StoryTree}
 use Rattle.ink_model.specs.declared.fault.Fault.{Fault}
 use Rattle.ink_model.specs.declared.fault.Fault.TheVariants.{OutOfMemory, TooDeep}
 use Rattle.ink_model.specs.declared.host.Given.{Given}

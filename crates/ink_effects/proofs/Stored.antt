@@ -1,31 +1,31 @@
 -- What reading, declaring and assigning do, by the variable that is read or written.
 use Rattle.std.proofs.Common.{◌≡◌, ◌∙◌, ℕ, List, Bool, true, false, not, ◌&&◌, ◌||◌, Some, Result, Ok, Err, OnOk, ap, inl, inr, is_ok, refl, subst, sym}
-use Rattle.ink_model.specs.Asks.{has_room}
-use Rattle.ink_model.specs.Effect.{Fields, Effect, Stores}
-use Rattle.ink_model.specs.Frames.{ThreadOf, ThreadsOf, fresh_depth, map_thread}
-use Rattle.ink_model.specs.Memory.{Leaves}
-use Rattle.ink_model.specs.Page.{Page}
-use Rattle.ink_model.specs.Stack.{popped, pushed}
-use Rattle.ink_model.specs.Step.Variables as effects
-use Rattle.ink_model.specs.Step.Variables.{storing}
-use Rattle.ink_model.specs.Store.{Values}
-use Rattle.ink_model.specs.Tree.{StoryTree}
-use Rattle.ink_model.specs.VariableMemory.{assign_asks, declare_asks, is_pointer, on_popped, setting_asks}
-use Rattle.ink_model.specs.Variables.{assign, declare, declared, kept, read}
+use Rattle.ink_model.specs.Memory.Asks.{has_room}
+use Rattle.ink_model.specs.Run.Effect.{Fields, Effect, Stores}
+use Rattle.ink_model.specs.Flow.Frames.{ThreadOf, ThreadsOf, fresh_depth, map_thread}
+use Rattle.ink_model.specs.Memory.Refusals.{Leaves}
+use Rattle.ink_model.specs.Text.Page.{Page}
+use Rattle.ink_model.specs.Values.Stack.{popped, pushed}
+use Rattle.ink_model.specs.Run.Step.Variables as effects
+use Rattle.ink_model.specs.Run.Step.Variables.{storing}
+use Rattle.ink_model.specs.Variables.Store.{Values}
+use Rattle.ink_model.specs.Story.Tree.{StoryTree}
+use Rattle.ink_model.specs.Memory.Variables.{assign_asks, declare_asks, is_pointer, on_popped, setting_asks}
+use Rattle.ink_model.specs.Variables.Access.{assign, declare, declared, kept, read}
 use Rattle.ink_model.specs.declared.fault.Fault.{Fault}
 use Rattle.ink_model.specs.declared.fault.Fault.TheVariants.{OutOfMemory}
 use Rattle.ink_model.specs.declared.scope.Scope.{Scope}
 use Rattle.ink_model.specs.declared.scope.Scope.TheVariants.{Global, Temporary}
 use Rattle.ink_model.specs.declared.value.Value.{Value}
-use Rattle.ink_effects.specs.Performs.{Changes, Keeps, Performs, fields}
-use Rattle.ink_effects.specs.Words.{Rest, seen_by}
+use Rattle.ink_effects.specs.Performs.{Changes, KeepsThreads, Performs, fields}
+use Rattle.ink_effects.specs.Standing.{Rest, seen_by}
 use Rattle.ink_effects.specs.declared.transfer.Transfer.{Transfer}
 use Rattle.ink_effects.proofs.Effects.{operated, performs_where, short}
 use Rattle.ink_effects.proofs.Bools.{or_first, or_more}
 use Rattle.ink_effects.proofs.Places.{assign_renamed, declare_renamed, left_as, read_renamed}
 use Rattle.ink_tree.specs.Nodes.{place_of}
 use Rattle.ink_tree.specs.declared.spot.Spot.{Spot}
-use Rattle.ink_vars.specs.Words.{Declares, HandsOut, LeadsTo, with_variable, writing_asks}
+use Rattle.ink_vars.specs.Outcomes.{Declares, HandsOut, LeadsTo, with_variable, writing_asks}
 use Rattle.ink_vars.specs.declared.places.Variable.{Variable}
 
 -- ---- by cases
@@ -66,8 +66,8 @@ module _ (s : StoryTree) (ts : ThreadsOf Spot) (rest : Rest) (f : Fields) where
   wrote left x v = let w = with_variable f.globals ts.thread x v in Stores (map_thread (place_of s) w.1) (record f { stack = left; globals = w.0 })
 
   keeps : (e : Effect) (left : List Value) (x : Variable) (v : Value) (new : ThreadsOf Spot) → e ≡ wrote left x v
-      → new ≡ record ts { thread = (with_variable f.globals ts.thread x v).1 } → Keeps s e ts new
-  keeps e left x v new is h = subst (λ d. Keeps s d ts new) (sym is) (subst (Keeps s (wrote left x v) ts) (sym h) refl)
+      → new ≡ record ts { thread = (with_variable f.globals ts.thread x v).1 } → KeepsThreads s e ts new
+  keeps e left x v new is h = subst (λ d. KeepsThreads s d ts new) (sym is) (subst (KeepsThreads s (wrote left x v) ts) (sym h) refl)
 
   -- ---- assigning
 
@@ -90,7 +90,7 @@ module _ (s : StoryTree) (ts : ThreadsOf Spot) (rest : Rest) (f : Fields) where
         (performs_where s (writing_asks f.globals ts.thread x) assigning_asks (λ is_new. absurd (let no : false ≡ true = rw leads.1 at is_new in cc)) (wrote left x v) _ result h)
 
     pub assigns_keeping : (x : Variable) (new : ThreadsOf Spot) (result : Result (Unit {0}) Fault) → LeadsTo f.globals ts.thread name (Ok x)
-        → OnOk result (new ≡ record ts { thread = (with_variable f.globals ts.thread x v).1 }) → OnOk result (Keeps s assigning ts new)
+        → OnOk result (new ≡ record ts { thread = (with_variable f.globals ts.thread x v).1 }) → OnOk result (KeepsThreads s assigning ts new)
     assigns_keeping x new result leads = on_ok result _ _ (keeps assigning left x v new (assigns _ (leads.2 v)))
 
     pub assigns_nowhere : (g : Fault) → LeadsTo f.globals ts.thread name (Err g) → Performs s assigning_asks assigning (record f { stack = left }) (Err g)
@@ -137,7 +137,7 @@ module _ (s : StoryTree) (ts : ThreadsOf Spot) (rest : Rest) (f : Fields) where
         (performs_where s (writing_asks f.globals ts.thread x) declaring_asks asking (wrote left x w) _ result h)
 
     pub declares_keeping : (w : Value) (x : Variable) (new : ThreadsOf Spot) (result : Result (Unit {0}) Fault) → HandsOut (is_pointer (Some v)) (kept f.globals ts.thread v) (Ok w)
-        → Declares f.globals ts.thread scope name x → OnOk result (new ≡ record ts { thread = (with_variable f.globals ts.thread x w).1 }) → OnOk result (Keeps s declaring ts new)
+        → Declares f.globals ts.thread scope name x → OnOk result (new ≡ record ts { thread = (with_variable f.globals ts.thread x w).1 }) → OnOk result (KeepsThreads s declaring ts new)
     declares_keeping w x new result keeping there = on_ok result _ _ (keeps declaring left x w new (wrote_there w x keeping there))
 
     pub declares_nowhere : (g : Fault) → HandsOut (is_pointer (Some v)) (kept f.globals ts.thread v) (Err g) → Performs s declaring_asks declaring (record f { stack = left }) (Err g)

@@ -6,17 +6,17 @@ use Rattle.std.specs.FinMap.{nat_cmp-IsAntisymmetric}
 use Rattle.std.specs.Ordering.{nat_cmp, match_ordering, ordering_reverse}
 use Rattle.std.specs.declared.cmp.Ordering.{Ordering}
 use Rattle.std.specs.declared.cmp.Ordering.TheVariants.{Less, Equal, Greater}
-use Rattle.ink_model.specs.Counts.{CountsOf, adds_row, counts, one_more, turns_from, turns_since, visited, visits_at, visits_of}
-use Rattle.ink_model.specs.Entered.{flags_at, listed_if}
-use Rattle.ink_model.specs.Flags.{counts_visits, notes_turns}
-use Rattle.ink_model.specs.Places.{places}
-use Rattle.ink_model.specs.Rows.{map_keys, place_order, row, with_row}
-use Rattle.ink_model.specs.Path.{is_container}
-use Rattle.ink_model.specs.Tree.{StoryTree, leaf, container, at}
-use Rattle.ink_model.specs.Visits.{adds_rows, all_visited}
+use Rattle.ink_model.specs.Variables.Counts.{CountsOf, adds_row, counts, one_more, turns_from, turns_since, visited, visits_at, visits_of}
+use Rattle.ink_model.specs.Run.Entered.{flags_at, listed_if}
+use Rattle.ink_model.specs.Story.Flags.{counts_visits, notes_turns}
+use Rattle.ink_model.specs.Story.Places.{places}
+use Rattle.ink_model.specs.Variables.Rows.{map_keys, place_order, row, with_row}
+use Rattle.ink_model.specs.Story.Path.{is_container}
+use Rattle.ink_model.specs.Story.Tree.{StoryTree, leaf, container, at}
+use Rattle.ink_model.specs.Run.Visits.{adds_rows, all_visited}
 use Rattle.ink_model.specs.declared.fault.Fault.TheVariants.{NotCounted}
 use Rattle.ink_model.specs.declared.place.Part.{Part}
-use Rattle.ink_effects.specs.Words.{counts_in, rows_below, rows_in}
+use Rattle.ink_effects.specs.Standing.{counts_in, rows_below, rows_in}
 use Rattle.ink_effects.proofs.Keys.{KeepsPlace, put_renamed, row_renamed}
 use Rattle.ink_tree.specs.Kept.{leaf_in}
 use Rattle.ink_tree.specs.Nodes.{NumbersInOrder, node_place}

@@ -1,11 +1,11 @@
 -- What questions for visits and turns are asked of, beside the definitions.
 use Rattle.std.specs.Prelude.{◌≡◌, ℤ, ◌≤◌, List, length, true, false, Option, Some, None, option_map, Result, Ok, Err, ok_or}
-use Rattle.ink_model.specs.Counts.{CountsOf, visits_of}
-use Rattle.ink_model.specs.Entered.{flags_at}
-use Rattle.ink_model.specs.Path.{is_container}
-use Rattle.ink_model.specs.Rows.{place_order}
-use Rattle.ink_model.specs.Step.Diverts.{landing_by}
-use Rattle.ink_model.specs.Tree.{StoryTree, at}
+use Rattle.ink_model.specs.Variables.Counts.{CountsOf, visits_of}
+use Rattle.ink_model.specs.Run.Entered.{flags_at}
+use Rattle.ink_model.specs.Story.Path.{is_container}
+use Rattle.ink_model.specs.Variables.Rows.{place_order}
+use Rattle.ink_model.specs.Run.Step.Diverts.{landing_by}
+use Rattle.ink_model.specs.Story.Tree.{StoryTree, at}
 use Rattle.ink_model.specs.declared.fault.Fault.{Fault}
 use Rattle.ink_model.specs.declared.fault.Fault.TheVariants.{BadTarget, NotCounted, StackEmpty}
 use Rattle.ink_model.specs.declared.limits.TheConstants.{MAX_STACK}

@@ -1,18 +1,18 @@
 -- Calls of external functions, beside the definitions (docs/HOST.md, "Calls").
 use Rattle.std.specs.Prelude.{◌≡◌, ◌⊎◌, ℕ, List, [], ◌∷◌, Bool, true, false, if◌then◌else◌, Option, Some, None, Result, Ok, Err}
 use Rattle.std.specs.List.{list_all}
-use Rattle.ink_model.specs.Effect.{Fields}
-use Rattle.ink_model.specs.Events.{Made, calls}
-use Rattle.ink_model.specs.Memory.{given_asks}
-use Rattle.ink_model.specs.Step.Host.{Acts, Asks, Call, CallEffect, answering, arguments_on, is_argument}
-use Rattle.ink_model.specs.Tree.{StoryTree}
+use Rattle.ink_model.specs.Run.Effect.{Fields}
+use Rattle.ink_model.specs.Host.Events.{Made, calls}
+use Rattle.ink_model.specs.Memory.Refusals.{given_asks}
+use Rattle.ink_model.specs.Run.Step.Host.{Acts, Suspends, Call, CallEffect, answering, arguments_on, is_argument}
+use Rattle.ink_model.specs.Story.Tree.{StoryTree}
 use Rattle.ink_model.specs.declared.fault.Fault.{Fault}
 use Rattle.ink_model.specs.declared.fault.Fault.TheVariants.{BadOperands, OutOfMemory, StackEmpty}
 use Rattle.ink_model.specs.declared.host.Event.{Event}
 use Rattle.ink_model.specs.declared.host.Given.{Given}
 use Rattle.ink_model.specs.declared.value.Value.{Value}
 use Rattle.ink_effects.specs.Performs.{Performs}
-use Rattle.ink_effects.specs.declared.external.External.{External}
+use Rattle.ink_effects.specs.declared.host.External.{External}
 use Rattle.ink_effects.specs.declared.transfer.Transfer.{Transfer}
 
 abbrev pub call_of : External → Call
@@ -37,13 +37,13 @@ is_true_of (Err f) = false
 
 -- a call asks a turn function
 abbrev pub is_asking : CallEffect → Bool
-is_asking (Asks name arguments f) = true
+is_asking (Suspends name arguments f) = true
 is_asking (Acts e) = false
 
 -- Performing a call that asks a turn function calls it once, and goes on with what it gave; or memory was refused before
 -- that, and nothing was called. Performing another calls nothing. The events count on from a stamp.
 abbrev pub PerformsCall : StoryTree → ℕ → Bool → CallEffect → List Event → Fields → Result Transfer Fault → Type 0
-PerformsCall s n asks (Asks name arguments left) es new result =
+PerformsCall s n asks (Suspends name arguments left) es new result =
     ((gave : Option Given) × (es ≡ calls n (made_call name arguments gave ∷ [])) × Performs s (given_asks arguments left gave) (answering gave left) new result)
     ⊎ ((es ≡ []) × (result ≡ Err OutOfMemory) × (asks ≡ true))
 PerformsCall s n asks (Acts e) es new result = (es ≡ []) × Performs s asks e new result

@@ -1,4 +1,4 @@
-pub mod Words
+pub mod Standing
 pub mod Marks
 pub mod Performs
 pub mod External

@@ -1,12 +1,12 @@
 -- What performing a content does, beside its effect.
 use Rattle.std.specs.Prelude.{◌≡◌, ◌⊎◌, ⊤, ℕ, List, length, map, Bool, true, false, Option, Some, None, is_some, option_map, Result, Ok, Err}
-use Rattle.ink_model.specs.Configuration.{ChoiceOf, map_choice, with_globals}
-use Rattle.ink_model.specs.Effect.{Fields, Effect, Landing as Goal, Moves, Stores, Offers, Lands, Calls, Returns, Forks, Done, Ends, Fails}
-use Rattle.ink_model.specs.Frames.{FrameOf, ThreadOf, ThreadsOf, fresh_depth, map_threads, mode_in, on_top}
-use Rattle.ink_model.specs.Move.{Outcome, Next, Stop}
-use Rattle.ink_model.specs.Page.{Page}
-use Rattle.ink_model.specs.Store.{Values, store, stored}
-use Rattle.ink_model.specs.Tree.{StoryTree}
+use Rattle.ink_model.specs.Run.Configuration.{ChoiceOf, map_choice, with_globals}
+use Rattle.ink_model.specs.Run.Effect.{Fields, Effect, Landing as Goal, Moves, Stores, Offers, Lands, Calls, Returns, Forks, Done, Ends, Fails}
+use Rattle.ink_model.specs.Flow.Frames.{FrameOf, ThreadOf, ThreadsOf, fresh_depth, map_threads, mode_in, on_top}
+use Rattle.ink_model.specs.Run.Move.{Outcome, Next, Stop}
+use Rattle.ink_model.specs.Text.Page.{Page}
+use Rattle.ink_model.specs.Variables.Store.{Values, store, stored}
+use Rattle.ink_model.specs.Story.Tree.{StoryTree}
 use Rattle.ink_model.specs.declared.fault.Fault.{Fault}
 use Rattle.ink_model.specs.declared.fault.Fault.TheVariants.{OutOfMemory}
 use Rattle.ink_model.specs.declared.value.Value.{Value}
@@ -17,7 +17,7 @@ use Rattle.ink_effects.specs.declared.transfer.Transfer.TheVariants as transfer
 use Rattle.ink_stack.specs.Calls.{frame_kind}
 use Rattle.ink_tree.specs.Nodes.{place_of}
 use Rattle.ink_tree.specs.declared.spot.Spot.{Spot}
-use Rattle.ink_vars.specs.Words.{name_of}
+use Rattle.ink_vars.specs.Outcomes.{name_of}
 
 -- where no text was written
 abbrev pub fields : Bool → Option ℕ → List Value → Page → Values → Fields
@@ -96,8 +96,8 @@ abbrev pub KeepsChoices : StoryTree → Effect → List (ChoiceOf Spot) → List
 KeepsChoices s e old new = map (map_choice (place_of s)) new ≡ offered_by e (map (map_choice (place_of s)) old)
 
 -- Performing keeps the threads, but for the mode of the top frame, and for temporaries that an effect stores.
-abbrev pub Keeps : StoryTree → Effect → ThreadsOf Spot → ThreadsOf Spot → Type 0
-Keeps s e old new = map_threads (place_of s) new ≡ on_top (mode_in new.thread.frame.evaluating) (on_top (stored_by e) (map_threads (place_of s) old))
+abbrev pub KeepsThreads : StoryTree → Effect → ThreadsOf Spot → ThreadsOf Spot → Type 0
+KeepsThreads s e old new = map_threads (place_of s) new ≡ on_top (mode_in new.thread.frame.evaluating) (on_top (stored_by e) (map_threads (place_of s) old))
 
 -- flow goes where a transfer says after what was done without a fault
 abbrev pub leading : Result (Unit {0}) Fault → Transfer → Result Transfer Fault
@@ -119,5 +119,5 @@ abbrev pub Changes : Bool → Effect → Fields → Result (Unit {0}) Fault → 
 Changes asks e new result = (s : StoryTree) → Performs s asks e new (moving result)
 
 -- The same of one that tells whether it wrote a text.
-abbrev pub Writes : Bool → Effect → Fields → Result Bool Fault → Type 0
-Writes asks e new result = (s : StoryTree) → Performs s asks e new (after_text result)
+abbrev pub PerformsText : Bool → Effect → Fields → Result Bool Fault → Type 0
+PerformsText asks e new result = (s : StoryTree) → Performs s asks e new (after_text result)

@@ -1,7 +1,7 @@
 -- The top of a stack, beside the definitions.
 use Rattle.std.specs.Prelude.{◌≡◌, List, Bool, true, false, Option, Some, None, Result, Ok, Err}
-use Rattle.ink_model.specs.Memory.{Gives}
-use Rattle.ink_model.specs.Stack.{popped}
+use Rattle.ink_model.specs.Memory.Refusals.{Gives}
+use Rattle.ink_model.specs.Values.Stack.{popped}
 use Rattle.ink_model.specs.declared.fault.Fault.{Fault}
 use Rattle.ink_model.specs.declared.fault.Fault.TheVariants.{StackEmpty, TooDeep}
 use Rattle.ink_model.specs.declared.value.Value.{Value}

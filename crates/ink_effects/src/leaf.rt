@@ -5,26 +5,26 @@ ghost use Rattle.ink_out.specs.Undo.{output_stood};
 ghost use Rattle.ink_stack.specs.Undo.{threads_spare, threads_stood};
 ghost use Rattle.ink_value.specs.Undo.{stack_spare, stack_stood};
 ghost use Rattle.std.specs.Prelude.{◌≡◌, ◌≤◌, ◌+◌, ◌||◌, ◌&&◌, Some, OnOk, is_some, length};
-ghost use Rattle.ink_check.specs.Words.{story_tree};
-ghost use Rattle.ink_model.specs.Memory.{leaf_asks};
-ghost use Rattle.ink_model.specs.Step.{leaf_effect};
-ghost use Rattle.ink_model.specs.Tree.{at, leaf};
+ghost use Rattle.ink_check.specs.Standing.{story_tree};
+ghost use Rattle.ink_model.specs.Memory.Refusals.{leaf_asks};
+ghost use Rattle.ink_model.specs.Run.Step.{leaf_effect};
+ghost use Rattle.ink_model.specs.Story.Tree.{at, leaf};
 ghost use Rattle.ink_effects.specs.Marks.{takes_value};
-ghost use Rattle.ink_effects.specs.Performs.{Keeps, KeepsChoices, Performs, fields_in, leading};
-ghost use Rattle.ink_effects.specs.Words.{rest_in, seen_by};
+ghost use Rattle.ink_effects.specs.Performs.{KeepsThreads, KeepsChoices, Performs, fields_in, leading};
+ghost use Rattle.ink_effects.specs.Standing.{rest_in, seen_by};
 ghost use Rattle.ink_tree.specs.Nodes.{place_of};
 
+use crate::calls::call;
+use crate::choices::offer;
 use crate::control::perform_control;
-use crate::diverting::{divert, number_of};
-use crate::evaluating::{operate, push_target, push_value};
-use crate::frames::call;
-use crate::offering::offer;
-use crate::questions::push_count;
+use crate::counts::push_count;
+use crate::diverts::{divert, number_of};
+use crate::evaluation::{operate, push_target, push_value};
 use crate::sections::write_tag;
 use crate::shared::Shared;
-use crate::storing::{assign, declare, push_pointer, push_variable};
+use crate::text::{write_glue, write_newline, write_text};
 use crate::transfer::{Transfer, after_text};
-use crate::writing::{write_glue, write_newline, write_text};
+use crate::variables::{assign, declare, push_pointer, push_variable};
 use ink_check::Story;
 use ink_choice::Choices;
 use ink_model::{Fault, Leaf, Scope, Value};
@@ -58,7 +58,7 @@ pub fn perform_leaf<'a>(
         Performs s ((takes_value content.now && is_some (stack_stood stack.old)) || leaf_asks s p seen content.now f) (leaf_effect s p seen content.now f) (fields_in threads.new.threads.thread.frame stack.new.items output.new.page shared.now.globals.rows) (leading result transfer.new) }
     ensures threads { let s = story_tree story.now in let seen = seen_by s threads.old.threads (rest_in choices.old.items shared.now) in
         let f = fields_in threads.old.threads.thread.frame stack.old.items output.old.page shared.now.globals.rows in
-        OnOk result (Keeps s (leaf_effect s (place_of s here) seen content.now f) threads.old.threads threads.new.threads) }
+        OnOk result (KeepsThreads s (leaf_effect s (place_of s here) seen content.now f) threads.old.threads threads.new.threads) }
     ensures choices { let s = story_tree story.now in let seen = seen_by s threads.old.threads (rest_in choices.old.items shared.now) in
         let f = fields_in threads.old.threads.thread.frame stack.old.items output.old.page shared.now.globals.rows in
         OnOk result (KeepsChoices s (leaf_effect s (place_of s here) seen content.now f) choices.old.items choices.new.items) }

@@ -1,28 +1,28 @@
 //! What contents do to the fields of a machine.
 #![tactic(auto)]
 
+mod calls;
+mod choices;
 mod control;
-mod counting;
-mod diverting;
-mod evaluating;
-mod external;
-mod frames;
+mod counts;
+mod diverts;
+mod evaluation;
+mod host;
 mod leaf;
 mod noting;
-mod offering;
 mod operands;
-mod questions;
 mod sections;
 mod shared;
-mod storing;
+mod text;
 mod transfer;
-mod writing;
+mod variables;
+mod visits;
 
-pub use counting::{enter_landed, enter_passed, visits_of};
-pub use diverting::number_of;
-pub use external::{External, call_external, external_in, is_external, would_call};
+pub use diverts::number_of;
+pub use host::{External, call_external, external_in, is_external, would_call};
 pub use leaf::perform_leaf;
 pub use noting::{ready_choices, ready_stack, ready_threads};
 pub use operands::{take, top};
 pub use shared::Shared;
 pub use transfer::{Assignment, Landing, Transfer};
+pub use visits::{enter_landed, enter_passed, visits_of};

@@ -2,11 +2,11 @@
 
 ghost use Rattle.ink_value.specs.Undo.{stack_spare, stack_stood};
 ghost use Rattle.std.specs.Prelude.{◌≡◌, ◌≤◌, ◌&&◌, List, Some, Err, IfErr, OnOk, length, nat_lt, not, true, false, ◌+◌, is_some, IfOk, OnErr, option_map};
-ghost use Rattle.ink_model.specs.Asks.{has_room};
-ghost use Rattle.ink_model.specs.Choices.{has_any};
-ghost use Rattle.ink_model.specs.Memory.{Leaves};
-ghost use Rattle.ink_model.specs.Stack.{popped, pushed};
-ghost use Rattle.ink_model.specs.Step.Host.{arguments_on};
+ghost use Rattle.ink_model.specs.Memory.Asks.{has_room};
+ghost use Rattle.ink_model.specs.Choices.Making.{has_any};
+ghost use Rattle.ink_model.specs.Memory.Refusals.{Leaves};
+ghost use Rattle.ink_model.specs.Values.Stack.{popped, pushed};
+ghost use Rattle.ink_model.specs.Run.Step.Host.{arguments_on};
 ghost use Rattle.ink_model.specs.declared.limits.TheConstants.{MAX_STACK};
 ghost use Rattle.ink_model.specs.declared.value.Value.{Value as Data};
 ghost use Rattle.ink_effects.specs.Stacks.{Pops, CopiesTop};

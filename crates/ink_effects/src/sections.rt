@@ -3,11 +3,11 @@
 ghost use Rattle.ink_out.specs.Undo.{output_stood};
 ghost use Rattle.ink_value.specs.Undo.{stack_stood};
 ghost use Rattle.std.specs.Prelude.{◌≡◌, ◌&&◌, ℕ, List, Bool, true, false, Option, Ok, Err, IfErr, OnOk, if◌then◌else◌};
-ghost use Rattle.ink_model.specs.Asks.{has_room, has_tag_room, may_open};
-ghost use Rattle.ink_model.specs.Memory.{Gives, leaving};
-ghost use Rattle.ink_model.specs.Output.{writes_tag};
-ghost use Rattle.ink_model.specs.Step.Text.{begin_string, begin_tag, closed_tag, end_string, end_tag, in_string, in_tag, keeps_tag, write_tag};
-ghost use Rattle.ink_model.specs.Store.{Values};
+ghost use Rattle.ink_model.specs.Memory.Asks.{has_room, has_tag_room, may_open};
+ghost use Rattle.ink_model.specs.Memory.Refusals.{Gives, leaving};
+ghost use Rattle.ink_model.specs.Text.Output.{writes_tag};
+ghost use Rattle.ink_model.specs.Run.Step.Text.{begin_string, begin_tag, closed_tag, end_string, end_tag, in_string, in_tag, keeps_tag, write_tag};
+ghost use Rattle.ink_model.specs.Variables.Store.{Values};
 ghost use Rattle.ink_model.specs.declared.value.Value.{Value as Data};
 ghost use Rattle.ink_effects.specs.Performs.{Changes, fields};
 

@@ -6,12 +6,12 @@ use Rattle.std.proofs.lemmas.Slice.Eq.{bytes_eq-Decides}
 use Rattle.std.specs.Map.{keys_of}
 use Rattle.std.specs.Option.{option_map}
 use Rattle.indexmap.specs.IndexMap.{set_value_at}
-use Rattle.ink_flows.specs.Words.{CurrentAt, NamedAt, part_at, parts_of, rows_of, shown_rows}
+use Rattle.ink_flows.specs.Standing.{CurrentAt, NamedAt, part_at, parts_of, rows_of, shown_rows}
 use Rattle.ink_flows.specs.declared.flow.Flow.{Flow}
 use Rattle.ink_flows.proofs.Laws.{same_name}
 use Rattle.ink_flows.proofs.Mapped.{holes_seen}
-use Rattle.ink_model.specs.Flows.{AsideOf, begins_with_default, current_name, default_flow, filled, holes}
-use Rattle.ink_model.specs.Named.{at, each, put, without}
+use Rattle.ink_model.specs.Run.Flows.{AsideOf, begins_with_default, current_name, default_flow, filled, holes}
+use Rattle.ink_model.specs.Variables.Named.{at, each, put, without}
 
 module _ {F : Type 0} where
   -- its name is the current one's

@@ -1,12 +1,12 @@
 -- Going to a flow, and taking one away, by what flows stand for.
 use Rattle.std.proofs.Common.{◌≡◌, ◌∙◌, ap, refl, sym, ℕ, List, [], ◌∷◌, ◌++◌, Bool, true, false, bytes_eq, IsTrue, unwrap_or, option_and_then, if◌then◌else◌, Some, None}
 use Rattle.std.specs.Option.{option_map}
-use Rattle.ink_flows.specs.Words.{CurrentAt, NamedAt, aside_of, flow_of, flows_of, listed}
+use Rattle.ink_flows.specs.Standing.{CurrentAt, NamedAt, aside_of, flow_of, flows_of, listed}
 use Rattle.ink_flows.specs.declared.flow.Flow.{Flow}
-use Rattle.ink_model.specs.Configuration.{FlowOf}
-use Rattle.ink_model.specs.Flows.{AsideOf, FlowsOf, begins_with_default, current_name, default_flow, dropped, filled, goes_to, one_flow}
-use Rattle.ink_model.specs.Named.{at, put, without}
-use Rattle.ink_model.specs.Tree.{StoryTree}
+use Rattle.ink_model.specs.Run.Configuration.{FlowOf}
+use Rattle.ink_model.specs.Run.Flows.{AsideOf, FlowsOf, begins_with_default, current_name, default_flow, dropped, filled, goes_to, one_flow}
+use Rattle.ink_model.specs.Variables.Named.{at, put, without}
+use Rattle.ink_model.specs.Story.Tree.{StoryTree}
 use Rattle.ink_model.specs.declared.place.Part.{Part}
 use Rattle.ink_flows.proofs.Current.{at_filled, current_as, named_as, stays_aside, stays_there}
 use Rattle.ink_flows.proofs.Laws.{begins_without, gone_last, named_last, other_way, same_way}

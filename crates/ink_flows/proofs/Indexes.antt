@@ -1,9 +1,9 @@
 -- The index at which nothing stands, looked for from the first on.
 use Rattle.std.proofs.Common.{◌≡◌, ◌∙◌, ◌+◌, ap, arith, refl, subst, true, false, ℕ, suc, List, [], ◌∷◌, is_some, unwrap_or, Option, Some, None, String, Global}
 use Rattle.std.specs.Option.{option_map}
-use Rattle.ink_flows.specs.Words.{CurrentAt, hole_in, parts_of, rows_of, shown_rows}
+use Rattle.ink_flows.specs.Standing.{CurrentAt, hole_in, parts_of, rows_of, shown_rows}
 use Rattle.ink_flows.specs.declared.flow.Flow.{Flow}
-use Rattle.ink_model.specs.Flows.{holes}
+use Rattle.ink_model.specs.Run.Flows.{holes}
 
 pub hole_start : (os : List (Option Flow)) → hole_in os ≡ option_map (λ n. 0 + n) (hole_in os)
 hole_start os = by (hole_in os)

@@ -2,8 +2,8 @@
 use Rattle.std.proofs.Common.{◌≡◌, ◌∙◌, ap, refl, sym, subst, ℕ, List, [], ◌∷◌, ◌++◌, Bool, true, false, bytes_eq, IsTrue, is_none, is_some, unwrap_or, option_and_then, if◌then◌else◌, Option, Some, None}
 use Rattle.std.proofs.lemmas.Slice.Eq.{bytes_eq-Decides}
 use Rattle.std.specs.Bool.{one_answer}
-use Rattle.ink_model.specs.Flows.{AsideOf, begins_with_default, default_flow, filled, flow_named}
-use Rattle.ink_model.specs.Named.{at, put, without}
+use Rattle.ink_model.specs.Run.Flows.{AsideOf, begins_with_default, default_flow, filled, flow_named}
+use Rattle.ink_model.specs.Variables.Named.{at, put, without}
 
 pub same_name : (a b : List ℕ) → bytes_eq a b ≡ true → a ≡ b
 same_name a b h = (bytes_eq-Decides a b).0 h

@@ -1,8 +1,8 @@
 -- Rows, where there is one at least.
 use Rattle.std.proofs.Common.{◌≡◌, ap, refl, ℕ, List, [], ◌∷◌, ◌++◌, length, map, Bool, false, IsTrue, Option, String, Global, string_bytes}
-use Rattle.ink_model.specs.Flows.{AsideOf}
-use Rattle.ink_model.specs.Named.{names}
-use Rattle.ink_flows.specs.Words.{listed, rows_of}
+use Rattle.ink_model.specs.Run.Flows.{AsideOf}
+use Rattle.ink_model.specs.Variables.Named.{names}
+use Rattle.ink_flows.specs.Standing.{listed, rows_of}
 use Rattle.ink_flows.specs.declared.flow.Flow.{Flow}
 
 pub listed_more : (es : List (String Global × Option Flow)) (b : Bool) → b ≡ false → (length es ≡ 0 → IsTrue b) → listed (rows_of es) ≡ rows_of es

@@ -1,8 +1,8 @@
 -- Rows of flows, by what each flow stands for.
 use Rattle.std.proofs.Common.{◌≡◌, ◌∙◌, ap, refl, sym, ℕ, suc, List, [], ◌∷◌, ◌++◌, length, Bool, true, false, bytes_eq, is_none, is_some, if◌then◌else◌, Option, Some, None}
 use Rattle.std.specs.Option.{option_map}
-use Rattle.ink_model.specs.Flows.{AsideOf, current_name, filled, holes}
-use Rattle.ink_model.specs.Named.{at, each, names, put, without}
+use Rattle.ink_model.specs.Run.Flows.{AsideOf, current_name, filled, holes}
+use Rattle.ink_model.specs.Variables.Named.{at, each, names, put, without}
 
 module _ {F G : Type 0} (g : F → G) where
   abbrev pub seen : AsideOf F → AsideOf G

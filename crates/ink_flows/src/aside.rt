@@ -2,12 +2,12 @@
 
 ghost use Rattle.std.specs.Prelude.{◌≡◌, ℕ, List, None, bytes_eq, false, is_some, length, option_map, slice_get, IfOk, IfSome, IsTrue, OnErr, OnOk};
 ghost use Rattle.std.specs.List.{list_any};
-ghost use Rattle.ink_flows.specs.Words.{NamedAt, flows_of, rows_of};
-ghost use Rattle.ink_model.specs.Configuration.{FlowOf, fresh_flow};
-ghost use Rattle.ink_model.specs.Flows.{begins_with_default, current_name, default_flow, dropped, goes_to, holes, is_gap, one_flow};
-ghost use Rattle.ink_model.specs.Flows as rules;
-ghost use Rattle.ink_model.specs.Named.{at, names, without};
-ghost use Rattle.ink_model.specs.Tree.{StoryTree};
+ghost use Rattle.ink_flows.specs.Standing.{NamedAt, flows_of, rows_of};
+ghost use Rattle.ink_model.specs.Run.Configuration.{FlowOf, fresh_flow};
+ghost use Rattle.ink_model.specs.Run.Flows.{begins_with_default, current_name, default_flow, dropped, goes_to, holes, is_gap, one_flow};
+ghost use Rattle.ink_model.specs.Run.Flows as rules;
+ghost use Rattle.ink_model.specs.Variables.Named.{at, names, without};
+ghost use Rattle.ink_model.specs.Story.Tree.{StoryTree};
 ghost use Rattle.ink_model.specs.declared.place.Part.{Part};
 ghost use Rattle.ink_tree.specs.Nodes.{place_of};
 
@@ -51,9 +51,9 @@ pub struct Aside {
 }
 
 impl Model for Aside {
-    ghost use Rattle.ink_flows.specs.Words.{CurrentAt, shown_rows};
+    ghost use Rattle.ink_flows.specs.Standing.{CurrentAt, shown_rows};
     ghost use Rattle.ink_flows.specs.declared.flow.Flow.{Flow};
-    ghost use Rattle.ink_model.specs.Flows.{AsideOf, begins_with_default};
+    ghost use Rattle.ink_model.specs.Run.Flows.{AsideOf, begins_with_default};
     ghost use Rattle.std.specs.Prelude.{IsTrue};
 
     ghost Value = { AsideOf Flow };

@@ -2,10 +2,10 @@
 
 ghost use Rattle.std.specs.Prelude.{◌≡◌, [], IfSome, None, false};
 ghost use Rattle.ink_choice.specs.Undo.{choices_stood};
-ghost use Rattle.ink_flows.specs.Words.{flow_of};
-ghost use Rattle.ink_model.specs.Configuration.{fresh_flow};
-ghost use Rattle.ink_model.specs.Frames.{base_threads};
-ghost use Rattle.ink_model.specs.Tree.{StoryTree};
+ghost use Rattle.ink_flows.specs.Standing.{flow_of};
+ghost use Rattle.ink_model.specs.Run.Configuration.{fresh_flow};
+ghost use Rattle.ink_model.specs.Flow.Frames.{base_threads};
+ghost use Rattle.ink_model.specs.Story.Tree.{StoryTree};
 ghost use Rattle.ink_stack.specs.Undo.{threads_stood};
 ghost use Rattle.ink_tree.specs.Nodes.{place_of};
 ghost use Rattle.ink_value.specs.Undo.{stack_stood};

@@ -3,10 +3,10 @@
 ghost use Rattle.std.specs.Prelude.{◌≡◌, ◌++◌, [], ◌∷◌, None, Some, IfOk, OnErr, OnOk};
 ghost use Rattle.indexmap.specs.IndexMap.{set_value_at};
 ghost use Rattle.ink_flows.specs.declared.flow.Flow.{Flow as Made};
-ghost use Rattle.ink_flows.specs.Words.{flow_of, hole_in, listed, part_at, parts_of, rows_of};
-ghost use Rattle.ink_model.specs.Configuration.{fresh_flow};
-ghost use Rattle.ink_model.specs.Named.{at, names};
-ghost use Rattle.ink_model.specs.Tree.{StoryTree};
+ghost use Rattle.ink_flows.specs.Standing.{flow_of, hole_in, listed, part_at, parts_of, rows_of};
+ghost use Rattle.ink_model.specs.Run.Configuration.{fresh_flow};
+ghost use Rattle.ink_model.specs.Variables.Named.{at, names};
+ghost use Rattle.ink_model.specs.Story.Tree.{StoryTree};
 ghost use Rattle.ink_tree.specs.Nodes.{place_of};
 
 use crate::aside::DEFAULT_FLOW;

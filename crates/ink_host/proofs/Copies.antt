@@ -1,5 +1,5 @@
 -- Copies of values, one after another.
-use Rattle.std.proofs.Common.{◌≡◌, ◌∙◌, ℕ, ◌+◌, ◌<◌, ◌≤◌, List, [], ◌∷◌, ◌++◌, ap, ap₂, get_or, length, sym, take}
+use Rattle.std.proofs.Common.{◌≡◌, ◌∙◌, ℕ, ◌+◌, ◌<◌, ◌≤◌, List, [], ◌∷◌, ◌++◌, ap₂, get_or, length, sym, take}
 use Rattle.std.proofs.lemmas.List.{take_all, take_more}
 use Rattle.ink_model.specs.declared.value.Value.{Value}
 

@@ -11,7 +11,7 @@ use Rattle.ink_model.specs.declared.host.Event.{Event}
 use Rattle.ink_model.specs.declared.host.Event.TheVariants.{Call}
 use Rattle.ink_model.specs.declared.host.Given.{Given}
 use Rattle.ink_model.specs.declared.value.Value.{Value}
-use Rattle.ink_host.specs.Desk.{DeskView, Rows, among, at, by_log, called, each, logs, names, noting, put, shown, without}
+use Rattle.ink_host.specs.Desk.{DeskView, Rows, among, at, by_log, called, each, logs, names, noting, put, entries_as_rows, without}
 use Rattle.ink_host.specs.declared.objects.Bound.{Bound}
 use Rattle.ink_host.specs.declared.objects.Bound.TheVariants as bound
 use Rattle.ink_host.specs.declared.objects.Called.{Called}
@@ -20,7 +20,7 @@ use Rattle.ink_host.specs.declared.objects.Called.{Called}
 
 module _ {X : Type 0} where
   abbrev pub rows_of : List (String Global × X) → Rows X
-  rows_of es = shown string_bytes (λ x. x) es
+  rows_of es = entries_as_rows string_bytes (λ x. x) es
 
   pub found : (name : List ℕ) (es : List (String Global × X)) → lookup (λ k. bytes_eq name (string_bytes k)) es ≡ at name (rows_of es)
   found name [] = refl

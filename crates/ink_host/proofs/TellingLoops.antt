@@ -4,14 +4,14 @@ use Rattle.std.specs.List.{list_all}
 use Rattle.std.specs.Map.{lookup}
 use Rattle.std.proofs.lemmas.List.{append-nil, take_more}
 use Rattle.std.proofs.lemmas.List.Elements.{filter-append}
-use Rattle.ink_model.specs.Events.{after, later}
+use Rattle.ink_model.specs.Host.Events.{after, later}
 use Rattle.ink_model.specs.declared.host.Event.{Event}
 use Rattle.ink_model.specs.declared.host.Event.TheVariants.{Saw}
 use Rattle.ink_host.specs.declared.objects.Seen.{Seen}
 use Rattle.ink_model.specs.declared.host.Change.{Change}
-use Rattle.ink_host.specs.Desk.{Rows, IsNumbered, called_by, each, grown, seen_by, shown, told_of, watches}
-use Rattle.ink_host.specs.Telling.{Watching, Stand, begun, change, ended, heard, in_turn, log_of, named, refused, round, standing, taken}
-use Rattle.ink_model.specs.Told.{ToldAs, saws}
+use Rattle.ink_host.specs.Desk.{Rows, IsNumbered, called_by, each, grown, seen_by, entries_as_rows, told_of, watches}
+use Rattle.ink_host.specs.Telling.{Watching, Stand, begun, change, round_ended, heard, in_turn, log_of, named, refused, round, standing, change_taken}
+use Rattle.ink_model.specs.Host.Told.{ToldAs, saws}
 use Rattle.ink_host.proofs.TellingRows.{each-each, each-same, other_name, same_name, stand-each, stand-fewer}
 use Rattle.ink_host.proofs.Laws.{seen_by-append}
 use Rattle.std.proofs.lemmas.Slice.Eq.{bytes_eq-Decides}
@@ -110,7 +110,7 @@ stand-heard test b n [] answers rows a = a
 stand-heard test b n (c ∷ cs) [] rows a = a
 stand-heard test b n (c ∷ cs) (true ∷ answers) rows a =
     let sight : Seen = record { stamp = n; name = c.name; value = c.value } in
-    stand-heard test b (after n) cs answers (change c.name (taken sight) rows) (stand-change test b c.name (taken sight) (λ s. refl) rows a)
+    stand-heard test b (after n) cs answers (change c.name (change_taken sight) rows) (stand-change test b c.name (change_taken sight) (λ s. refl) rows a)
 stand-heard test b n (c ∷ cs) (false ∷ answers) rows a =
     stand-heard test b n cs answers (change c.name refused rows) (stand-change test b c.name refused (λ s. refl) rows a)
 
@@ -134,7 +134,7 @@ stand-begun cs over h rows =
 pub stand-round : (n : ℕ) (cs told : List Change) (answers : List Bool) (rows : Rows Watching) → Stand (λ m. true) true rows → Stand (λ m. true) true (round n cs told answers rows)
 stand-round n cs told answers rows a =
     stand-fewer (λ m. not (named m cs) || named m cs) (λ m. true) true (round n cs told answers rows) (λ m t. either (named m cs))
-    (stand-turn true ended (λ s. refl) cs (λ m. not (named m cs)) (heard n told answers (in_turn begun cs rows))
+    (stand-turn true round_ended (λ s. refl) cs (λ m. not (named m cs)) (heard n told answers (in_turn begun cs rows))
     (stand-heard (λ m. not (named m cs)) true n told answers (in_turn begun cs rows) (stand-others true begun cs (λ m. true) rows a)))
   where
     either : (b : Bool) → (not b || b) ≡ true
@@ -157,14 +157,14 @@ logs-turn f h [] rows = refl
 logs-turn f h (c ∷ cs) rows = logs-turn f h cs (change c.name f rows) ∙ logs-change c.name f h rows
 
 logs-taken : (n : List ℕ) (stamp : ℕ) (v : Value) (rows : Rows Watching)
-    → each (λ m s. s.log) (change n (taken (record { stamp = stamp; name = n; value = v })) rows) ≡ grown (Saw n stamp v ∷ []) (each (λ m s. s.log) rows)
+    → each (λ m s. s.log) (change n (change_taken (record { stamp = stamp; name = n; value = v })) rows) ≡ grown (Saw n stamp v ∷ []) (each (λ m s. s.log) rows)
 logs-taken n stamp v rows =
-    each-each (λ m s. s.log) (λ m s. if bytes_eq n m then taken (record { stamp = stamp; name = n; value = v }) s else s) rows
-    ∙ each-same (λ m s. (if bytes_eq n m then taken (record { stamp = stamp; name = n; value = v }) s else s).log) (λ m s. told_of (Saw n stamp v ∷ []) m s.log) (λ m s. by m s (bytes_eq n m) refl) rows
+    each-each (λ m s. s.log) (λ m s. if bytes_eq n m then change_taken (record { stamp = stamp; name = n; value = v }) s else s) rows
+    ∙ each-same (λ m s. (if bytes_eq n m then change_taken (record { stamp = stamp; name = n; value = v }) s else s).log) (λ m s. told_of (Saw n stamp v ∷ []) m s.log) (λ m s. by m s (bytes_eq n m) refl) rows
     ∙ sym (each-each (told_of (Saw n stamp v ∷ [])) (λ m s. s.log) rows)
   where
     by : (m : List ℕ) (s : Watching) (e : Bool) → bytes_eq n m ≡ e
-        → (if e then taken (record { stamp = stamp; name = n; value = v }) s else s).log ≡ s.log ++ (if bytes_eq m n then (record { stamp = stamp; name = n; value = v }) ∷ [] else [])
+        → (if e then change_taken (record { stamp = stamp; name = n; value = v }) s else s).log ≡ s.log ++ (if bytes_eq m n then (record { stamp = stamp; name = n; value = v }) ∷ [] else [])
     by m s true is =
         let back : bytes_eq m n ≡ true = (bytes_eq-Decides m n).1 (sym (same_name n m is)) in
         ap (λ b. s.log ++ (if b then (record { stamp = stamp; name = n; value = v }) ∷ [] else [])) (sym back)
@@ -183,7 +183,7 @@ pub logs-heard : (n : ℕ) (cs : List Change) (answers : List Bool) (rows : Rows
 logs-heard n [] answers rows = grown-none (each (λ m s. s.log) rows)
 logs-heard n (c ∷ cs) [] rows = grown-none (each (λ m s. s.log) rows)
 logs-heard n (c ∷ cs) (true ∷ answers) rows =
-    logs-heard (after n) cs answers (change c.name (taken (record { stamp = n; name = c.name; value = c.value })) rows)
+    logs-heard (after n) cs answers (change c.name (change_taken (record { stamp = n; name = c.name; value = c.value })) rows)
     ∙ ap (grown (saws (after n) cs answers)) (logs-taken c.name n c.value rows)
     ∙ grown-grown (Saw c.name n c.value ∷ []) (saws (after n) cs answers) (each (λ m s. s.log) rows)
 logs-heard n (c ∷ cs) (false ∷ answers) rows =
@@ -191,17 +191,17 @@ logs-heard n (c ∷ cs) (false ∷ answers) rows =
 
 pub logs-round : (n : ℕ) (cs told : List Change) (answers : List Bool) (rows : Rows Watching) → each (λ m s. s.log) (round n cs told answers rows) ≡ grown (saws n told answers) (each (λ m s. s.log) rows)
 logs-round n cs told answers rows =
-    logs-turn ended (λ s. refl) cs (heard n told answers (in_turn begun cs rows))
+    logs-turn round_ended (λ s. refl) cs (heard n told answers (in_turn begun cs rows))
     ∙ logs-heard n told answers (in_turn begun cs rows)
     ∙ ap (grown (saws n told answers)) (logs-turn begun (λ s. refl) cs rows)
 
 -- one change more
 pub heard-taken : (n : ℕ) (cs : List Change) (bs : List Bool) (c : Change) (rows : Rows Watching) → length bs ≡ length cs
-    → change c.name (taken (record { stamp = later n (saws n cs bs); name = c.name; value = c.value })) (heard n cs bs rows) ≡ heard n (cs ++ c ∷ []) (bs ++ true ∷ []) rows
+    → change c.name (change_taken (record { stamp = later n (saws n cs bs); name = c.name; value = c.value })) (heard n cs bs rows) ≡ heard n (cs ++ c ∷ []) (bs ++ true ∷ []) rows
 heard-taken n [] [] c rows h = refl
 heard-taken n [] (a ∷ bs) c rows h = absurd (omega arith)
 heard-taken n (d ∷ cs) [] c rows h = absurd (omega arith)
-heard-taken n (d ∷ cs) (true ∷ bs) c rows h = heard-taken (after n) cs bs c (change d.name (taken (record { stamp = n; name = d.name; value = d.value })) rows) (omega arith)
+heard-taken n (d ∷ cs) (true ∷ bs) c rows h = heard-taken (after n) cs bs c (change d.name (change_taken (record { stamp = n; name = d.name; value = d.value })) rows) (omega arith)
 heard-taken n (d ∷ cs) (false ∷ bs) c rows h = heard-taken n cs bs c (change d.name refused rows) (omega arith)
 
 pub heard-refused : (n : ℕ) (cs : List Change) (bs : List Bool) (c : Change) (rows : Rows Watching) → length bs ≡ length cs
@@ -209,16 +209,16 @@ pub heard-refused : (n : ℕ) (cs : List Change) (bs : List Bool) (c : Change) (
 heard-refused n [] [] c rows h = refl
 heard-refused n [] (a ∷ bs) c rows h = absurd (omega arith)
 heard-refused n (d ∷ cs) [] c rows h = absurd (omega arith)
-heard-refused n (d ∷ cs) (true ∷ bs) c rows h = heard-refused (after n) cs bs c (change d.name (taken (record { stamp = n; name = d.name; value = d.value })) rows) (omega arith)
+heard-refused n (d ∷ cs) (true ∷ bs) c rows h = heard-refused (after n) cs bs c (change d.name (change_taken (record { stamp = n; name = d.name; value = d.value })) rows) (omega arith)
 heard-refused n (d ∷ cs) (false ∷ bs) c rows h = heard-refused n cs bs c (change d.name refused rows) (omega arith)
 
 -- the states of a map's watchers
-pub states-standing : {W : Type 0} (state : W → Watching) (es : List (String Global × W)) → each (λ n w. state w) (shown string_bytes (λ w. w) es) ≡ standing string_bytes state es
+pub states-standing : {W : Type 0} (state : W → Watching) (es : List (String Global × W)) → each (λ n w. state w) (entries_as_rows string_bytes (λ w. w) es) ≡ standing string_bytes state es
 states-standing state [] = refl
 states-standing state (e ∷ es) = ap (λ rs. (string_bytes e.0, state e.1) ∷ rs) (states-standing state es)
 
 pub logs-standing : {W : Type 0} (state : W → Watching) (es : List (String Global × W))
-    → each (λ n s. s.log) (standing string_bytes state es) ≡ each (λ n w. log_of state w) (shown string_bytes (λ w. w) es)
+    → each (λ n s. s.log) (standing string_bytes state es) ≡ each (λ n w. log_of state w) (entries_as_rows string_bytes (λ w. w) es)
 logs-standing state [] = refl
 logs-standing state (e ∷ es) = ap (λ rs. (string_bytes e.0, (state e.1).log) ∷ rs) (logs-standing state es)
 
@@ -296,12 +296,12 @@ saws-call n (c ∷ cs) (false ∷ bs) name = saws-call n cs bs name
 
 -- ---- which names are watched
 
-pub found-watched : {W : Type 0} (n : List ℕ) (es : List (String Global × W)) → is_some (lookup (λ k. bytes_eq n (string_bytes k)) es) ≡ watches (shown string_bytes (λ w. w) es) n
+pub found-watched : {W : Type 0} (n : List ℕ) (es : List (String Global × W)) → is_some (lookup (λ k. bytes_eq n (string_bytes k)) es) ≡ watches (entries_as_rows string_bytes (λ w. w) es) n
 found-watched n [] = refl
 found-watched n (e ∷ es) = by (bytes_eq n (string_bytes e.0)) (found-watched n es)
   where
-    by : (b : Bool) → is_some (lookup (λ k. bytes_eq n (string_bytes k)) es) ≡ watches (shown string_bytes (λ w. w) es) n
-        → is_some (cond b (Some e.1) (lookup (λ k. bytes_eq n (string_bytes k)) es)) ≡ (if b then true else watches (shown string_bytes (λ w. w) es) n)
+    by : (b : Bool) → is_some (lookup (λ k. bytes_eq n (string_bytes k)) es) ≡ watches (entries_as_rows string_bytes (λ w. w) es) n
+        → is_some (cond b (Some e.1) (lookup (λ k. bytes_eq n (string_bytes k)) es)) ≡ (if b then true else watches (entries_as_rows string_bytes (λ w. w) es) n)
     by true more = refl
     by false more = more
 
@@ -325,7 +325,7 @@ filter-some test (d ∷ cs) (suc i) c h is t = by (test d) (filter-some test cs 
 
 -- a change whose name has a watcher passes
 pub watched-some : {W : Type 0} (es : List (String Global × W)) (name : List ℕ) (cs : List Change) (i : ℕ) (c : Change) → i < length cs → c ≡ get_or cs i c
-    → name ≡ c.name → is_some (lookup (λ k. bytes_eq name (string_bytes k)) es) ≡ true → filter (λ d. watches (shown string_bytes (λ w. w) es) d.name) cs ≢ []
+    → name ≡ c.name → is_some (lookup (λ k. bytes_eq name (string_bytes k)) es) ≡ true → filter (λ d. watches (entries_as_rows string_bytes (λ w. w) es) d.name) cs ≢ []
 watched-some es name cs i c h is same found =
-    filter-some (λ d. watches (shown string_bytes (λ w. w) es) d.name) cs i c h is
-    (ap (watches (shown string_bytes (λ w. w) es)) (sym same) ∙ sym (found-watched name es) ∙ found)
+    filter-some (λ d. watches (entries_as_rows string_bytes (λ w. w) es) d.name) cs i c h is
+    (ap (watches (entries_as_rows string_bytes (λ w. w) es)) (sym same) ∙ sym (found-watched name es) ∙ found)

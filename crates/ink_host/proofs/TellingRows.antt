@@ -4,7 +4,7 @@ use Rattle.std.specs.Map.{keys_of, lookup, set_value}
 use Rattle.std.specs.String.{string_eq}
 use Rattle.std.specs.List.{IsDistinct, AllByRecursion}
 use Rattle.std.proofs.lemmas.Slice.Eq.{bytes_eq-Decides}
-use Rattle.ink_host.specs.Desk.{Rows, Resting, each, shown}
+use Rattle.ink_host.specs.Desk.{Rows, Resting, each, entries_as_rows}
 use Rattle.ink_host.specs.Telling.{Watching, Stand, change, rests, standing}
 
 -- ---- names
@@ -82,11 +82,11 @@ module _ {W : Type 0} (state : W → Watching) where
       by false more k here rest = more k rest
 
   -- all at rest
-  pub stand-resting : (test : List ℕ → Bool) (es : List (String Global × W)) → Resting (rests state) (shown string_bytes (λ w. w) es) → Stand test true (standing string_bytes state es)
+  pub stand-resting : (test : List ℕ → Bool) (es : List (String Global × W)) → Resting (rests state) (entries_as_rows string_bytes (λ w. w) es) → Stand test true (standing string_bytes state es)
   stand-resting test [] h = tt
   stand-resting test (e ∷ es) h = (λ _. h.0, stand-resting test es h.1)
 
-  pub resting-stand : (es : List (String Global × W)) → Stand (λ n. true) true (standing string_bytes state es) → Resting (rests state) (shown string_bytes (λ w. w) es)
+  pub resting-stand : (es : List (String Global × W)) → Stand (λ n. true) true (standing string_bytes state es) → Resting (rests state) (entries_as_rows string_bytes (λ w. w) es)
   resting-stand [] h = tt
   resting-stand (e ∷ es) h = (h.0 refl, resting-stand es h.1)
 

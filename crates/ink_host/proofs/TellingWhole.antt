@@ -1,15 +1,15 @@
 -- A whole telling.
 use Rattle.std.proofs.Common.{◌≡◌, ◌∙◌, refl, sym, ap, ℕ, List, [], ◌∷◌, ◌++◌, length, Bool, arith, String, Global, string_bytes}
 use Rattle.std.proofs.lemmas.List.{append-nil}
-use Rattle.ink_model.specs.Events.{later}
+use Rattle.ink_model.specs.Host.Events.{later}
 use Rattle.ink_model.specs.declared.host.Event.{Event}
 use Rattle.ink_host.specs.declared.objects.Bound.{Bound}
 use Rattle.ink_host.specs.declared.objects.Bound.TheVariants.{Pure, Turn}
 use Rattle.ink_host.specs.declared.objects.Called.{Called}
 use Rattle.ink_model.specs.declared.host.Change.{Change}
-use Rattle.ink_host.specs.Desk.{Rows, DeskView, Grew, called, called_by, each, grown, logs, shown}
+use Rattle.ink_host.specs.Desk.{Rows, DeskView, Grew, called, called_by, each, grown, logs, entries_as_rows}
 use Rattle.ink_host.specs.Telling.{Watching, log_of, round, standing}
-use Rattle.ink_model.specs.Told.{ToldAs}
+use Rattle.ink_model.specs.Host.Told.{ToldAs}
 use Rattle.ink_host.proofs.TellingLoops.{logs-round, logs-standing, saws-call, tells-numbered}
 
 pub no_items : {X : Type 0} (xs : List X) → length xs ≡ 0 → xs ≡ []
@@ -26,7 +26,7 @@ called-none {P} es none (r ∷ rows) = ap (λ b. (r.0, b) ∷ rows) (by r.1) ∙
 
 module _ {P T W : Type 0} (turn_log : T → List Called) (state : W → Watching) where
   abbrev pub view : Rows (Bound P T) → List (String Global × W) → List Event → ℕ → DeskView P T W
-  view functions entries events next = record { functions = functions; watchers = shown string_bytes (λ w. w) entries; events = events; next = next }
+  view functions entries events next = record { functions = functions; watchers = entries_as_rows string_bytes (λ w. w) entries; events = events; next = next }
 
   pub grew-told : (functions : Rows (Bound P T)) (first last : List (String Global × W)) (old new : List Event) (n next : ℕ) (cs told : List Change) (done : Bool) (es : List Event)
       → (t : ToldAs n told done es) → new ≡ old ++ es → next ≡ later n es

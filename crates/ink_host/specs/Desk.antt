@@ -1,9 +1,9 @@
 -- The desk, as contracts see it: what is bound and who watches, by name, and what happened (docs/HOST.md).
 use Rattle.std.specs.Prelude.{◌≡◌, ℕ, List, [], ◌∷◌, ◌++◌, ◌+◌, ◌%◌, ◌^◌, map, Bool, true, false, bytes_eq, Option, Some, None, Result, Ok, Err, if◌then◌else◌}
 use Rattle.std.specs.Option.{option_map}
-use Rattle.ink_model.specs.Events.{after, later}
-use Rattle.ink_model.specs.Host as host
-pub use Rattle.ink_model.specs.Named.{Rows, at, put, without}
+use Rattle.ink_model.specs.Host.Events.{after, later}
+use Rattle.ink_model.specs.Host.Bindings as host
+pub use Rattle.ink_model.specs.Variables.Named.{Rows, at, put, without}
 use Rattle.ink_model.specs.declared.host.Event.{Event}
 use Rattle.ink_model.specs.declared.host.Event.TheVariants.{Call, Saw}
 use Rattle.ink_model.specs.declared.host.Given.{Given}
@@ -20,8 +20,8 @@ use Rattle.ink_host.specs.declared.objects.Seen.{Seen}
 -- ---- rows
 
 -- the entries of a map, with what is seen of each key and of each value
-abbrev pub shown : {S W Y : Type 0} → (S → List ℕ) → (W → Y) → List (S × W) → Rows Y
-shown name value entries = map (λ e. (name e.0, value e.1)) entries
+abbrev pub entries_as_rows : {S W Y : Type 0} → (S → List ℕ) → (W → Y) → List (S × W) → Rows Y
+entries_as_rows name value entries = map (λ e. (name e.0, value e.1)) entries
 
 module _ {X : Type 0} where
   -- there is a row

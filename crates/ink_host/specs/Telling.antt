@@ -1,9 +1,9 @@
 -- Telling watchers of changes (docs/HOST.md).
 use Rattle.std.specs.Prelude.{◌≡◌, ℕ, List, [], ◌∷◌, ◌++◌, Bool, true, false, bytes_eq, ◌||◌, if◌then◌else◌}
-use Rattle.ink_model.specs.Events.{after}
+use Rattle.ink_model.specs.Host.Events.{after}
 use Rattle.ink_host.specs.declared.objects.Seen.{Seen}
 use Rattle.ink_model.specs.declared.host.Change.{Change}
-use Rattle.ink_host.specs.Desk.{Rows, counted, each, shown}
+use Rattle.ink_host.specs.Desk.{Rows, counted, each, entries_as_rows}
 
 -- ---- changes
 
@@ -25,12 +25,12 @@ pub record Watching : Type 0 where
 abbrev pub begun : Watching → Watching
 begun s = record { log = s.log; resting = false; begins = counted s.begins; ends = s.ends; refusals = s.refusals }
 
-abbrev pub ended : Watching → Watching
-ended s = record { log = s.log; resting = true; begins = s.begins; ends = counted s.ends; refusals = s.refusals }
+abbrev pub round_ended : Watching → Watching
+round_ended s = record { log = s.log; resting = true; begins = s.begins; ends = counted s.ends; refusals = s.refusals }
 
 -- it took a change
-abbrev pub taken : Seen → Watching → Watching
-taken c s = record { log = s.log ++ c ∷ []; resting = s.resting; begins = s.begins; ends = s.ends; refusals = s.refusals }
+abbrev pub change_taken : Seen → Watching → Watching
+change_taken c s = record { log = s.log ++ c ∷ []; resting = s.resting; begins = s.begins; ends = s.ends; refusals = s.refusals }
 
 -- it was refused memory for one
 abbrev pub refused : Watching → Watching
@@ -38,7 +38,7 @@ refused s = record { log = s.log; resting = s.resting; begins = s.begins; ends =
 
 -- the watchers of a map, as they are seen
 abbrev pub standing : {S W : Type 0} → (S → List ℕ) → (W → Watching) → List (S × W) → Rows Watching
-standing name state entries = shown name state entries
+standing name state entries = entries_as_rows name state entries
 
 -- the watchers whose names pass are at rest, or none of them is
 abbrev pub Stand : (List ℕ → Bool) → Bool → Rows Watching → Type 0
@@ -59,12 +59,12 @@ in_turn f (c ∷ cs) rows = in_turn f cs (change c.name f rows)
 abbrev pub heard : ℕ → List Change → List Bool → Rows Watching → Rows Watching
 heard n [] answers rows = rows
 heard n (c ∷ cs) [] rows = rows
-heard n (c ∷ cs) (true ∷ answers) rows = heard (after n) cs answers (change c.name (taken (record { stamp = n; name = c.name; value = c.value })) rows)
+heard n (c ∷ cs) (true ∷ answers) rows = heard (after n) cs answers (change c.name (change_taken (record { stamp = n; name = c.name; value = c.value })) rows)
 heard n (c ∷ cs) (false ∷ answers) rows = heard n cs answers (change c.name refused rows)
 
 -- A round: the watcher of each change is begun, in order; then each is told, in order; then each is ended, in order.
 abbrev pub round : ℕ → List Change → List Change → List Bool → Rows Watching → Rows Watching
-round n cs told answers rows = in_turn ended cs (heard n told answers (in_turn begun cs rows))
+round n cs told answers rows = in_turn round_ended cs (heard n told answers (in_turn begun cs rows))
 
 -- what a watcher was told
 abbrev pub log_of : {W : Type 0} → (W → Watching) → W → List Seen

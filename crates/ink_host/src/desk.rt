@@ -1,12 +1,12 @@
 //! The desk: what a host has bound and who watches, and what happened.
 
 ghost use Rattle.std.specs.Prelude.{◌≡◌, ◌⊎◌, [], ◌∷◌, List, None, Some, Ok, Err, option_map, string_bytes, IfOk, IfErr, OnOk, OnErr};
-ghost use Rattle.ink_model.specs.Host.{shares};
+ghost use Rattle.ink_model.specs.Host.Bindings.{shares};
 ghost use Rattle.ink_model.specs.declared.fault.Fault.TheVariants as fault;
 ghost use Rattle.ink_model.specs.declared.host.Event.{Event as Happening};
 ghost use Rattle.ink_model.specs.declared.host.Event.TheVariants as event;
 ghost use Rattle.ink_model.specs.declared.host.Given.{Given as Answer};
-ghost use Rattle.ink_host.specs.Desk.{DeskView, Grew, answer_of, at, counted, empty_desk, has_rows, kind_of, put, refusals_at, shown, without};
+ghost use Rattle.ink_host.specs.Desk.{DeskView, Grew, answer_of, at, counted, empty_desk, has_rows, kind_of, put, refusals_at, entries_as_rows, without};
 ghost use Rattle.ink_host.specs.Desk as view;
 ghost use Rattle.ink_host.specs.Telling.{log_of};
 ghost use Rattle.ink_host.specs.declared.objects.Bound.TheVariants as bound;
@@ -44,7 +44,7 @@ impl<P: Drop, T: Drop, W: Drop> Drop for Desk<P, T, W> {
 impl<P, T, W> Model for Desk<P, T, W> {
     ghost Value = { DeskView P T W };
 
-    ghost view = { λ d. record { functions = shown string_bytes (λ b. b) d.functions.entries; watchers = shown string_bytes (λ w. w) d.watchers.entries; events = d.events.items; next = d.next } };
+    ghost view = { λ d. record { functions = entries_as_rows string_bytes (λ b. b) d.functions.entries; watchers = entries_as_rows string_bytes (λ w. w) d.watchers.entries; events = d.events.items; next = d.next } };
 }
 
 impl<P, T, W> Desk<P, T, W> {
@@ -248,8 +248,8 @@ impl<P, T, W: Watcher> Desk<P, T, W> {
 impl<P, T, W> Desk<P, T, W> {
     /// Hands back all that was bound and all who watch, each by its name. Events that nobody has taken go.
     pub fn close(self) -> (IndexMap<String, Bound<P, T>>, IndexMap<String, W>)
-        ensures functions { shown string_bytes (λ b. b) result.0.entries ≡ self.functions }
-        ensures watchers { shown string_bytes (λ w. w) result.1.entries ≡ self.watchers }
+        ensures functions { entries_as_rows string_bytes (λ b. b) result.0.entries ≡ self.functions }
+        ensures watchers { entries_as_rows string_bytes (λ w. w) result.1.entries ≡ self.watchers }
     {
         let Desk {
             functions,

@@ -6,7 +6,7 @@ ghost use Rattle.ink_model.specs.declared.host.HostFault.TheVariants as fault;
 ghost use Rattle.ink_model.specs.declared.value.Value.{Value as Data};
 ghost use Rattle.ink_host.specs.declared.objects.Called.{Called as Call};
 ghost use Rattle.ink_host.specs.Desk.{refusals_after};
-ghost use Rattle.ink_host.specs.Telling.{Watching, begun, ended, refused, taken};
+ghost use Rattle.ink_host.specs.Telling.{Watching, begun, round_ended, refused, change_taken};
 
 use ink_model::{Given, HostFault, Seq, Text, Value};
 use std::alloc::{AllocError, Global};
@@ -81,12 +81,12 @@ pub trait Watcher {
     /// A global has a new value. The one error is a refused request for memory, and then it was not told. Without `begin` before
     /// it, this call promises nothing.
     fn changed(&mut self, stamp: u64, name: &str, value: &Value) -> Result<(), AllocError>
-        ensures told { (state self.old).resting ≡ false → OnOk result (state self.new ≡ taken (record { stamp = stamp; name = name.now; value = value.now }) (state self.old)) }
+        ensures told { (state self.old).resting ≡ false → OnOk result (state self.new ≡ change_taken (record { stamp = stamp; name = name.now; value = value.now }) (state self.old)) }
         ensures untold { (state self.old).resting ≡ false → OnErr result (state self.new ≡ refused (state self.old)) };
 
     /// All is told.
     fn end(&mut self)
-        ensures { state self.new ≡ ended (state self.old) };
+        ensures { state self.new ≡ round_ended (state self.old) };
 }
 
 /// A function that is bound to a name.

@@ -2,7 +2,7 @@
 
 ghost use Rattle.std.specs.Prelude.{◌≡◌, ◌≢◌, ◌⊎◌, ◌++◌, ◌∷◌, [], None, Some, false, true, vec_capacity, vec_len, IfErr, IfOk, OnErr, OnOk};
 ghost use Rattle.ink_host.specs.Desk.{counted};
-ghost use Rattle.ink_model.specs.Host.{shares};
+ghost use Rattle.ink_model.specs.Host.Bindings.{shares};
 ghost use Rattle.ink_model.specs.declared.host.HostFault.TheVariants as fault;
 
 use crate::objects::{Called, copied_values};

@@ -1,11 +1,11 @@
 //! What the desk does to its parts: maps by name, and the events.
 
 ghost use Rattle.std.specs.Prelude.{◌≡◌, ◌+◌, ◌≤◌, ◌++◌, [], ◌∷◌, None, Some, Ok, Err, string_bytes, vec_capacity, vec_len, IfOk, IfErr, OnOk, OnErr, is_some, true};
-ghost use Rattle.ink_model.specs.Events.{after};
+ghost use Rattle.ink_model.specs.Host.Events.{after};
 ghost use Rattle.ink_model.specs.declared.host.Event.TheVariants as event;
 ghost use Rattle.ink_model.specs.declared.host.Given.{Given as Answer};
 ghost use Rattle.ink_model.specs.declared.host.HostFault.TheVariants as fault;
-ghost use Rattle.ink_host.specs.Desk.{answer_of, at, by_log, called, each, logs, noting, put, refusals_after, refusals_at, refusals_of, shown, without};
+ghost use Rattle.ink_host.specs.Desk.{answer_of, at, by_log, called, each, logs, noting, put, refusals_after, refusals_at, refusals_of, entries_as_rows, without};
 ghost use Rattle.ink_host.specs.declared.objects.Bound.TheVariants as bound;
 
 use crate::objects::{Bound, PureFn, TurnFn};
@@ -22,11 +22,11 @@ pub(crate) fn keep<X>(
     name: &str,
     object: X,
 ) -> Result<Option<X>, X>
-    ensures old { IfOk result (λ old. old ≡ at name.now (shown string_bytes (λ x. x) rows.old.entries)) }
-    ensures kept { OnOk result (shown string_bytes (λ x. x) rows.new.entries ≡ put name.now object (shown string_bytes (λ x. x) rows.old.entries)) }
+    ensures old { IfOk result (λ old. old ≡ at name.now (entries_as_rows string_bytes (λ x. x) rows.old.entries)) }
+    ensures kept { OnOk result (entries_as_rows string_bytes (λ x. x) rows.new.entries ≡ put name.now object (entries_as_rows string_bytes (λ x. x) rows.old.entries)) }
     ensures back { IfErr result (λ x. x ≡ object) }
     ensures err { OnErr result (rows.new.entries ≡ rows.old.entries) }
-    ensures memory { OnErr result (at name.now (shown string_bytes (λ x. x) rows.old.entries) ≡ None) }
+    ensures memory { OnErr result (at name.now (entries_as_rows string_bytes (λ x. x) rows.old.entries) ≡ None) }
 {
     if rows.contains_key(name) {
         return Ok(Some(keep_over(rows, name, object)));
@@ -45,9 +45,9 @@ pub(crate) fn keep<X>(
 
 // Puts an object in the place of the one at a name, and hands that one back.
 fn keep_over<X>(rows: &mut IndexMap<String, X>, name: &str, object: X) -> X
-    requires { is_some (at name.now (shown string_bytes (λ x. x) rows.old.entries)) ≡ true }
-    ensures old { Some result ≡ at name.now (shown string_bytes (λ x. x) rows.old.entries) }
-    ensures kept { shown string_bytes (λ x. x) rows.new.entries ≡ put name.now object (shown string_bytes (λ x. x) rows.old.entries) }
+    requires { is_some (at name.now (entries_as_rows string_bytes (λ x. x) rows.old.entries)) ≡ true }
+    ensures old { Some result ≡ at name.now (entries_as_rows string_bytes (λ x. x) rows.old.entries) }
+    ensures kept { entries_as_rows string_bytes (λ x. x) rows.new.entries ≡ put name.now object (entries_as_rows string_bytes (λ x. x) rows.old.entries) }
 {
     match rows.get_mut(name) {
         Some(there) => mem::replace(there, object),
@@ -61,9 +61,9 @@ pub(crate) fn ask_at<P: PureFn, T>(
     name: &str,
     arguments: &[Value],
 ) -> Result<Given, HostFault>
-    requires { (p : P) × (at name.now (shown string_bytes (λ b. b) functions.now.entries) ≡ Some (bound.Pure p)) }
-    ensures answer { (g : Answer) → result ≡ Ok g → answer_of P.meaning (at name.now (shown string_bytes (λ b. b) functions.now.entries)) arguments.now ≡ Some g }
-    ensures refused { result ≡ Err fault.Refused → answer_of P.meaning (at name.now (shown string_bytes (λ b. b) functions.now.entries)) arguments.now ≡ None }
+    requires { (p : P) × (at name.now (entries_as_rows string_bytes (λ b. b) functions.now.entries) ≡ Some (bound.Pure p)) }
+    ensures answer { (g : Answer) → result ≡ Ok g → answer_of P.meaning (at name.now (entries_as_rows string_bytes (λ b. b) functions.now.entries)) arguments.now ≡ Some g }
+    ensures refused { result ≡ Err fault.Refused → answer_of P.meaning (at name.now (entries_as_rows string_bytes (λ b. b) functions.now.entries)) arguments.now ≡ None }
 {
     match functions.get(name) {
         Some(Bound::Pure(function)) => function.ask(arguments),
@@ -79,12 +79,12 @@ pub(crate) fn call_at<P, T: TurnFn>(
     stamp: u64,
     arguments: &[Value],
 ) -> Result<Given, HostFault>
-    requires { (t : T) × (at name.now (shown string_bytes (λ b. b) functions.old.entries) ≡ Some (bound.Turn t)) }
-    ensures answer { (g : Answer) → result ≡ Ok g → logs T.log (shown string_bytes (λ b. b) functions.new.entries) ≡ each (called (event.Call name.now arguments.now (Some g) stamp ∷ [])) (logs T.log (shown string_bytes (λ b. b) functions.old.entries)) }
-    ensures refused { result ≡ Err fault.Refused → logs T.log (shown string_bytes (λ b. b) functions.new.entries) ≡ each (called (event.Call name.now arguments.now None stamp ∷ [])) (logs T.log (shown string_bytes (λ b. b) functions.old.entries)) }
-    ensures memory { result ≡ Err fault.OutOfMemory → logs T.log (shown string_bytes (λ b. b) functions.new.entries) ≡ logs T.log (shown string_bytes (λ b. b) functions.old.entries) }
-    ensures refusals { refusals_at T.refusals (at name.now (shown string_bytes (λ b. b) functions.new.entries)) ≡ refusals_after result (refusals_at T.refusals (at name.now (shown string_bytes (λ b. b) functions.old.entries))) }
-    ensures others { without name.now (shown string_bytes (λ b. b) functions.new.entries) ≡ without name.now (shown string_bytes (λ b. b) functions.old.entries) }
+    requires { (t : T) × (at name.now (entries_as_rows string_bytes (λ b. b) functions.old.entries) ≡ Some (bound.Turn t)) }
+    ensures answer { (g : Answer) → result ≡ Ok g → logs T.log (entries_as_rows string_bytes (λ b. b) functions.new.entries) ≡ each (called (event.Call name.now arguments.now (Some g) stamp ∷ [])) (logs T.log (entries_as_rows string_bytes (λ b. b) functions.old.entries)) }
+    ensures refused { result ≡ Err fault.Refused → logs T.log (entries_as_rows string_bytes (λ b. b) functions.new.entries) ≡ each (called (event.Call name.now arguments.now None stamp ∷ [])) (logs T.log (entries_as_rows string_bytes (λ b. b) functions.old.entries)) }
+    ensures memory { result ≡ Err fault.OutOfMemory → logs T.log (entries_as_rows string_bytes (λ b. b) functions.new.entries) ≡ logs T.log (entries_as_rows string_bytes (λ b. b) functions.old.entries) }
+    ensures refusals { refusals_at T.refusals (at name.now (entries_as_rows string_bytes (λ b. b) functions.new.entries)) ≡ refusals_after result (refusals_at T.refusals (at name.now (entries_as_rows string_bytes (λ b. b) functions.old.entries))) }
+    ensures others { without name.now (entries_as_rows string_bytes (λ b. b) functions.new.entries) ≡ without name.now (entries_as_rows string_bytes (λ b. b) functions.old.entries) }
 {
     match functions.get_mut(name) {
         Some(object) => call_bound(object, stamp, arguments),

@@ -1,12 +1,12 @@
 //! Telling the watchers what has changed.
 
 ghost use Rattle.std.specs.Prelude.{◌≡◌, ◌≢◌, ◌+◌, ◌≤◌, [], ◌∷◌, ◌++◌, List, Bool, false, bytes_eq, filter, is_ok, string_bytes, vec_capacity, vec_len, IfOk, OnErr, OnOk, Err};
-ghost use Rattle.ink_model.specs.Events.{later};
+ghost use Rattle.ink_model.specs.Host.Events.{later};
 ghost use Rattle.ink_model.specs.declared.host.Event.{Event as Happening};
-ghost use Rattle.ink_host.specs.Desk.{Grew, Resting, shown, watches};
-ghost use Rattle.ink_host.specs.Telling.{IsRound, Stand, begun, change, ended, heard, in_turn, log_of, named, refused, rests, standing, taken};
+ghost use Rattle.ink_host.specs.Desk.{Grew, Resting, entries_as_rows, watches};
+ghost use Rattle.ink_host.specs.Telling.{IsRound, Stand, begun, change, round_ended, heard, in_turn, log_of, named, refused, rests, standing, change_taken};
 ghost use Rattle.ink_host.specs.declared.telling.TellFault.TheVariants.{NoRoom};
-ghost use Rattle.ink_model.specs.Told.{ToldAs};
+ghost use Rattle.ink_model.specs.Host.Told.{ToldAs};
 
 use crate::desk::Desk;
 use crate::objects::{TurnFn, Watcher};
@@ -58,8 +58,8 @@ fn watched_among<W>(
     alloc: Global,
     changes: &[Change],
 ) -> Result<Vec<Change>, AllocError>
-    ensures ok { IfOk result (λ told. told.items ≡ filter (λ c. watches (shown string_bytes (λ w. w) watchers.now.entries) c.name) changes.now) }
-    ensures err { OnErr result (filter (λ c. watches (shown string_bytes (λ w. w) watchers.now.entries) c.name) changes.now ≢ []) }
+    ensures ok { IfOk result (λ told. told.items ≡ filter (λ c. watches (entries_as_rows string_bytes (λ w. w) watchers.now.entries) c.name) changes.now) }
+    ensures err { OnErr result (filter (λ c. watches (entries_as_rows string_bytes (λ w. w) watchers.now.entries) c.name) changes.now ≢ []) }
 {
     let mut told = Vec::new(alloc);
     for change in changes {
@@ -90,7 +90,7 @@ fn begin_all<W: Watcher>(watchers: &mut IndexMap<String, W>, changes: &[Change])
 
 // Ends the watcher of each name, in order.
 fn end_all<W: Watcher>(watchers: &mut IndexMap<String, W>, changes: &[Change])
-    ensures { standing string_bytes W.state watchers.new.entries ≡ in_turn ended changes.now (standing string_bytes W.state watchers.old.entries) }
+    ensures { standing string_bytes W.state watchers.new.entries ≡ in_turn round_ended changes.now (standing string_bytes W.state watchers.old.entries) }
 {
     for change in changes {
         end_at(watchers, change.name.as_str());
@@ -141,7 +141,7 @@ fn begin_at<W: Watcher>(watchers: &mut IndexMap<String, W>, name: &str)
 
 // Ends the watcher of a name, if there is one.
 fn end_at<W: Watcher>(watchers: &mut IndexMap<String, W>, name: &str)
-    ensures { standing string_bytes W.state watchers.new.entries ≡ change name.now ended (standing string_bytes W.state watchers.old.entries) }
+    ensures { standing string_bytes W.state watchers.new.entries ≡ change name.now round_ended (standing string_bytes W.state watchers.old.entries) }
 {
     let Some(watcher) = watchers.get_mut(name) else {
         return;
@@ -157,7 +157,7 @@ fn changed_at<W: Watcher>(
     value: &Value,
 ) -> Result<(), AllocError>
     requires begun { Stand (bytes_eq name.now) false (standing string_bytes W.state watchers.old.entries) }
-    ensures told { OnOk result (standing string_bytes W.state watchers.new.entries ≡ change name.now (taken (record { stamp = stamp; name = name.now; value = value.now })) (standing string_bytes W.state watchers.old.entries)) }
+    ensures told { OnOk result (standing string_bytes W.state watchers.new.entries ≡ change name.now (change_taken (record { stamp = stamp; name = name.now; value = value.now })) (standing string_bytes W.state watchers.old.entries)) }
     ensures untold { OnErr result (standing string_bytes W.state watchers.new.entries ≡ change name.now refused (standing string_bytes W.state watchers.old.entries)) }
 {
     let Some(watcher) = watchers.get_mut(name) else {

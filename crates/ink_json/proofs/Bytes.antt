@@ -17,7 +17,7 @@ use Rattle.json_tape.specs.Spelled.{are_sound, data_of, held}
 use Rattle.json_tape.proofs.Size.{read_size}
 use Rattle.json_tape.proofs.Spelled.{there, text_read, held_is, spelled_data}
 use Rattle.ink_model.specs.declared.limits.TheConstants.{MAX_STORY}
-use Rattle.ink_model.specs.Grammar.{here, json, unmarked, of_json, story}
+use Rattle.ink_model.specs.Story.Grammar.{here, json, unmarked, of_json, story}
 use Rattle.ink_model.specs.declared.fault.Cause.TheVariants.{NotJson}
 use Rattle.ink_model.specs.declared.fault.Failure.{Failure}
 use Rattle.ink_model.specs.declared.fault.Failure.TheVariants.{OutOfMemory, Refused}

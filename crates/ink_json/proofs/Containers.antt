@@ -6,9 +6,9 @@ use Rattle.json_tape.specs.Value.{json_data, members_of, Entry, members_data}
 use Rattle.json_tape.specs.Size.{size, items_size}
 use Rattle.json_tape.proofs.Conditions.{both, neither}
 use Rattle.ink_model.specs.declared.version.InkVersion.{InkVersion}
-use Rattle.ink_model.specs.Tree.{StoryTree, container, Keyed, no_keys}
+use Rattle.ink_model.specs.Story.Tree.{StoryTree, container, Keyed, no_keys}
 use Rattle.ink_model.specs.declared.limits.TheConstants.{MAX_NESTING}
-use Rattle.ink_model.specs.Grammar.{here, under, first, own, own_after, is_empty, is_last, are_flags, member_of, name_key, flags_key, flags_of, name_in, name_of, is_misnamed, is_taken, with_name, is_own, content, faults, faults_inside, faults_keyed, faults_by, tree_of, content_of, keyed_in, keyed_last, keyed_by}
+use Rattle.ink_model.specs.Story.Grammar.{here, under, first, own, own_after, is_empty, is_last, are_flags, member_of, name_key, flags_key, flags_of, name_in, name_of, is_misnamed, is_taken, with_name, is_own, content, faults, faults_inside, faults_keyed, faults_by, tree_of, content_of, keyed_in, keyed_last, keyed_by}
 use Rattle.ink_model.specs.declared.fault.Cause.TheVariants.{Shape}
 use Rattle.ink_model.specs.declared.fault.Failure.{Failure}
 use Rattle.ink_model.specs.declared.fault.Failure.TheVariants.{OutOfMemory, Refused}

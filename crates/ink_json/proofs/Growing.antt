@@ -6,10 +6,10 @@ use Rattle.serde_json.specs.Data.{Data, Items, no_items, item, Members, no_membe
 use Rattle.json_tape.specs.Size.{size, items_size, members_size}
 use Rattle.json_tape.specs.Value.{json_data, Entry, members_data}
 use Rattle.json_tape.proofs.Counts.{size_positive}
-use Rattle.ink_model.specs.Grammar.{first, leaf_faults, is_own, own_after, tree_of, content_of, keyed_by}
-use Rattle.ink_model.specs.Places.{places, places_from}
-use Rattle.ink_model.specs.Tree.{StoryTree, leaf, container, Trees, Keyed, key, count}
-use Rattle.ink_model.specs.View.{count_keys}
+use Rattle.ink_model.specs.Story.Grammar.{first, leaf_faults, is_own, own_after, tree_of, content_of, keyed_by}
+use Rattle.ink_model.specs.Story.Places.{places, places_from}
+use Rattle.ink_model.specs.Story.Tree.{StoryTree, leaf, container, Trees, Keyed, key, count}
+use Rattle.ink_model.specs.Story.View.{count_keys}
 use Rattle.ink_model.specs.declared.content.Content.TheVariants as contents
 use Rattle.ink_model.specs.declared.content.Leaf.{Leaf}
 use Rattle.ink_model.specs.declared.content.Leaf.TheVariants.{Newline}

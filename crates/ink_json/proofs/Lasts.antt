@@ -2,7 +2,7 @@
 use Rattle.std.proofs.Common.{◌≡◌, Option, Some, None, option_and_then, refl, sym, ap, ◌∙◌}
 use Rattle.serde_json.specs.Data.{Data, Items, no_items, item}
 use Rattle.serde_json.specs.Find.{as_array}
-use Rattle.ink_model.specs.Grammar.{own, own_after, own_of}
+use Rattle.ink_model.specs.Story.Grammar.{own, own_after, own_of}
 
 -- the last of these, or what stood before them
 abbrev pub last_with : Option Data → Items → Option Data

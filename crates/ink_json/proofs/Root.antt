@@ -7,9 +7,9 @@ use Rattle.serde_json.specs.Find.{get}
 use Rattle.serde_json.specs.Read.{read}
 use Rattle.json_tape.specs.Size.{size}
 use Rattle.json_tape.proofs.Size.{read_size}
-use Rattle.ink_model.specs.Tree.{StoryTree}
+use Rattle.ink_model.specs.Story.Tree.{StoryTree}
 use Rattle.ink_model.specs.declared.limits.TheConstants.{MAX_STORY}
-use Rattle.ink_model.specs.Grammar.{here, is_object, is_blank_object, tree_of, faults, unmarked, json, of_json, of_value, of_version, version_of, root_of, story}
+use Rattle.ink_model.specs.Story.Grammar.{here, is_object, is_blank_object, tree_of, faults, unmarked, json, of_json, of_value, of_version, version_of, root_of, story}
 use Rattle.ink_model.specs.declared.fault.Cause.TheVariants.{Shape, Unsupported}
 use Rattle.ink_model.specs.declared.fault.ReadRefusal.{ReadRefusal}
 use Rattle.ink_model.specs.declared.version.InkVersion.{InkVersion}

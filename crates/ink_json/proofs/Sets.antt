@@ -10,7 +10,7 @@ use Rattle.std.specs.BTreeSet.{contains_by, insert_key}
 use Rattle.std.specs.Cmp.Lexicographic.{slice_cmp}
 use Rattle.std.specs.List.{list_any}
 use Rattle.std.specs.Ordering.{match_ordering, ordering_then}
-use Rattle.ink_model.specs.Grammar.{is_taken}
+use Rattle.ink_model.specs.Story.Grammar.{is_taken}
 use Rattle.ink_json.specs.Reading.{Holds, ending, name_order, number_before}
 use Rattle.ink_json.specs.declared.names.Given.{Given}
 

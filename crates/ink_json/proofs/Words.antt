@@ -1,8 +1,8 @@
 -- Strings that are leaves.
 use Rattle.std.proofs.Common.{◌≡◌, ℕ, List, [], ◌∷◌, Bool, true, false, eqb, cond, Option, None, unwrap_or, ok_or, Result, refl, ap}
 use Rattle.std.proofs.lemmas.Bool.{eqb-true}
-use Rattle.ink_model.specs.Word.{word}
-use Rattle.ink_model.specs.Leaves.{written_leaf, string_leaf}
+use Rattle.ink_model.specs.Story.Word.{word}
+use Rattle.ink_model.specs.Story.Leaves.{written_leaf, string_leaf}
 use Rattle.ink_model.specs.declared.content.Leaf.{Leaf}
 use Rattle.ink_model.specs.declared.fault.Cause.{Cause}
 use Rattle.ink_model.specs.declared.fault.Cause.TheVariants.{Unsupported}

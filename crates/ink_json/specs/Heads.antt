@@ -2,7 +2,7 @@
 use Rattle.std.specs.Prelude.{◌≡◌, ◌≤◌, ℕ, List, [], ◌∷◌, ◌++◌, length, Bool, Result}
 use Rattle.serde_json.specs.Data.{Data}
 use Rattle.json_tape.specs.Value.{json_data}
-use Rattle.ink_model.specs.Leaves.{read_jump, read_external, read_choice, read_plain, read_pointer, read_store, read_tag}
+use Rattle.ink_model.specs.Story.Leaves.{read_jump, read_external, read_choice, read_plain, read_pointer, read_store, read_tag}
 use Rattle.ink_model.specs.declared.content.Destination.{Destination}
 use Rattle.ink_model.specs.declared.content.Leaf.{Leaf}
 use Rattle.ink_model.specs.declared.content.Leaf.TheVariants as leaves

@@ -1,7 +1,7 @@
 -- A story as one flat list: a node for each content, in reading order.
 use Rattle.std.specs.Prelude.{◌≡◌, ℕ, ◌+◌, List, [], ◌∷◌, ◌++◌, length, take, drop, Option, Some, None, Result, Ok, Err}
-use Rattle.ink_model.specs.Tree.{StoryTree, leaf, container, Trees, no_trees, tree, Keyed, no_keys, key}
-use Rattle.ink_model.specs.View.{own_content, count_keys}
+use Rattle.ink_model.specs.Story.Tree.{StoryTree, leaf, container, Trees, no_trees, tree, Keyed, no_keys, key}
+use Rattle.ink_model.specs.Story.View.{own_content, count_keys}
 use Rattle.ink_model.specs.declared.content.Content.{Content}
 use Rattle.ink_model.specs.declared.content.Content.TheVariants as contents
 use Rattle.ink_model.specs.declared.content.Leaf.TheVariants.{Newline}

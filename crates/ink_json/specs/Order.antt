@@ -2,8 +2,8 @@
 use Rattle.std.specs.Prelude.{ℕ, List, Bool, true, ◌&&◌}
 use Rattle.std.specs.Cmp.Lexicographic.{slice_cmp}
 use Rattle.std.specs.Ordering.{nat_cmp, is_lt}
-pub use Rattle.ink_model.specs.Rows.{part_order, place_order}
-use Rattle.ink_model.specs.Tree.{StoryTree, leaf, container, Trees, no_trees, tree, Keyed, no_keys, key}
+pub use Rattle.ink_model.specs.Variables.Rows.{part_order, place_order}
+use Rattle.ink_model.specs.Story.Tree.{StoryTree, leaf, container, Trees, no_trees, tree, Keyed, no_keys, key}
 use Rattle.ink_model.specs.declared.place.Part.{Part}
 use Rattle.ink_model.specs.declared.place.Part.TheVariants.{Index, Name}
 use Rattle.ink_json.specs.declared.key.Key.{Key}

@@ -9,8 +9,8 @@ use Rattle.std.specs.declared.cmp.Ordering.{Ordering}
 use Rattle.std.specs.Str.{is_utf8}
 use Rattle.serde_json.specs.Data.{Data}
 use Rattle.serde_json.specs.Find.{as_array}
-use Rattle.ink_model.specs.Bytes.{is_filled}
-use Rattle.ink_model.specs.Grammar.{here, under, unmarked, is_last, are_flags, is_name, member_of, name_key, name_of, own_of, flags_key, faults}
+use Rattle.ink_model.specs.Text.Bytes.{is_filled}
+use Rattle.ink_model.specs.Story.Grammar.{here, under, unmarked, is_last, are_flags, is_name, member_of, name_key, name_of, own_of, flags_key, faults}
 use Rattle.ink_json.specs.declared.names.Given.{Given}
 use Rattle.ink_json.specs.declared.own.Label.{Label}
 use Rattle.ink_model.specs.declared.limits.TheConstants.{MAX_STORY}

@@ -1,5 +1,5 @@
 -- The tree of a story that was read.
-use Rattle.ink_model.specs.Tree.{StoryTree}
+use Rattle.ink_model.specs.Story.Tree.{StoryTree}
 use Rattle.ink_json.specs.Listing.{rebuilt}
 use Rattle.ink_json.specs.declared.story.RawStory.{RawStory}
 

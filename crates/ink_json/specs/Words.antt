@@ -1,7 +1,7 @@
 -- What a word stands for that was not found in the tables before.
 use Rattle.std.specs.Prelude.{ℕ, List, Option}
 use Rattle.std.specs.Option.{option_or}
-use Rattle.ink_model.specs.Word.{meant, evaluation_words, section_words, frame_words, count_words, operator_word, comparison_words, logic_words, number_words}
+use Rattle.ink_model.specs.Story.Word.{meant, evaluation_words, section_words, frame_words, count_words, operator_word, comparison_words, logic_words, number_words}
 use Rattle.ink_model.specs.declared.content.Leaf.{Leaf}
 
 abbrev pub logic_word : List ℕ → Option Leaf

@@ -5,15 +5,15 @@ ghost use Rattle.std.specs.Result.{result_unwrap_or};
 ghost use Rattle.serde_json.specs.Data.{array as json_array, item};
 ghost use Rattle.json_tape.specs.Size.{size, items_size, members_size};
 ghost use Rattle.json_tape.specs.Value.{json_data, items_left, members_data};
-ghost use Rattle.ink_model.specs.Grammar.{content, content_of, tree_of, keyed_in, keyed_last, faults, faults_inside, faults_keyed, faults_by, keyed_by, first, leaf_faults, under, own_after};
-ghost use Rattle.ink_model.specs.Tree.{count, leaf};
-ghost use Rattle.ink_model.specs.View.{count_keys};
+ghost use Rattle.ink_model.specs.Story.Grammar.{content, content_of, tree_of, keyed_in, keyed_last, faults, faults_inside, faults_keyed, faults_by, keyed_by, first, leaf_faults, under, own_after};
+ghost use Rattle.ink_model.specs.Story.Tree.{count, leaf};
+ghost use Rattle.ink_model.specs.Story.View.{count_keys};
 ghost use Rattle.ink_model.specs.declared.fault.Cause.{Cause as Reason};
 ghost use Rattle.ink_model.specs.declared.content.Leaf.{Leaf as AnyLeaf};
 ghost use Rattle.ink_model.specs.declared.place.Part.TheVariants.{Index, Name};
 ghost use Rattle.ink_json.specs.Listing.{Lists, ListsByKey, nodes_from, nodes_inside};
 ghost use Rattle.ink_json.specs.Reading.{Reads, IsFirst, Holds, faults_named, placed};
-ghost use Rattle.ink_json.specs.Size.{Fits};
+ghost use Rattle.ink_json.specs.Size.{FitsLimits};
 
 use crate::error::{ReadFailure, at_index, at_name, refused};
 use crate::last::Last;
@@ -84,7 +84,7 @@ fn read_content(
     value: &Value<'_, '_>,
     position: Position<'_>,
 ) -> Result<(), ReadFailure>
-    requires fits { Fits position.context.nesting (json_data value.now) }
+    requires fits { FitsLimits position.context.nesting (json_data value.now) }
     requires room { length nodes.old + size (json_data value.now) < 2 ^ 31 }
     ensures { Lists nodes.old nodes.new position.entry.holder position.entry.last result
         (content position.entry.context.version position.entry.context.nesting position.entry.misnamed position.entry.listed (json_data value.now)) }
@@ -242,7 +242,7 @@ fn read_element(
     context: Context,
     misnamed: bool,
 ) -> Result<(), ReadFailure>
-    requires fits { Fits context.nesting (json_data value.now) }
+    requires fits { FitsLimits context.nesting (json_data value.now) }
     requires index { index < 2 ^ 31 }
     requires room { length nodes.old + size (json_data value.now) < 2 ^ 31 }
     ensures { Lists nodes.old nodes.new number (Some (Index index)) result
@@ -325,7 +325,7 @@ fn read_named(
     context: Context,
     misnamed: bool,
 ) -> Result<(), ReadFailure>
-    requires fits { Fits context.nesting (json_data value.now) }
+    requires fits { FitsLimits context.nesting (json_data value.now) }
     requires room { length nodes.old + size (json_data value.now) < 2 ^ 31 }
     ensures { Lists nodes.old nodes.new number (Some (Name key.now)) result
         (first (map (under (Name key.now)) (faults_named context.version context.nesting misnamed (json_data value.now))) (tree_of context.version false (json_data value.now))) }
@@ -352,7 +352,7 @@ fn read_only_container(
     value: &Value<'_, '_>,
     position: Position<'_>,
 ) -> Result<(), ReadFailure>
-    requires fits { Fits position.context.nesting (json_data value.now) }
+    requires fits { FitsLimits position.context.nesting (json_data value.now) }
     requires room { length nodes.old + size (json_data value.now) < 2 ^ 31 }
     ensures { Lists nodes.old nodes.new position.entry.holder position.entry.last result
         (first (faults_named position.entry.context.version position.entry.context.nesting position.entry.misnamed (json_data value.now)) (tree_of position.entry.context.version position.entry.listed (json_data value.now))) }

@@ -1,7 +1,7 @@
 //! Down in the list of a story's nodes.
 
 ghost use Rattle.std.specs.Prelude.{◌≡◌, IfSome, option_map};
-ghost use Rattle.ink_model.specs.Tree.{down};
+ghost use Rattle.ink_model.specs.Story.Tree.{down};
 ghost use Rattle.ink_json.specs.Descent.{tree_at, Stands, size_of, leads};
 ghost use Rattle.ink_json.specs.Order.{key_part};
 

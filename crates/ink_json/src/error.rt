@@ -1,7 +1,7 @@
 //! Why reading stops.
 
 ghost use Rattle.std.specs.Prelude.{◌≡◌};
-ghost use Rattle.ink_model.specs.Grammar.{here};
+ghost use Rattle.ink_model.specs.Story.Grammar.{here};
 ghost use Rattle.ink_model.specs.declared.place.Part.TheVariants.{Index, Name};
 ghost use Rattle.ink_json.specs.Reading.{IsUnder};
 

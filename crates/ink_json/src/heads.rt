@@ -2,7 +2,7 @@
 
 ghost use Rattle.std.specs.Prelude.{◌++◌};
 ghost use Rattle.json_tape.specs.Value.{json_data};
-ghost use Rattle.ink_model.specs.Leaves.{by_head, jump_readings, value_readings, store_readings};
+ghost use Rattle.ink_model.specs.Story.Leaves.{by_head, jump_readings, value_readings, store_readings};
 ghost use Rattle.ink_json.specs.Heads.{Counts, Adds, reading};
 
 use crate::object::Object;
@@ -41,7 +41,7 @@ pub(crate) fn heads<'t, 'a>(object: &Object<'_, 't, 'a>) -> Found<'t, 'a>
     add_stores(found, object)
 }
 
-#[tactic(auto, unfolding(ink_model::specs::Leaves::jump_readings))]
+#[tactic(auto, unfolding(ink_model::specs::Story::Leaves::jump_readings))]
 fn add_jumps<'t, 'a>(found: Found<'t, 'a>, object: &Object<'_, 't, 'a>) -> Found<'t, 'a>
     ensures { Adds jump_readings found.entry (json_data object.now) result }
 {
@@ -52,7 +52,7 @@ fn add_jumps<'t, 'a>(found: Found<'t, 'a>, object: &Object<'_, 't, 'a>) -> Found
     add(found, object, "*", Head::Choice)
 }
 
-#[tactic(auto, unfolding(ink_model::specs::Leaves::value_readings))]
+#[tactic(auto, unfolding(ink_model::specs::Story::Leaves::value_readings))]
 fn add_values<'t, 'a>(found: Found<'t, 'a>, object: &Object<'_, 't, 'a>) -> Found<'t, 'a>
     ensures { Adds value_readings found.entry (json_data object.now) result }
 {
@@ -63,7 +63,7 @@ fn add_values<'t, 'a>(found: Found<'t, 'a>, object: &Object<'_, 't, 'a>) -> Foun
     add(found, object, "#", Head::Tag)
 }
 
-#[tactic(auto, unfolding(ink_model::specs::Leaves::store_readings))]
+#[tactic(auto, unfolding(ink_model::specs::Story::Leaves::store_readings))]
 fn add_stores<'t, 'a>(found: Found<'t, 'a>, object: &Object<'_, 't, 'a>) -> Found<'t, 'a>
     ensures { Adds store_readings found.entry (json_data object.now) result }
 {

@@ -3,8 +3,8 @@
 ghost use Rattle.std.specs.Prelude.{length, nat_lt, Ok, Err, if◌then◌else◌, ok_or};
 ghost use Rattle.serde_json.specs.Find.{as_integer};
 ghost use Rattle.json_tape.specs.Number.{num};
-ghost use Rattle.ink_model.specs.Word.{word};
-ghost use Rattle.ink_model.specs.Leaves.{string_leaf, integer_leaf};
+ghost use Rattle.ink_model.specs.Story.Word.{word};
+ghost use Rattle.ink_model.specs.Story.Leaves.{string_leaf, integer_leaf};
 ghost use Rattle.ink_json.specs.Reading.{Reads, placed};
 
 use crate::error::{ReadFailure, refused};
@@ -17,7 +17,7 @@ use std::alloc::Global;
 
 /// The leaf that a string is.
 #[inline(never)]
-#[tactic(auto, unfolding(ink_model::specs::Leaves::string_leaf))]
+#[tactic(auto, unfolding(ink_model::specs::Story::Leaves::string_leaf))]
 pub(crate) fn read_string(alloc: Global, texts: &mut Texts, text: &str) -> Result<Leaf, ReadFailure>
     ensures { Reads (λ l. l) result (placed (string_leaf text.now)) }
 {

@@ -2,7 +2,7 @@
 
 ghost use Rattle.std.specs.Prelude.{◌≡◌, ℕ, List, [], Some, IfOk, OnOk, option_map};
 ghost use Rattle.serde_json.specs.Data.{Data};
-ghost use Rattle.ink_model.specs.Grammar.{is_taken, with_name, is_misnamed};
+ghost use Rattle.ink_model.specs.Story.Grammar.{is_taken, with_name, is_misnamed};
 ghost use Rattle.ink_json.specs.Reading.{Holds, IsLabel, ending};
 
 use crate::own::Label;

@@ -3,7 +3,7 @@
 ghost use Rattle.std.specs.Prelude.{◌≡◌, option_map};
 ghost use Rattle.serde_json.specs.Find.{get};
 ghost use Rattle.json_tape.specs.Value.{json_data};
-ghost use Rattle.ink_model.specs.Leaves.{object_leaf, is_beyond};
+ghost use Rattle.ink_model.specs.Story.Leaves.{object_leaf, is_beyond};
 ghost use Rattle.ink_json.specs.Reading.{Reads, placed};
 ghost use Rattle.ink_json.specs.Heads.{reading};
 
@@ -65,7 +65,7 @@ impl<'v, 't, 'a> Object<'v, 't, 'a> {
 
 /// The leaf that an object is in a version: it has exactly one head, and none of content that is not supported.
 #[inline(never)]
-#[tactic(auto, unfolding(ink_model::specs::Leaves::object_leaf))]
+#[tactic(auto, unfolding(ink_model::specs::Story::Leaves::object_leaf))]
 pub(crate) fn read_object_leaf(
     alloc: Global,
     texts: &mut Texts,

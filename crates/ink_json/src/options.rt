@@ -2,7 +2,7 @@
 
 ghost use Rattle.std.specs.Prelude.{◌≡◌, option_map};
 ghost use Rattle.json_tape.specs.Value.{json_data};
-ghost use Rattle.ink_model.specs.Leaves.{switch, whole_or, frame_option};
+ghost use Rattle.ink_model.specs.Story.Leaves.{switch, whole_or, frame_option};
 
 use json_tape::value::Value;
 

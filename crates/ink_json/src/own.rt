@@ -3,7 +3,7 @@
 ghost use Rattle.std.specs.Prelude.{◌≡◌, false, true, not, MatchOption, Some, None, option_map, if◌then◌else◌, IfOk};
 ghost use Rattle.json_tape.specs.Other.{has_other};
 ghost use Rattle.json_tape.specs.Value.{json_data, members_of};
-ghost use Rattle.ink_model.specs.Grammar.{own_of, is_last, are_flags, flags_of, is_name, name_in, member_of, flags_key, name_key, is_own};
+ghost use Rattle.ink_model.specs.Story.Grammar.{own_of, is_last, are_flags, flags_of, is_name, name_in, member_of, flags_key, name_key, is_own};
 ghost use Rattle.ink_json.specs.Reading.{IsLabel, is_whole};
 
 use crate::texts::Texts;

@@ -5,7 +5,7 @@ ghost use Rattle.serde_json.specs.Find.{get};
 ghost use Rattle.json_tape.specs.Size.{size};
 ghost use Rattle.json_tape.specs.Spelled.{are_sound, data_of};
 ghost use Rattle.json_tape.specs.Value.{json_data};
-ghost use Rattle.ink_model.specs.Grammar.{here, story, unmarked, json, of_json, of_value, root_of, is_blank_object, version_of};
+ghost use Rattle.ink_model.specs.Story.Grammar.{here, story, unmarked, json, of_json, of_value, root_of, is_blank_object, version_of};
 ghost use Rattle.ink_json.specs.Listing.{IsListed, rebuilt};
 ghost use Rattle.ink_json.specs.Reading.{Reads, ReadsOr, is_parsable, is_parsed};
 ghost use Rattle.ink_json.specs.Story.{tree};
@@ -37,7 +37,7 @@ pub fn read_story(alloc: Global, bytes: &[u8]) -> Result<RawStory, ReadRefusal>
     }
 }
 
-#[tactic(auto, unfolding(ink_model::specs::Grammar::story))]
+#[tactic(auto, unfolding(ink_model::specs::Story::Grammar::story))]
 fn read_nodes(alloc: Global, bytes: &[u8]) -> Result<Nodes, ReadFailure>
     ensures reads { ReadsOr (is_parsed bytes.now) (λ ns. rebuilt ns) result (story bytes.now) }
     ensures listed { IfOk result (λ ns. IsListed ns) }

@@ -3,7 +3,7 @@
 ghost use Rattle.std.specs.Prelude.{◌≡◌, List, ℕ, if◌then◌else◌, IfOk};
 ghost use Rattle.serde_json.specs.Find.{as_str};
 ghost use Rattle.json_tape.specs.Value.{json_data};
-ghost use Rattle.ink_model.specs.Leaves.{read_jump, read_external, read_choice, plain_leaf, read_pointer, read_store, pointer_to, pointer_frame, tag_leaf};
+ghost use Rattle.ink_model.specs.Story.Leaves.{read_jump, read_external, read_choice, plain_leaf, read_pointer, read_store, pointer_to, pointer_frame, tag_leaf};
 ghost use Rattle.ink_model.specs.declared.content.Leaf.{Leaf};
 ghost use Rattle.ink_json.specs.Heads.{jumps, declares, assigns};
 ghost use Rattle.ink_json.specs.Reading.{Reads, placed};

@@ -1,11 +1,11 @@
 //! A story as it was read.
 
 ghost use Rattle.std.specs.Prelude.{◌≡◌, ◌<◌, ◌^◌, length, true, option_map};
-ghost use Rattle.ink_model.specs.Grammar.{IsSpelled};
-ghost use Rattle.ink_model.specs.Narrow.{is_narrow};
-ghost use Rattle.ink_model.specs.Places.{places};
-ghost use Rattle.ink_model.specs.Tree.{at, width};
-ghost use Rattle.ink_model.specs.View.{own_content};
+ghost use Rattle.ink_model.specs.Story.Grammar.{IsSpelled};
+ghost use Rattle.ink_model.specs.Story.Narrow.{is_narrow};
+ghost use Rattle.ink_model.specs.Story.Places.{places};
+ghost use Rattle.ink_model.specs.Story.Tree.{at, width};
+ghost use Rattle.ink_model.specs.Story.View.{own_content};
 ghost use Rattle.ink_json.specs.Listing.{IsListed, rebuilt, story_nodes};
 ghost use Rattle.ink_json.specs.Order.{keys_rise};
 

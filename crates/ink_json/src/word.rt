@@ -1,13 +1,13 @@
 //! The words that stand for leaves.
 
 ghost use Rattle.std.specs.Prelude.{◌≡◌};
-ghost use Rattle.ink_model.specs.Word.{word, operator_word, meant, number_words};
+ghost use Rattle.ink_model.specs.Story.Word.{word, operator_word, meant, number_words};
 ghost use Rattle.ink_json.specs.Words.{evaluation_word, section_word, frame_word, count_word, comparison_word, logic_word};
 
 use ink_model::{Control, Leaf, Op};
 
 /// The leaf that a word stands for.
-#[tactic(auto, unfolding(ink_model::specs::Word::word))]
+#[tactic(auto, unfolding(ink_model::specs::Story::Word::word))]
 pub(crate) fn word_leaf(text: &str) -> Option<Leaf>
     ensures { result ≡ word text.now }
 {
@@ -73,7 +73,7 @@ fn count(text: &str) -> Option<Leaf>
 }
 
 /// The leaf that an operator is.
-#[tactic(auto, unfolding(ink_model::specs::Word::operator_word))]
+#[tactic(auto, unfolding(ink_model::specs::Story::Word::operator_word))]
 fn operator(text: &str) -> Option<Leaf>
     ensures { result ≡ operator_word text.now }
 {

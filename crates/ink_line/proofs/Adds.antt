@@ -1,13 +1,13 @@
 -- A step only adds marks to the line, so that what stands behind an open newline after a step was written in it.
 use Rattle.std.proofs.Common.{◌≡◌, ◌∙◌, refl, sym, ap, append_assoc, append-nil, ◌++◌, ◌||◌, ◌<◌, ℕ, suc, false, drop, length, List, [], ◌∷◌, Option, Some, arith}
 use Rattle.std.proofs.lemmas.List.{drop-append-le, drop_at, drop_all}
-use Rattle.ink_model.specs.Configuration.{Configuration}
-use Rattle.ink_model.specs.Host.{Bound}
-use Rattle.ink_model.specs.Line.{goes_past, page_at}
-use Rattle.ink_model.specs.Run.{Made, Moment, At, answered, came, moment_after, next}
-use Rattle.ink_model.specs.Shown.{has_more, more_from, open_newline}
-use Rattle.ink_model.specs.Step.{Outcome, Next, Stop, Faults, Stepped, Comes, Wants, step}
-use Rattle.ink_model.specs.Tree.{StoryTree}
+use Rattle.ink_model.specs.Run.Configuration.{Configuration}
+use Rattle.ink_model.specs.Host.Bindings.{Bound}
+use Rattle.ink_model.specs.Run.Line.{goes_past, page_at}
+use Rattle.ink_model.specs.Run.Moments.{Made, Moment, At, answered, came, moment_after, next}
+use Rattle.ink_model.specs.Text.Shown.{has_more, more_from, open_newline}
+use Rattle.ink_model.specs.Run.Step.{Outcome, Next, Stop, Faults, Stepped, Comes, Wants, step}
+use Rattle.ink_model.specs.Story.Tree.{StoryTree}
 use Rattle.ink_model.specs.declared.host.Given.{Given}
 use Rattle.ink_model.specs.declared.mark.Mark.{Mark}
 use Rattle.ink_line.proofs.Grows.{OutcomeHolds, SteppedHolds, answered_holds, step_holds}

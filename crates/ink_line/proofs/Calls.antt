@@ -1,10 +1,10 @@
 -- A line calls no turn function where a newline is shown.
 use Rattle.std.proofs.Common.{◌≡◌, refl, subst, arith, ℕ, zero, suc, ◌+◌, ◌<◌, ◌≤◌, inl, inr, List, [], Bool, true, false, Option, Some}
-use Rattle.ink_model.specs.Configuration.{Configuration}
-use Rattle.ink_model.specs.Host.{Bound}
-use Rattle.ink_model.specs.Line.{IsFirm, IsLineOf, calls_in, newline_in, shows}
-use Rattle.ink_model.specs.Run.{Moment, At, moment, next}
-use Rattle.ink_model.specs.Tree.{StoryTree}
+use Rattle.ink_model.specs.Run.Configuration.{Configuration}
+use Rattle.ink_model.specs.Host.Bindings.{Bound}
+use Rattle.ink_model.specs.Run.Line.{IsFirm, IsLineOf, calls_in, newline_in, shows}
+use Rattle.ink_model.specs.Run.Moments.{Moment, At, moment, next}
+use Rattle.ink_model.specs.Story.Tree.{StoryTree}
 use Rattle.ink_model.specs.declared.host.Given.{Given}
 use Rattle.ink_line.specs.Laws.{IsOfLine}
 use Rattle.ink_line.proofs.Firm.{shown_is_firm, steps_to}

@@ -1,11 +1,11 @@
 -- A line needs just the answers that it uses.
 use Rattle.std.proofs.Common.{◌≡◌, refl, sym, ap, ◌∙◌, subst, ℕ, zero, suc, List, [], ◌++◌, Bool, true, false, true≢false, Option, Some, None}
-use Rattle.ink_model.specs.Configuration.{Configuration, begun}
-use Rattle.ink_model.specs.Host.{Bound}
-use Rattle.ink_model.specs.Line.{Line, calls_in, goes_past, is_call, newline_in, page_at, shows}
-use Rattle.ink_model.specs.Run.{Made, Moment, At, Stopped, Waits, came, cut_off, moment, moment_after, next}
-use Rattle.ink_model.specs.Step.{Outcome, Next, Stepped, Comes, Wants, step}
-use Rattle.ink_model.specs.Tree.{StoryTree}
+use Rattle.ink_model.specs.Run.Configuration.{Configuration, begun}
+use Rattle.ink_model.specs.Host.Bindings.{Bound}
+use Rattle.ink_model.specs.Run.Line.{Line, calls_in, goes_past, is_call, newline_in, page_at, shows}
+use Rattle.ink_model.specs.Run.Moments.{Made, Moment, At, Stopped, Waits, came, cut_off, moment, moment_after, next}
+use Rattle.ink_model.specs.Run.Step.{Outcome, Next, Stepped, Comes, Wants, step}
+use Rattle.ink_model.specs.Story.Tree.{StoryTree}
 use Rattle.ink_model.specs.declared.host.Given.{Given}
 use Rattle.ink_model.specs.declared.limits.TheConstants.{MAX_STEPS}
 use Rattle.ink_line.specs.Look.{Search, Seeking, Looking, Over, found, kept_at, look_on, looked, looked_by, looked_on, search, sought, stays_open}

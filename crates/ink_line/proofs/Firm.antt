@@ -1,9 +1,9 @@
 -- A newline that is shown up to a step that makes it firm is firm.
 use Rattle.std.proofs.Common.{◌≡◌, refl, subst, arith, ℕ, zero, suc, ◌+◌, ◌-◌, ◌<◌, ◌≤◌, inr, Bool, true, false, Some}
-use Rattle.ink_model.specs.Host.{Bound}
-use Rattle.ink_model.specs.Line.{IsFirm, MakesFirm, calls_in, goes_on, goes_past, newline_in, open_in, page_at, shows}
-use Rattle.ink_model.specs.Run.{Moment, next}
-use Rattle.ink_model.specs.Tree.{StoryTree}
+use Rattle.ink_model.specs.Host.Bindings.{Bound}
+use Rattle.ink_model.specs.Run.Line.{IsFirm, MakesFirm, calls_in, goes_on, goes_past, newline_in, open_in, page_at, shows}
+use Rattle.ink_model.specs.Run.Moments.{Moment, next}
+use Rattle.ink_model.specs.Story.Tree.{StoryTree}
 use Rattle.ink_line.proofs.Looks.{at_either, last_or_within}
 use Rattle.ink_line.proofs.Moments.{newline_is, went_on}
 use Rattle.ink_line.proofs.Opens.{is_open}

@@ -1,10 +1,10 @@
 -- Searches of runs from a configuration.
 use Rattle.std.proofs.Common.{◌≡◌, refl, sym, ap, ◌∙◌, subst, arith, ℕ, zero, suc, ◌+◌, ◌-◌, ◌≤◌, List, [], true, Option}
-use Rattle.ink_model.specs.Configuration.{Configuration}
-use Rattle.ink_model.specs.Host.{Bound}
-use Rattle.ink_model.specs.Line.{IsLineOf, goes_on}
-use Rattle.ink_model.specs.Run.{Moment, At, moment, next, run}
-use Rattle.ink_model.specs.Tree.{StoryTree}
+use Rattle.ink_model.specs.Run.Configuration.{Configuration}
+use Rattle.ink_model.specs.Host.Bindings.{Bound}
+use Rattle.ink_model.specs.Run.Line.{IsLineOf, goes_on}
+use Rattle.ink_model.specs.Run.Moments.{Moment, At, moment, next, run}
+use Rattle.ink_model.specs.Story.Tree.{StoryTree}
 use Rattle.ink_model.specs.declared.host.Given.{Given}
 use Rattle.ink_line.specs.Look.{Knows, Over, Search, Seeking, found, look_on, search}
 use Rattle.ink_line.proofs.Looks.{found_is, search_knows}

@@ -2,49 +2,49 @@
 use Rattle.std.proofs.Common.{inl, inr, ℕ, suc, ◌^◌, nat_lt, nat_eq, List, [], ◌∷◌, ◌++◌, length, Bool, true, false, ◌||◌, if◌then◌else◌, Option, Some, None, option_and_then, reverse, Result, Ok, Err, ℤ, pos}
 use Rattle.std.specs.List.{list_all, list_any}
 use Rattle.std.proofs.lemmas.Bool.{cases_Bool, cond_both}
-use Rattle.ink_model.specs.Bytes.{fits_text}
-use Rattle.ink_model.specs.Clean.{clean}
-use Rattle.ink_model.specs.Effect.{Effect, Moves, Stores, Offers, Lands, Calls, Returns, Forks, Done, Ends, Fails, Fields, Context, context_of, fields_of, is_fresh, with_fields, with_thread, or_else, or_fault, pushing, writing, writing_text}
-use Rattle.ink_model.specs.Stack.{applied, popped, pushed}
-use Rattle.ink_model.specs.Host.{Binding, Bound, fits_given, pure_function, turn_function, value_given}
-use Rattle.ink_model.specs.Choices.{added, make}
-use Rattle.ink_model.specs.Configuration.{ChoiceOf, Configuration, current_place, ended, with_choices, with_safe}
-use Rattle.ink_model.specs.Choosing.{default_choice, following, stopped_by}
-use Rattle.ink_model.specs.Flow as flow
-use Rattle.ink_model.specs.Flow.{Written, Reached, Reaches, Halts, Breaks, Ending, Continues, Finishes, Collapses, called, reach, depth_of, done_by, doubled_in, enter_for, forked, frames_on, halt, leave_for, moved_on, on_ending, on_page, on_stack, or_breaks, or_end, reach_or_on, returned, thread_of, threads_on, void_for}
-use Rattle.ink_model.specs.Move.{going, may_enter, move, place_to, landed_in, reached_in, written_in}
-use Rattle.ink_model.specs.Run.{answered}
-use Rattle.ink_model.specs.Threads as threads
+use Rattle.ink_model.specs.Text.Bytes.{fits_text}
+use Rattle.ink_model.specs.Text.Clean.{clean}
+use Rattle.ink_model.specs.Run.Effect.{Effect, Moves, Stores, Offers, Lands, Calls, Returns, Forks, Done, Ends, Fails, Fields, Context, context_of, fields_of, is_fresh, with_fields, with_thread, or_else, or_fault, pushing, writing, writing_text}
+use Rattle.ink_model.specs.Values.Stack.{applied, popped, pushed}
+use Rattle.ink_model.specs.Host.Bindings.{Binding, Bound, fits_given, pure_function, turn_function, value_given}
+use Rattle.ink_model.specs.Choices.Making.{added, make}
+use Rattle.ink_model.specs.Run.Configuration.{ChoiceOf, Configuration, current_place, ended, with_choices, with_safe}
+use Rattle.ink_model.specs.Choices.Choosing.{default_choice, following, stopped_by}
+use Rattle.ink_model.specs.Flow.Transfers as flow
+use Rattle.ink_model.specs.Flow.Transfers.{Written, Reached, Reaches, Halts, Breaks, Ending, Continues, Finishes, Collapses, called, reach, depth_of, done_by, doubled_in, enter_for, forked, frames_on, halt, leave_for, moved_on, on_ending, on_page, on_stack, or_breaks, or_end, reach_or_on, returned, thread_of, threads_on, void_for}
+use Rattle.ink_model.specs.Run.Move.{going, may_enter, move, place_to, landed_in, reached_in, written_in}
+use Rattle.ink_model.specs.Run.Moments.{answered}
+use Rattle.ink_model.specs.Flow.Threads as threads
 use Rattle.ink_model.specs.declared.frame.FrameKind.{FrameKind}
-use Rattle.ink_model.specs.Frames.{FrameOf, ThreadOf, ThreadsOf, base_threads, gone, is_function, on_top, put_in}
+use Rattle.ink_model.specs.Flow.Frames.{FrameOf, ThreadOf, ThreadsOf, base_threads, gone, is_function, on_top, put_in}
 use Rattle.ink_model.specs.declared.frame.FrameKind.TheVariants.{Function, Tunnel}
 use Rattle.ink_model.specs.declared.scope.Scope.TheVariants.{Global, Temporary}
-use Rattle.ink_model.specs.Variables as variables
-use Rattle.ink_model.specs.Place.{entered, knot, next_place}
-use Rattle.ink_model.specs.Path.{above}
-use Rattle.ink_model.specs.Acceptance.{lands, leads}
-use Rattle.ink_model.specs.Step.{Outcome, Next, Stop, Faults, Stepped, Comes, Wants, acted, call_made, control_effect, leaf_effect, effect, gone_in, performed, step, step_at}
-use Rattle.ink_model.specs.Step.Calls.{call_to, led_back}
-use Rattle.ink_model.specs.Step.Choices.{offering, was_visited}
-use Rattle.ink_model.specs.Step.Counts.{asking, less_one, pushing_count, visits_at}
-use Rattle.ink_model.specs.Step.Evaluation.{output_popped, push_value}
-use Rattle.ink_model.specs.Step.Host.{Acts, Asks, Call, CallEffect, answering, arguments_of, arguments_on, arguments_taken, call_at, call_bound, call_external, has_string, is_argument, or_fails}
-use Rattle.ink_model.specs.Step.Text.{begin_tag, in_tag, write_tag}
-use Rattle.ink_model.specs.Tree.{StoryTree, at, leaf}
+use Rattle.ink_model.specs.Variables.Access as variables
+use Rattle.ink_model.specs.Run.Place.{content_place, knot, next_place}
+use Rattle.ink_model.specs.Story.Path.{above}
+use Rattle.ink_model.specs.Story.Acceptance.{lands, leads}
+use Rattle.ink_model.specs.Run.Step.{Outcome, Next, Stop, Faults, Stepped, Comes, Wants, acted, call_made, control_effect, leaf_effect, effect, gone_in, performed, step, step_at}
+use Rattle.ink_model.specs.Run.Step.Calls.{call_to, return_landing}
+use Rattle.ink_model.specs.Run.Step.Choices.{offering, was_visited}
+use Rattle.ink_model.specs.Run.Step.Counts.{asking, less_one, pushing_count, visits_at}
+use Rattle.ink_model.specs.Run.Step.Evaluation.{output_popped, push_value}
+use Rattle.ink_model.specs.Run.Step.Host.{Acts, Suspends, Call, CallEffect, answering, arguments_of, arguments_on, arguments_taken, call_at, call_bound, call_external, has_string, is_argument, or_fails}
+use Rattle.ink_model.specs.Run.Step.Text.{begin_tag, in_tag, write_tag}
+use Rattle.ink_model.specs.Story.Tree.{StoryTree, at, leaf}
 use Rattle.ink_model.specs.declared.content.Control.{Control}
 use Rattle.ink_model.specs.declared.content.Control.TheVariants as control
 use Rattle.ink_model.specs.declared.content.Leaf.{Leaf}
 use Rattle.ink_model.specs.declared.content.Leaf.TheVariants as leaves
 use Rattle.ink_model.specs.declared.host.Given.{Given}
 use Rattle.ink_model.specs.declared.place.Part.{Part}
-use Rattle.ink_model.specs.Step.Diverts.{condition, divert_to, landing_by, leaving_fields, led_to, truth_on, where_true}
-use Rattle.ink_model.specs.Step.Text.{beside, closed_tag, keeps_tag}
+use Rattle.ink_model.specs.Run.Step.Diverts.{condition, divert_to, landing_by, leaving_fields, led_to, truth_on, where_true}
+use Rattle.ink_model.specs.Run.Step.Text.{beside, closed_tag, keeps_tag}
 use Rattle.ink_model.specs.declared.value.Value.TheVariants as value
-use Rattle.ink_model.specs.Mark.{cut}
-use Rattle.ink_model.specs.Output.{begins_function, closes_string, closes_string_of, closes_tag, closes_tag_of, ends_function, is_crowded, is_line, is_string, is_text, let_through, noted_in, opens, tagged, with_next, writes_glue, writes_marks, writes_newline, writes_printed, writes_tag, writes_text, writes_value}
-use Rattle.ink_model.specs.Page.{Page, Section, SectionKind, string_section, tag_section}
-use Rattle.ink_model.specs.Shown.{shown_text}
-use Rattle.ink_model.specs.Value.{is_true, printed}
+use Rattle.ink_model.specs.Text.Mark.{cut}
+use Rattle.ink_model.specs.Text.Output.{begins_function, closes_string, closes_string_of, closes_tag, closes_tag_of, ends_function, is_crowded, is_line, is_string, is_text, let_through, noted_in, opens, tagged, with_next, writes_glue, writes_marks, writes_newline, writes_printed, writes_tag, writes_text, writes_value}
+use Rattle.ink_model.specs.Text.Page.{Page, Section, SectionKind, string_section, tag_section}
+use Rattle.ink_model.specs.Text.Shown.{shown_text}
+use Rattle.ink_model.specs.Values.Value.{is_true, printed}
 use Rattle.ink_model.specs.declared.fault.Fault.{Fault}
 use Rattle.ink_model.specs.declared.fault.Fault.TheVariants.{BadMode, BadTarget, NotCounted, TooDeep, Unbound}
 use Rattle.ink_model.specs.declared.limits.TheConstants.{MAX_SECTIONS}
@@ -210,7 +210,7 @@ module _ (Holds : List Mark → Type 0) (grow : (k ms : List Mark) → Holds k �
     -- what a call comes to
     abbrev pub CallHolds : CallEffect → Type 0
     CallHolds (Acts e) = EffectHolds e
-    CallHolds (Asks name arguments f) = Holds f.page.line
+    CallHolds (Suspends name arguments f) = Holds f.page.line
 
     fails_holds : {A : Type 0} → (r : Result (A × Fields) Fault) (so : A × Fields → CallEffect) → Gives Leaves r → ((x : A × Fields) → Leaves x → CallHolds (so x)) → CallHolds (or_fails r so)
     fails_holds (Ok x) so k h = h x k
@@ -241,7 +241,7 @@ module _ (Holds : List Mark → Type 0) (grow : (k ms : List Mark) → Holds k �
     control_holds p control.EndString f h = given_holds Beside (closes_string f.page) _ (string_holds f.page f.page.sections h) (λ x k. pushing_holds (value.Text x.0) (record f { page = x.1; evaluating = true }) k)
     control_holds p control.BeginTag f h = begin_tag_holds f h
     control_holds p control.EndTag f h = given_holds Beside (closed_tag f.stack f.page) _ (closed_tag_holds f.stack f.page h) (λ x k. k)
-    control_holds p control.ReturnTunnel f h = else_holds _ (popped f.stack) _ (λ r. fault_holds (led_back s r.0) _ (λ to. h))
+    control_holds p control.ReturnTunnel f h = else_holds _ (popped f.stack) _ (λ r. fault_holds (return_landing s r.0) _ (λ to. h))
     control_holds p control.ChoiceCount f h = pushing_holds (value.Int (pos (length seen.choices))) f h
     control_holds p control.Turn f h = pushing_holds (value.Int (pos seen.turn)) f h
     control_holds p control.Turns f h = asking_holds _ f h
@@ -347,14 +347,14 @@ module _ (Holds : List Mark → Type 0) (grow : (k ms : List Mark) → Holds k �
     moved_holds ts w h = threads_holds ts.thread ts.below w h
 
     called_holds : (k : FrameKind) (q : List Part) (ts : ThreadsOf (List Part)) (w : Written) → Holds w.page.line → ReachedHolds (called k q ts w)
-    called_holds k q ts w h = breaks_holds (threads.pushed k (depth_of w) ts.thread) _ (λ t. written_holds (enter_for k w) _ (enter_holds k w h) (λ v j. j))
+    called_holds k q ts w h = breaks_holds (threads.frame_pushed k (depth_of w) ts.thread) _ (λ t. written_holds (enter_for k w) _ (enter_holds k w h) (λ v j. j))
 
     reach_or_holds : (o : Option (List Part)) (ts : ThreadsOf (List Part)) (w : Written) → Holds w.page.line → ReachedHolds (reach_or_on after o ts w)
     reach_or_holds None ts w h = moved_holds ts w h
     reach_or_holds (Some q) ts w h = h
 
     returned_holds : (k : FrameKind) (to : Option (List Part)) (ts : ThreadsOf (List Part)) (w : Written) → Holds w.page.line → ReachedHolds (returned after k to ts w)
-    returned_holds k to ts w h = breaks_holds (threads.popped k (depth_of w) ts.thread) _ (λ t. written_holds (leave_for k ts.thread.frame.enter w) _ (leave_holds k ts.thread.frame.enter w h)
+    returned_holds k to ts w h = breaks_holds (threads.frame_popped k (depth_of w) ts.thread) _ (λ t. written_holds (leave_for k ts.thread.frame.enter w) _ (leave_holds k ts.thread.frame.enter w h)
         (λ v j. reach_or_holds to (record ts { thread = t }) v j))
 
     doubled_holds : (r : Reached (List Part)) → ReachedHolds r → ReachedHolds (doubled_in after r)
@@ -416,7 +416,7 @@ module _ (Holds : List Mark → Type 0) (grow : (k ms : List Mark) → Holds k �
 
     made_holds : (k : CallEffect) (c : Configuration) → CallHolds s (context_of c) k → SteppedHolds (call_made s k c)
     made_holds (Acts e) c h = acted_holds e c h
-    made_holds (Asks name arguments f) c h = h
+    made_holds (Suspends name arguments f) c h = h
 
     performed_holds : (b : Bound) (p : List Part) (found : Option StoryTree) (k : Option Call) (c : Configuration) → Holds c.page.line → SteppedHolds (performed s b p found k c)
     performed_holds b p found None c h = acted_holds (effect s p found (context_of c) (fields_of c)) c (effect_holds s (context_of c) p found (fields_of c) h)
@@ -429,7 +429,7 @@ module _ (Holds : List Mark → Type 0) (grow : (k ms : List Mark) → Holds k �
       where
         by : (o : Option (List Part)) → SteppedHolds (step_at s b o c)
         by None = h
-        by (Some p) = performed_holds b (entered s p) (at s (entered s p)) (call_at (at s (entered s p))) (gone_in s p c) h
+        by (Some p) = performed_holds b (content_place s p) (at s (content_place s p)) (call_at (at s (content_place s p))) (gone_in s p c) h
 
     -- and each answer
     pub answered_holds : (f : Fields) (c : Configuration) (gave : Option Given) → Holds f.page.line → OutcomeHolds (answered s f c gave)

@@ -1,9 +1,9 @@
 -- At most one line of a run.
 use Rattle.std.proofs.Common.{◌≡◌, sym, ap, ◌∙◌, ℕ, suc, inl, inr}
-use Rattle.ink_model.specs.Host.{Bound}
-use Rattle.ink_model.specs.Run.{Moment}
-use Rattle.ink_model.specs.Tree.{StoryTree}
-use Rattle.ink_model.specs.Line.{IsLineOf}
+use Rattle.ink_model.specs.Host.Bindings.{Bound}
+use Rattle.ink_model.specs.Run.Moments.{Moment}
+use Rattle.ink_model.specs.Story.Tree.{StoryTree}
+use Rattle.ink_model.specs.Run.Line.{IsLineOf}
 use Rattle.ink_line.proofs.Looks.{order}
 
 pub one_line : (s : StoryTree) (b : Bound) (limit : ℕ) (m : ℕ → Moment) (x y : Moment) → IsLineOf s b limit m x → IsLineOf s b limit m y → x ≡ y

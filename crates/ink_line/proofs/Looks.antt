@@ -1,11 +1,11 @@
 -- A search comes to the line: what it knows after each step.
 use Rattle.std.proofs.Common.{◌≡◌, refl, sym, ap, ◌∙◌, subst, arith, ℕ, zero, suc, ◌<◌, ◌≤◌, inl, inr, ◌⊎◌, List, Bool, true, false, true≢false, Option, Some, None}
-use Rattle.ink_model.specs.Configuration.{Configuration}
-use Rattle.ink_model.specs.Host.{Bound}
-use Rattle.ink_model.specs.Line.{IsFirm, IsLineOf, MakesFirm, NoneBelow, StaysOpen, calls_in, goes_on, goes_past, has_faulted, is_call, newline_in, open_in, page_at, shows}
-use Rattle.ink_model.specs.Run.{Made, Moment, At, Stopped, Faulted, Waits, came, cut_off, moment_after, next}
-use Rattle.ink_model.specs.Step.{Outcome, Next, Stepped, Comes, Wants, step}
-use Rattle.ink_model.specs.Tree.{StoryTree}
+use Rattle.ink_model.specs.Run.Configuration.{Configuration}
+use Rattle.ink_model.specs.Host.Bindings.{Bound}
+use Rattle.ink_model.specs.Run.Line.{IsFirm, IsLineOf, MakesFirm, NoneBelow, StaysOpen, calls_in, goes_on, goes_past, has_faulted, is_call, newline_in, open_in, page_at, shows}
+use Rattle.ink_model.specs.Run.Moments.{Made, Moment, At, Stopped, Faulted, Waits, came, cut_off, moment_after, next}
+use Rattle.ink_model.specs.Run.Step.{Outcome, Next, Stepped, Comes, Wants, step}
+use Rattle.ink_model.specs.Story.Tree.{StoryTree}
 use Rattle.ink_model.specs.declared.host.Given.{Given}
 use Rattle.ink_line.specs.Look.{Knows, Search, Seeking, Looking, Over, found, kept_at, look_on, looked, looked_by, looked_on, search, sought, stays_open}
 use Rattle.ink_line.proofs.Moments.{both, cut_ended, ended_or_faulted, newline_is, no_other, some_same, stays, went_on}

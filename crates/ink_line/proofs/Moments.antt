@@ -2,11 +2,11 @@
 use Rattle.std.proofs.Common.{◌≡◌, refl, sym, ap, ◌∙◌, subst, arith, ℕ, zero, suc, ◌+◌, ◌-◌, ◌≤◌, nat_le, length, Bool, true, false, true≢false, Option, Some, None}
 use Rattle.std.proofs.lemmas.Bool.{cond_both, true_from_ne_false}
 use Rattle.std.proofs.lemmas.Bool.Decides.{nat_tests}
-use Rattle.ink_model.specs.Host.{Bound}
-use Rattle.ink_model.specs.Line.{at_least, calls_in, goes_on, has_faulted, newline_in, open_in, page_at}
-use Rattle.ink_model.specs.Output.{is_line}
-use Rattle.ink_model.specs.Run.{Moment, At, cut_off, next}
-use Rattle.ink_model.specs.Tree.{StoryTree}
+use Rattle.ink_model.specs.Host.Bindings.{Bound}
+use Rattle.ink_model.specs.Run.Line.{at_least, calls_in, goes_on, has_faulted, newline_in, open_in, page_at}
+use Rattle.ink_model.specs.Text.Output.{is_line}
+use Rattle.ink_model.specs.Run.Moments.{Moment, At, cut_off, next}
+use Rattle.ink_model.specs.Story.Tree.{StoryTree}
 use Rattle.ink_line.proofs.Opens.{open_is, shown_below}
 
 pub both : {b : Bool} → b ≡ true → b ≡ false → ⊥

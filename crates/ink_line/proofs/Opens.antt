@@ -3,7 +3,7 @@ use Rattle.std.proofs.Common.{◌≡◌, ℕ, suc, ◌<◌, ◌≤◌, Bool, tru
 use Rattle.std.proofs.lemmas.Bool.{cases_Bool, or_cases, or_left, or_right, eqb-true, eq-eqb, false≢true, both_ways}
 use Rattle.std.proofs.lemmas.List.{reverse-append, reverse-reverse, length-reverse, drop-append-le, drop_all}
 use Rattle.std.proofs.Math.Bool.{or-false}
-use Rattle.ink_model.specs.Shown.{clear, some, ends, newline_shown, newlines_before, is_among, is_shown, open_before, open_newline, has_more, more_from}
+use Rattle.ink_model.specs.Text.Shown.{unhidden_newline, shown_before, newline_last, newline_shown, newlines_before, is_among, is_shown, open_before, open_newline, has_more, more_from}
 use Rattle.ink_model.specs.declared.mark.Mark.{Mark}
 use Rattle.ink_model.specs.declared.mark.Mark.TheVariants.{Text, Newline, Tag}
 
@@ -69,19 +69,19 @@ shown_clear true false e h = absurd (false≢true h)
 shown_clear false s e h = absurd (false≢true h)
 
 -- it is also the last mark shown, but for blanks
-opens_there : (before after : List Mark) (i : ℕ) → is_among i (newlines_before before after) ≡ true → behind before i ≡ false → (ends before after ≡ true) × (open_before before after ≡ Some i)
+opens_there : (before after : List Mark) (i : ℕ) → is_among i (newlines_before before after) ≡ true → behind before i ≡ false → (newline_last before after ≡ true) × (open_before before after ≡ Some i)
 opens_there [] after i e h = absurd (false≢true e)
 opens_there (Text t ∷ before) after i e h = absurd (marked_behind (Text t) before after i refl e h)
 opens_there (Tag t ∷ before) after i e h = absurd (marked_behind (Tag t) before after i refl e h)
 opens_there (Newline ∷ before) after i e h =
-    let shows = clear before after && some before (Newline ∷ after) in
-    let ended = ends before (Newline ∷ after) in
+    let shows = unhidden_newline before after && shown_before before (Newline ∷ after) in
+    let ended = newline_last before (Newline ∷ after) in
     let there : is_among i (newlines_before before (Newline ∷ after)) ≡ true → (ended ≡ true) × (open_before before (Newline ∷ after) ≡ Some i) =
     λ among. opens_there before (Newline ∷ after) i among (plain_behind Newline before after i refl among h) in
     elim (cases_Bool (newline_shown before after)) [
       | inl s ↦
           let among : is_among i (length before ∷ newlines_before before (Newline ∷ after)) ≡ true = rw s at e in
-          let (here, last) = shown_clear (clear before after) (some before (Newline ∷ after)) ended s in (
+          let (here, last) = shown_clear (unhidden_newline before after) (shown_before before (Newline ∷ after)) ended s in (
             or_left shows ended here,
             rw s (elim (or_cases (eqb i (length before)) (is_among i (newlines_before before (Newline ∷ after))) among)
                 [ inl k ↦ ap Some (sym (eqb-true i (length before) k)) | inr k ↦ absurd (both_ways ended last (there k).0) ]),

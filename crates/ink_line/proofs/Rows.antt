@@ -1,16 +1,16 @@
 -- A row of `continue` commands is one run, and the calls among its events are that run's.
 use Rattle.std.proofs.Common.{◌≡◌, refl, sym, ap, ◌∙◌, subst, ℕ, zero, suc, List, [], ◌∷◌, ◌++◌, append-nil, inl, inr, Bool, true, false, MatchBool}
-use Rattle.ink_model.specs.Answer.{Tells, Refuses}
-use Rattle.ink_model.specs.Changed.{Keeps}
-use Rattle.ink_model.specs.Configuration.{Configuration, begun, can_go_on, settled}
-use Rattle.ink_model.specs.Events.{after, calls, later}
-use Rattle.ink_model.specs.Host.{Bindings}
-use Rattle.ink_model.specs.Line.{EndsLine}
-use Rattle.ink_model.specs.Run.{Made, RunEnd, Kept, Broke, At, answers_of}
-use Rattle.ink_model.specs.Session.{ContinueFrom, EndsAs, RunsLine, TellsDone, condition_told, left_with, reply_told, telling}
-use Rattle.ink_model.specs.State.{State, Condition, Ready, Broken}
-use Rattle.ink_model.specs.Told.{saws, told}
-use Rattle.ink_model.specs.Tree.{StoryTree}
+use Rattle.ink_model.specs.Protocol.Answer.{Tells, Refuses}
+use Rattle.ink_model.specs.Protocol.Changed.{OnlyRefuses}
+use Rattle.ink_model.specs.Run.Configuration.{Configuration, begun, can_go_on, settled}
+use Rattle.ink_model.specs.Host.Events.{after, calls, later}
+use Rattle.ink_model.specs.Host.Bindings.{Bindings}
+use Rattle.ink_model.specs.Run.Line.{EndsLine}
+use Rattle.ink_model.specs.Run.Moments.{Made, RunEnd, Kept, Broke, At, answers_of}
+use Rattle.ink_model.specs.Protocol.Session.{ContinueFrom, EndsAs, RunsLine, TellsDone, condition_told, left_with, reply_told, telling}
+use Rattle.ink_model.specs.Protocol.State.{State, Condition, Ready, Broken}
+use Rattle.ink_model.specs.Host.Told.{saws, told}
+use Rattle.ink_model.specs.Story.Tree.{StoryTree}
 use Rattle.ink_model.specs.declared.fault.Refusal.TheVariants as refusal
 use Rattle.ink_model.specs.declared.host.Change.{Change}
 use Rattle.ink_model.specs.declared.host.Event.{Event}
@@ -75,7 +75,7 @@ module _ (s : StoryTree) (h : Bindings) (c : Configuration) (es : List Event) (l
 
   continue_told : (k : Condition) → k ≡ Ready c → ContinueFrom s h es k old (Tells line) new → Told s h c es new
   continue_told (Broken f globals) is x = absurd cc
-  continue_told (Ready d) is x = (elim (can_go_on c) as (λ b. MatchBool b ((made : List Made) × RunsLine s h c made es old (Tells line) new) ((es ≡ []) × Keeps (Refuses refusal.CannotContinue) old (Tells line) new) → Told s h c es new)
+  continue_told (Ready d) is x = (elim (can_go_on c) as (λ b. MatchBool b ((made : List Made) × RunsLine s h c made es old (Tells line) new) ((es ≡ []) × OnlyRefuses (Refuses refusal.CannotContinue) old (Tells line) new) → Told s h c es new)
       [ true ↦ λ y. runs_told y.0 y.1 | false ↦ λ y. absurd (cc y.1.0) ]) (subst (λ k. ContinueFrom s h es k old (Tells line) new) is x)
 
 -- ---- rows

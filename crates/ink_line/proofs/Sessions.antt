@@ -2,27 +2,27 @@
 use Rattle.std.specs.Prelude.{◌≡◌, ℕ, pos, List, [], ◌∷◌, ◌++◌, refl, codes, true, false, Some, None}
 use Rattle.std.proofs.Common.{inl, inr, lit≤, subst, arith}
 use Rattle.serde_json.proofs.OnLiterals.{serde_json_on_literals}
-use Rattle.ink_model.specs.Answer.{Tells, Refuses, Breaks, answer}
-use Rattle.ink_model.specs.CallStories.{does, says, story}
-use Rattle.ink_model.specs.Clean.{clean}
-use Rattle.ink_model.specs.Configuration.{Configuration, begun, fresh_at, moved, put_at, settled, start, with_safe}
-use Rattle.ink_model.specs.Effect.{with_page}
-use Rattle.ink_model.specs.Entered.{entered_places, passed_places}
-use Rattle.ink_model.specs.Examples.{continue_line}
-use Rattle.ink_model.specs.Flows.{one_flow}
-use Rattle.ink_model.specs.Host.{no_objects, nothing_bound}
-use Rattle.ink_model.specs.Line.{EndsLine, is_call}
-use Rattle.ink_model.specs.Mark.{cut}
-use Rattle.ink_model.specs.Memory.{LooksFrom}
-use Rattle.ink_model.specs.Opening.{opened}
-use Rattle.ink_model.specs.Passage.{passage}
-use Rattle.ink_model.specs.Place.{entered, next_place}
-use Rattle.ink_model.specs.Run.{At, Stopped, Kept, moment}
-use Rattle.ink_model.specs.Session.{Continue, Serves, Session}
-use Rattle.ink_model.specs.State.{State, Ready, Broken}
-use Rattle.ink_model.specs.Step.{step}
-use Rattle.ink_model.specs.Store.{Values}
-use Rattle.ink_model.specs.Tree.{StoryTree, leaf}
+use Rattle.ink_model.specs.Protocol.Answer.{Tells, Refuses, Breaks, answer}
+use Rattle.ink_model.specs.Examples.CallStories.{does, says, story}
+use Rattle.ink_model.specs.Text.Clean.{clean}
+use Rattle.ink_model.specs.Run.Configuration.{Configuration, begun, fresh_at, moved, put_at, settled, start, with_safe}
+use Rattle.ink_model.specs.Run.Effect.{with_page}
+use Rattle.ink_model.specs.Run.Entered.{entered_places, passed_places}
+use Rattle.ink_model.specs.Examples.Basics.{continue_line}
+use Rattle.ink_model.specs.Run.Flows.{one_flow}
+use Rattle.ink_model.specs.Host.Bindings.{no_objects, nothing_bound}
+use Rattle.ink_model.specs.Run.Line.{EndsLine, is_call}
+use Rattle.ink_model.specs.Text.Mark.{cut}
+use Rattle.ink_model.specs.Memory.Refusals.{LooksFrom}
+use Rattle.ink_model.specs.Run.Opening.{opened}
+use Rattle.ink_model.specs.Protocol.Passage.{passage}
+use Rattle.ink_model.specs.Run.Place.{content_place, next_place}
+use Rattle.ink_model.specs.Run.Moments.{At, Stopped, Kept, moment}
+use Rattle.ink_model.specs.Protocol.Session.{Continue, Serves, Session}
+use Rattle.ink_model.specs.Protocol.State.{State, Ready, Broken}
+use Rattle.ink_model.specs.Run.Step.{step}
+use Rattle.ink_model.specs.Variables.Store.{Values}
+use Rattle.ink_model.specs.Story.Tree.{StoryTree, leaf}
 use Rattle.ink_model.specs.declared.content.Control.TheVariants as control
 use Rattle.ink_model.specs.declared.content.Leaf.TheVariants as leaves
 use Rattle.ink_model.specs.declared.fault.Fault.TheVariants as fault
@@ -52,11 +52,11 @@ abbrev after_b : Configuration
 after_b = with_safe true (put_at None (showing (Text (codes "b") ∷ Newline ∷ []) (moved (Index 0 ∷ Index 3 ∷ []) (Some (Index 1 ∷ [])) (settled after_a))))
 
 first_search : search two nothing_bound 3 (Seeking (At (begun (start two [])) [] [])) ≡ Over (At after_a [] [])
-unfolding search step start fresh_at entered next_place passed_places entered_places cut
+unfolding search step start fresh_at content_place next_place passed_places entered_places cut
 first_search = refl
 
 second_search : search two nothing_bound 3 (Seeking (At (begun (settled after_a)) [] [])) ≡ Over (Stopped after_b [] [])
-unfolding search step start fresh_at entered next_place passed_places entered_places cut settled
+unfolding search step start fresh_at content_place next_place passed_places entered_places cut settled
 second_search = refl
 
 first_line : EndsLine two nothing_bound (start two []) [] (Kept after_a)
@@ -85,11 +85,11 @@ past_a = showing (Text (codes "a") ∷ Newline ∷ []) (moved (Index 0 ∷ Index
 
 -- the look has come past it, and the step there calls nothing
 six_steps : search sets nothing_bound 6 (Seeking (At (begun (start sets (x_is 1))) [] [])) ≡ Looking (At behind_a [] []) 1 (At past_a [] [])
-unfolding search step start fresh_at entered next_place passed_places entered_places cut
+unfolding search step start fresh_at content_place next_place passed_places entered_places cut
 six_steps = refl
 
 says_more : is_call (step sets nothing_bound past_a) ≡ false
-unfolding step start fresh_at entered next_place passed_places entered_places cut
+unfolding step start fresh_at content_place next_place passed_places entered_places cut
 says_more = refl
 
 -- so memory may be refused there; then the command faults, and x is as it was behind the newline

@@ -5,10 +5,10 @@ use Rattle.std.proofs.lemmas.Bool.{cases_Bool, cond_both, or_cases, or_left, or_
 use Rattle.std.proofs.lemmas.List.{length-reverse, reverse-append, reverse-reverse}
 use Rattle.std.proofs.lemmas.List.Folds.{list_any-append}
 use Rattle.std.proofs.lemmas.List.Sorted.{list_any-IsPermutation, IsPermutation-reverse}
-use Rattle.ink_model.specs.Bytes.{has_newline, is_blank, is_white, leading, trailing, trimmed, without}
-use Rattle.ink_model.specs.Mark.{cut, cut_end, piece}
-use Rattle.ink_model.specs.Output.{let_through}
-use Rattle.ink_model.specs.Shown.{blank_shown, broken, clear, covered, ends, glued, glues, has_more, has_text, is_among, is_shown, more_from, newline_shown, newlines_before, passes, some}
+use Rattle.ink_model.specs.Text.Bytes.{has_newline, is_blank, is_white, leading, trailing, trimmed, without}
+use Rattle.ink_model.specs.Text.Mark.{cut, cut_end, piece}
+use Rattle.ink_model.specs.Text.Output.{let_through}
+use Rattle.ink_model.specs.Text.Shown.{blank_shown, newline_before, unhidden_newline, covered, newline_last, glued, glues, has_more, has_text, is_among, is_shown, more_from, newline_shown, newlines_before, passes, shown_before}
 use Rattle.ink_model.specs.declared.mark.Mark.{Mark}
 use Rattle.ink_model.specs.declared.mark.Mark.TheVariants.{Text, Blank, Newline, Glue, Tag, Enter, Leave}
 
@@ -43,33 +43,33 @@ behind_text (Text t ∷ ms) ns h = record { glue = refl; gluing = refl; covers =
 behind_text (m ∷ ms) ns h = one_more m ms (ms ++ ns) (behind_text ms ns h)
 
 blank_alike : (before xs ys : List Mark) → Alike xs ys → blank_shown before xs ≡ blank_shown before ys
-blank_alike before xs ys h = ap (λ c. not (c || (broken before && glued xs))) (h.covers []) ∙ ap (λ g. not (covered [] ys || (broken before && g))) h.glue
+blank_alike before xs ys h = ap (λ c. not (c || (newline_before before && glued xs))) (h.covers []) ∙ ap (λ g. not (covered [] ys || (newline_before before && g))) h.glue
 
-clear_alike : (before xs ys : List Mark) → Alike xs ys → clear before xs ≡ clear before ys
+clear_alike : (before xs ys : List Mark) → Alike xs ys → unhidden_newline before xs ≡ unhidden_newline before ys
 clear_alike before xs ys h = ap (λ c. not (glued before || (glues xs || c))) (h.covers []) ∙ ap (λ g. not (glued before || (g || covered [] ys))) h.gluing
 
-some_alike : (before xs ys : List Mark) → Alike xs ys → some before xs ≡ some before ys
+some_alike : (before xs ys : List Mark) → Alike xs ys → shown_before before xs ≡ shown_before before ys
 some_alike [] xs ys h = refl
 some_alike (Text t ∷ before) xs ys h = refl
-some_alike (Blank t ∷ before) xs ys h = ap (λ b. b || some before (Blank t ∷ xs)) (blank_alike before xs ys h) ∙ ap (λ b. blank_shown before ys || b) (some_alike before (Blank t ∷ xs) (Blank t ∷ ys) (one_more (Blank t) xs ys h))
+some_alike (Blank t ∷ before) xs ys h = ap (λ b. b || shown_before before (Blank t ∷ xs)) (blank_alike before xs ys h) ∙ ap (λ b. blank_shown before ys || b) (some_alike before (Blank t ∷ xs) (Blank t ∷ ys) (one_more (Blank t) xs ys h))
 some_alike (m ∷ before) xs ys h = some_alike before (m ∷ xs) (m ∷ ys) (one_more m xs ys h)
 
-ends_alike : (before xs ys : List Mark) → Alike xs ys → ends before xs ≡ ends before ys
+ends_alike : (before xs ys : List Mark) → Alike xs ys → newline_last before xs ≡ newline_last before ys
 ends_alike [] xs ys h = refl
 ends_alike (Text t ∷ before) xs ys h = refl
 ends_alike (Newline ∷ before) xs ys h =
     let next = one_more Newline xs ys h in
-    ap (λ c. (c && some before (Newline ∷ xs)) || ends before (Newline ∷ xs)) (clear_alike before xs ys h)
-    ∙ ap (λ b. (clear before ys && b) || ends before (Newline ∷ xs)) (some_alike before (Newline ∷ xs) (Newline ∷ ys) next)
-    ∙ ap (λ b. (clear before ys && some before (Newline ∷ ys)) || b) (ends_alike before (Newline ∷ xs) (Newline ∷ ys) next)
+    ap (λ c. (c && shown_before before (Newline ∷ xs)) || newline_last before (Newline ∷ xs)) (clear_alike before xs ys h)
+    ∙ ap (λ b. (unhidden_newline before ys && b) || newline_last before (Newline ∷ xs)) (some_alike before (Newline ∷ xs) (Newline ∷ ys) next)
+    ∙ ap (λ b. (unhidden_newline before ys && shown_before before (Newline ∷ ys)) || b) (ends_alike before (Newline ∷ xs) (Newline ∷ ys) next)
 ends_alike (m ∷ before) xs ys h = ends_alike before (m ∷ xs) (m ∷ ys) (one_more m xs ys h)
 
 shown_alike : (before xs ys : List Mark) → Alike xs ys → newline_shown before xs ≡ newline_shown before ys
 shown_alike before xs ys h =
     let next = one_more Newline xs ys h in
-    ap (λ c. c && (some before (Newline ∷ xs) && not (ends before (Newline ∷ xs)))) (clear_alike before xs ys h)
-    ∙ ap (λ b. clear before ys && (b && not (ends before (Newline ∷ xs)))) (some_alike before (Newline ∷ xs) (Newline ∷ ys) next)
-    ∙ ap (λ b. clear before ys && (some before (Newline ∷ ys) && not b)) (ends_alike before (Newline ∷ xs) (Newline ∷ ys) next)
+    ap (λ c. c && (shown_before before (Newline ∷ xs) && not (newline_last before (Newline ∷ xs)))) (clear_alike before xs ys h)
+    ∙ ap (λ b. unhidden_newline before ys && (b && not (newline_last before (Newline ∷ xs)))) (some_alike before (Newline ∷ xs) (Newline ∷ ys) next)
+    ∙ ap (λ b. unhidden_newline before ys && (shown_before before (Newline ∷ ys) && not b)) (ends_alike before (Newline ∷ xs) (Newline ∷ ys) next)
 
 -- ---- a shown newline among the marks
 

@@ -1,13 +1,13 @@
 -- The laws of lines.
 use Rattle.std.specs.Prelude.{◌≡◌, ℕ, suc, ◌<◌, ◌≤◌, List, [], ◌++◌, length, true, false, Option, Some}
 use Rattle.std.proofs.Common.{inl, inr}
-use Rattle.ink_model.specs.Configuration.{Configuration, begun}
-use Rattle.ink_model.specs.Host.{Bindings, Bound}
-use Rattle.ink_model.specs.Line.{IsFirm, IsLineOf, Line, MakesFirm, calls_in, goes_on, goes_past, newline_in, open_in, page_at, shows}
-use Rattle.ink_model.specs.Run.{Made, Moment, At, answers_of, moment, next}
-use Rattle.ink_model.specs.Shown.{more_from}
-use Rattle.ink_model.specs.State.{State, Ready}
-use Rattle.ink_model.specs.Tree.{StoryTree}
+use Rattle.ink_model.specs.Run.Configuration.{Configuration, begun}
+use Rattle.ink_model.specs.Host.Bindings.{Bindings, Bound}
+use Rattle.ink_model.specs.Run.Line.{IsFirm, IsLineOf, Line, MakesFirm, calls_in, goes_on, goes_past, newline_in, open_in, page_at, shows}
+use Rattle.ink_model.specs.Run.Moments.{Made, Moment, At, answers_of, moment, next}
+use Rattle.ink_model.specs.Text.Shown.{more_from}
+use Rattle.ink_model.specs.Protocol.State.{State, Ready}
+use Rattle.ink_model.specs.Story.Tree.{StoryTree}
 use Rattle.ink_model.specs.declared.host.Event.{Event}
 use Rattle.ink_model.specs.declared.host.Given.{Given}
 use Rattle.ink_line.specs.Look.{Knows, Over, Seeking, found, search}

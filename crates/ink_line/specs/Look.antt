@@ -1,12 +1,12 @@
 -- Looking for a line, forward: at a newline the moment is kept; then the run goes on, until it goes back there or forgets it.
 use Rattle.std.specs.Prelude.{◌≡◌, ℕ, zero, suc, length, Bool, true, false, if◌then◌else◌, Option, Some, None}
-use Rattle.ink_model.specs.Host.{Bound}
-use Rattle.ink_model.specs.Line.{IsLineOf, NoneBelow, StaysOpen, at_least, calls_in, goes_on, goes_past, newline_in, shows}
-use Rattle.ink_model.specs.Output.{is_line}
-use Rattle.ink_model.specs.Page.{Page}
-use Rattle.ink_model.specs.Run.{Moment, At, Stopped, cut_off, next}
-use Rattle.ink_model.specs.Shown.{open_newline}
-use Rattle.ink_model.specs.Tree.{StoryTree}
+use Rattle.ink_model.specs.Host.Bindings.{Bound}
+use Rattle.ink_model.specs.Run.Line.{IsLineOf, NoneBelow, StaysOpen, at_least, calls_in, goes_on, goes_past, newline_in, shows}
+use Rattle.ink_model.specs.Text.Output.{is_line}
+use Rattle.ink_model.specs.Text.Page.{Page}
+use Rattle.ink_model.specs.Run.Moments.{Moment, At, Stopped, cut_off, next}
+use Rattle.ink_model.specs.Text.Shown.{open_newline}
+use Rattle.ink_model.specs.Story.Tree.{StoryTree}
 
 -- no newline is open; or one is, by its index, and the moment after its step is kept; or the line is known
 pub data Search : Type 0 where

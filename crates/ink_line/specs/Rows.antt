@@ -1,14 +1,14 @@
 -- Lines one after another, with nothing between them, and the one run that they are.
 use Rattle.std.specs.Prelude.{◌≡◌, ℕ, zero, suc, List, [], ◌∷◌, ◌++◌, Option, Some}
-use Rattle.ink_model.specs.Answer.{Tells}
-use Rattle.ink_model.specs.Command as command
-use Rattle.ink_model.specs.Configuration.{Configuration, begun, settled}
-use Rattle.ink_model.specs.Host.{Bindings, Bound}
-use Rattle.ink_model.specs.Line.{EndsLine}
-use Rattle.ink_model.specs.Run.{Made, Moment, At, Stopped, Faulted, Waits, Kept, answers_of, run}
-use Rattle.ink_model.specs.Session.{Does}
-use Rattle.ink_model.specs.State.{State, Ready}
-use Rattle.ink_model.specs.Tree.{StoryTree}
+use Rattle.ink_model.specs.Protocol.Answer.{Tells}
+use Rattle.ink_model.specs.Protocol.Command as command
+use Rattle.ink_model.specs.Run.Configuration.{Configuration, begun, settled}
+use Rattle.ink_model.specs.Host.Bindings.{Bindings, Bound}
+use Rattle.ink_model.specs.Run.Line.{EndsLine}
+use Rattle.ink_model.specs.Run.Moments.{Made, Moment, At, Stopped, Faulted, Waits, Kept, answers_of, run}
+use Rattle.ink_model.specs.Protocol.Session.{Does}
+use Rattle.ink_model.specs.Protocol.State.{State, Ready}
+use Rattle.ink_model.specs.Story.Tree.{StoryTree}
 use Rattle.ink_model.specs.declared.host.Event.{Event}
 use Rattle.ink_model.specs.declared.host.Event.TheVariants as event
 use Rattle.ink_model.specs.declared.host.Given.{Given}

@@ -7,20 +7,20 @@ use Rattle.ink_line.proofs.Opens.{open_is}
 use Rattle.ink_line.proofs.Stands.{Stands, has_words, stands_on, stands_shown, words_stand}
 use Rattle.ink_line.specs.Look.{Looking, Over, look_on, looked, looked_by, looked_on}
 use Rattle.ink_look.specs.Ahead.{is_worded, writes_words}
-use Rattle.ink_model.specs.Configuration.{Configuration, current_place}
-use Rattle.ink_model.specs.Effect.{Fields, fields_of, is_fresh, pushing, writing_text}
-use Rattle.ink_model.specs.Host.{Bound}
-use Rattle.ink_model.specs.Line.{is_call}
-use Rattle.ink_model.specs.Mark.{cut}
-use Rattle.ink_model.specs.Move.{Outcome, Next, Stop, Faults}
-use Rattle.ink_model.specs.Output.{is_crowded, is_line, is_text, let_through, noted, noted_in, writes_text}
-use Rattle.ink_model.specs.Page.{Page, Section}
-use Rattle.ink_model.specs.Run.{Made, Moment, At, Stopped, came, moment_after}
-use Rattle.ink_model.specs.Shown.{is_shown, more_from, open_newline}
-use Rattle.ink_model.specs.Step.{Comes, acted, gone_in, performed, step, step_at}
-use Rattle.ink_model.specs.Step.Host.{call_at}
-use Rattle.ink_model.specs.Step.Text.{write_text}
-use Rattle.ink_model.specs.Tree.{StoryTree, at, leaf, container}
+use Rattle.ink_model.specs.Run.Configuration.{Configuration, current_place}
+use Rattle.ink_model.specs.Run.Effect.{Fields, fields_of, is_fresh, pushing, writing_text}
+use Rattle.ink_model.specs.Host.Bindings.{Bound}
+use Rattle.ink_model.specs.Run.Line.{is_call}
+use Rattle.ink_model.specs.Text.Mark.{cut}
+use Rattle.ink_model.specs.Run.Move.{Outcome, Next, Stop, Faults}
+use Rattle.ink_model.specs.Text.Output.{is_crowded, is_line, is_text, let_through, noted, noted_in, writes_text}
+use Rattle.ink_model.specs.Text.Page.{Page, Section}
+use Rattle.ink_model.specs.Run.Moments.{Made, Moment, At, Stopped, came, moment_after}
+use Rattle.ink_model.specs.Text.Shown.{is_shown, more_from, open_newline}
+use Rattle.ink_model.specs.Run.Step.{Comes, acted, gone_in, performed, step, step_at}
+use Rattle.ink_model.specs.Run.Step.Host.{call_at}
+use Rattle.ink_model.specs.Run.Step.Text.{write_text}
+use Rattle.ink_model.specs.Story.Tree.{StoryTree, at, leaf, container}
 use Rattle.ink_model.specs.declared.content.Leaf.{Leaf}
 use Rattle.ink_model.specs.declared.content.Leaf.TheVariants as leaves
 use Rattle.ink_model.specs.declared.fault.Fault.{Fault}

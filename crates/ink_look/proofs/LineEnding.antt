@@ -1,15 +1,15 @@
 -- What a line comes to, from the search that is made for it.
 use Rattle.std.proofs.Common.{◌≡◌, ap, refl, subst, inl, inr, ℕ, List, [], Bool, true, false, Ok}
-use Rattle.ink_model.specs.Line.{Line}
+use Rattle.ink_model.specs.Run.Line.{Line}
 use Rattle.ink_host.specs.Desk.{DeskView}
 use Rattle.ink_look.specs.LineEnds.{ComesToLine, LineFalls, LineShort, LineStopsAtRefusal, RunsLine, RunsToLine, SaysLine}
-use Rattle.ink_look.specs.Words.{said, said_asks}
+use Rattle.ink_look.specs.Said.{said, said_asks}
 use Rattle.ink_look.specs.declared.lines.LineEnd.{LineEnd}
 use Rattle.ink_look.specs.declared.lines.LineEnd.TheVariants as line_ends
-use Rattle.ink_model.specs.Configuration.{Configuration, begun}
-use Rattle.ink_model.specs.Host.{Bound}
-use Rattle.ink_model.specs.Run.{Broke, Kept, Made, Moment, At, Stopped, Faulted, answers_of}
-use Rattle.ink_model.specs.Tree.{StoryTree}
+use Rattle.ink_model.specs.Run.Configuration.{Configuration, begun}
+use Rattle.ink_model.specs.Host.Bindings.{Bound}
+use Rattle.ink_model.specs.Run.Moments.{Broke, Kept, Made, Moment, At, Stopped, Faulted, answers_of}
+use Rattle.ink_model.specs.Story.Tree.{StoryTree}
 use Rattle.ink_model.specs.declared.fault.Fault.{Fault}
 use Rattle.ink_effects.specs.Refusals.{KeepsRefusals}
 

@@ -5,7 +5,7 @@ use Rattle.ink_host.specs.Desk.{DeskView, Grew, bound_by}
 use Rattle.ink_host.specs.declared.objects.Called.{Called}
 use Rattle.ink_host.specs.declared.objects.Seen.{Seen}
 use Rattle.ink_host.proofs.Laws.{bound-same, grew-grew, grew-none}
-use Rattle.ink_model.specs.Line.{NoneBelow, is_call}
+use Rattle.ink_model.specs.Run.Line.{NoneBelow, is_call}
 use Rattle.ink_line.specs.Look.{Knows, Over, Search, Seeking, found, look_on, newline_between, search, sought}
 use Rattle.ink_line.proofs.Found.{finds, knows, over_is}
 use Rattle.ink_look.proofs.Steps.{kept_found}
@@ -13,14 +13,14 @@ use Rattle.ink_look.specs.LineEnds.{ComesToLine, LineShort, RunsToLine}
 use Rattle.ink_look.specs.Looking.{FindsAs, MarksHere, StepsOn, found_of, search_after, search_at, stepped}
 use Rattle.ink_look.specs.declared.looking.Looked.{Looked}
 use Rattle.ink_look.specs.declared.looking.Looked.TheVariants as after
-use Rattle.ink_model.specs.Configuration.{Configuration}
-use Rattle.ink_model.specs.Events.{Made, calls}
-use Rattle.ink_model.specs.Host.{Bound}
-use Rattle.ink_model.specs.Memory.{GetsTo}
-use Rattle.ink_model.specs.Run.{Moment, At, Stopped, Faulted, answers_of, came, moment}
-use Rattle.ink_model.specs.Asks.{asks}
-use Rattle.ink_model.specs.Step.{step}
-use Rattle.ink_model.specs.Tree.{StoryTree}
+use Rattle.ink_model.specs.Run.Configuration.{Configuration}
+use Rattle.ink_model.specs.Host.Events.{Made, calls}
+use Rattle.ink_model.specs.Host.Bindings.{Bound}
+use Rattle.ink_model.specs.Memory.Refusals.{GetsTo}
+use Rattle.ink_model.specs.Run.Moments.{Moment, At, Stopped, Faulted, answers_of, came, moment}
+use Rattle.ink_model.specs.Memory.Asks.{asks}
+use Rattle.ink_model.specs.Run.Step.{step}
+use Rattle.ink_model.specs.Story.Tree.{StoryTree}
 use Rattle.ink_model.specs.declared.fault.Fault.{Fault}
 use Rattle.ink_model.specs.declared.fault.Fault.TheVariants.{OutOfSteps}
 use Rattle.ink_model.specs.declared.host.Event.{Event}

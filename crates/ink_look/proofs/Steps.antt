@@ -1,23 +1,23 @@
 -- Steps of a loop that looks for a line, by what a step of the machine comes to.
 use Rattle.std.proofs.Common.{◌≡◌, ◌∙◌, ◌||◌, ap, arith, sym, refl, subst, length, nat_le, if◌then◌else◌, ◌≤◌, ◌<◌, ℕ, suc, List, [], Bool, true, false, Option, None, Some, Result, Ok, Err}
 use Rattle.std.proofs.lemmas.Bool.{leb-true}
-use Rattle.ink_model.specs.Line.{at_least, is_call}
+use Rattle.ink_model.specs.Run.Line.{at_least, is_call}
 use Rattle.ink_line.specs.Look.{Looking, Over, Search, kept_at, look_on, looked, looked_by, looked_on, newline_between}
 use Rattle.ink_line.proofs.Opens.{is_open, open_is, shown_below}
 use Rattle.ink_look.specs.Looking.{FindsAs, MarksHere, StandsAs, StepsOn, found_of, newline_from, search_after, stepped}
 use Rattle.ink_look.specs.declared.looking.Looked.{Looked}
 use Rattle.ink_look.specs.declared.looking.Looked.TheVariants as after
 use Rattle.ink_look.specs.declared.looking.Standing.TheVariants as standing
-use Rattle.ink_model.specs.Asks.{asks}
-use Rattle.ink_model.specs.Configuration.{Configuration}
-use Rattle.ink_model.specs.Host.{Bound}
-use Rattle.ink_model.specs.Move.{Outcome, Next, Stop, Faults}
-use Rattle.ink_model.specs.Output.{is_line}
-use Rattle.ink_model.specs.Page.{Page}
-use Rattle.ink_model.specs.Run.{Made, Moment, At, Stopped, came, moment_after}
-use Rattle.ink_model.specs.Shown.{is_shown, more_from, open_newline}
-use Rattle.ink_model.specs.Step.{Stepped, Comes, Wants, step}
-use Rattle.ink_model.specs.Tree.{StoryTree}
+use Rattle.ink_model.specs.Memory.Asks.{asks}
+use Rattle.ink_model.specs.Run.Configuration.{Configuration}
+use Rattle.ink_model.specs.Host.Bindings.{Bound}
+use Rattle.ink_model.specs.Run.Move.{Outcome, Next, Stop, Faults}
+use Rattle.ink_model.specs.Text.Output.{is_line}
+use Rattle.ink_model.specs.Text.Page.{Page}
+use Rattle.ink_model.specs.Run.Moments.{Made, Moment, At, Stopped, came, moment_after}
+use Rattle.ink_model.specs.Text.Shown.{is_shown, more_from, open_newline}
+use Rattle.ink_model.specs.Run.Step.{Stepped, Comes, Wants, step}
+use Rattle.ink_model.specs.Story.Tree.{StoryTree}
 use Rattle.ink_model.specs.declared.fault.Fault.{Fault}
 use Rattle.ink_model.specs.declared.fault.Fault.TheVariants.{OutOfMemory}
 use Rattle.ink_model.specs.declared.host.Event.{Event}
@@ -25,7 +25,7 @@ use Rattle.ink_model.specs.declared.host.Given.{Given}
 use Rattle.ink_model.specs.declared.mark.Mark.{Mark}
 use Rattle.ink_step.specs.Marks.{presses, stood_of, unmarked}
 use Rattle.ink_step.specs.Steps.{StepEnds, StepMakes, Steps}
-use Rattle.ink_step.specs.Words.{config_of}
+use Rattle.ink_step.specs.Standing.{config_of}
 use Rattle.ink_step.specs.declared.machine.Machine.{Machine}
 use Rattle.ink_moves.specs.declared.flow.StepEnd.{StepEnd}
 use Rattle.ink_moves.specs.declared.flow.StepEnd.TheVariants as ends

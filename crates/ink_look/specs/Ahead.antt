@@ -1,10 +1,10 @@
 -- What the next step writes, by where flow is.
 use Rattle.std.specs.Prelude.{Bool, false, not, ◌&&◌, Option, Some, option_and_then}
 use Rattle.std.specs.List.{list_any}
-use Rattle.ink_model.specs.Bytes.{is_white}
-use Rattle.ink_model.specs.Configuration.{Configuration, current_place}
-use Rattle.ink_model.specs.Output.{is_line}
-use Rattle.ink_model.specs.Tree.{StoryTree, at}
+use Rattle.ink_model.specs.Text.Bytes.{is_white}
+use Rattle.ink_model.specs.Run.Configuration.{Configuration, current_place}
+use Rattle.ink_model.specs.Text.Output.{is_line}
+use Rattle.ink_model.specs.Story.Tree.{StoryTree, at}
 use Rattle.ink_model.specs.declared.content.Leaf.{Leaf}
 use Rattle.ink_model.specs.declared.content.Leaf.TheVariants as leaves
 use Rattle.ink_tree.specs.Kept.{leaf_in}

@@ -1,10 +1,10 @@
 -- How running commands end, with the calls that they made.
 use Rattle.std.specs.Prelude.{◌≡◌, ◌⊎◌, List, Bool, true, Result, Ok, Err}
-use Rattle.ink_model.specs.Configuration.{Configuration, settled}
-use Rattle.ink_model.specs.Host.{Bound}
-use Rattle.ink_model.specs.Memory.{FallsShort}
-use Rattle.ink_model.specs.Run.{Broke, EndsThrough, Kept, Made, RunEnd}
-use Rattle.ink_model.specs.Tree.{StoryTree}
+use Rattle.ink_model.specs.Run.Configuration.{Configuration, settled}
+use Rattle.ink_model.specs.Host.Bindings.{Bound}
+use Rattle.ink_model.specs.Memory.Refusals.{FallsShort}
+use Rattle.ink_model.specs.Run.Moments.{Broke, EndsThrough, Kept, Made, RunEnd}
+use Rattle.ink_model.specs.Story.Tree.{StoryTree}
 use Rattle.ink_model.specs.declared.fault.Fault.{Fault}
 use Rattle.ink_model.specs.declared.fault.Fault.TheVariants.{OutOfMemory}
 

@@ -3,13 +3,13 @@ use Rattle.std.specs.Prelude.{◌≡◌, ◌⊎◌, List, Bool, Result, Err}
 use Rattle.ink_look.specs.Ends.{EndsWith}
 use Rattle.ink_look.specs.declared.passages.Extent.{Extent}
 use Rattle.ink_look.specs.declared.passages.Extent.TheVariants as extent
-use Rattle.ink_model.specs.Configuration.{Configuration}
-use Rattle.ink_model.specs.Host.{Bound}
-use Rattle.ink_model.specs.Line.{EndsLine}
-use Rattle.ink_model.specs.Memory.{FallsShort, LineFallsShort}
-use Rattle.ink_model.specs.Run.{EndsThrough, Made, RunEnd}
-use Rattle.ink_model.specs.Store.{Values}
-use Rattle.ink_model.specs.Tree.{StoryTree}
+use Rattle.ink_model.specs.Run.Configuration.{Configuration}
+use Rattle.ink_model.specs.Host.Bindings.{Bound}
+use Rattle.ink_model.specs.Run.Line.{EndsLine}
+use Rattle.ink_model.specs.Memory.Refusals.{FallsShort, LineFallsShort}
+use Rattle.ink_model.specs.Run.Moments.{EndsThrough, Made, RunEnd}
+use Rattle.ink_model.specs.Variables.Store.{Values}
+use Rattle.ink_model.specs.Story.Tree.{StoryTree}
 use Rattle.ink_model.specs.declared.fault.Fault.{Fault}
 use Rattle.ink_model.specs.declared.fault.Fault.TheVariants.{OutOfMemory}
 

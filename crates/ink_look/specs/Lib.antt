@@ -1,4 +1,4 @@
-pub mod Words
+pub mod Said
 pub mod Ends
 pub mod LineEnds
 pub mod Looking

@@ -1,18 +1,18 @@
 -- How lines end, with the calls that they made.
 use Rattle.std.specs.Prelude.{◌≡◌, ◌⊎◌, ⊤, ℕ, List, [], Bool, true, false, Result, Ok, Err}
 use Rattle.ink_host.specs.Desk.{DeskView}
-use Rattle.ink_model.specs.Line.{EndsLine, IsLineOf, goes_on}
-use Rattle.ink_model.specs.Memory.{LineFallsShort, LooksFrom, NoneSoFar}
+use Rattle.ink_model.specs.Run.Line.{EndsLine, IsLineOf, goes_on}
+use Rattle.ink_model.specs.Memory.Refusals.{LineFallsShort, LooksFrom, NoneSoFar}
 use Rattle.ink_look.specs.Ends.{EndsWith}
 use Rattle.ink_look.specs.declared.lines.LineEnd.{LineEnd}
 use Rattle.ink_look.specs.declared.lines.LineEnd.TheVariants as line_end
 use Rattle.ink_look.specs.declared.said.Said.{Said}
-use Rattle.ink_model.specs.Configuration.{Configuration}
-use Rattle.ink_model.specs.Host.{Bound}
-use Rattle.ink_model.specs.Memory.{CallsAt, GetsTo}
-use Rattle.ink_model.specs.Run.{At, Faulted, Kept, Made, Moment, RunEnd, Stopped, answers_of, moment}
-use Rattle.ink_model.specs.Store.{Values}
-use Rattle.ink_model.specs.Tree.{StoryTree}
+use Rattle.ink_model.specs.Run.Configuration.{Configuration}
+use Rattle.ink_model.specs.Host.Bindings.{Bound}
+use Rattle.ink_model.specs.Memory.Refusals.{CallsAt, GetsTo}
+use Rattle.ink_model.specs.Run.Moments.{At, Faulted, Kept, Made, Moment, RunEnd, Stopped, answers_of, moment}
+use Rattle.ink_model.specs.Variables.Store.{Values}
+use Rattle.ink_model.specs.Story.Tree.{StoryTree}
 use Rattle.ink_model.specs.declared.fault.Fault.{Fault}
 use Rattle.ink_model.specs.declared.fault.Fault.TheVariants.{OutOfMemory}
 use Rattle.ink_model.specs.declared.limits.TheConstants.{MAX_STEPS}

@@ -1,20 +1,20 @@
 -- Steps of a loop that looks for a line, by the definition of the search.
 use Rattle.std.specs.Prelude.{◌≡◌, ⊤, ℕ, List, [], Bool, true, false, if◌then◌else◌, Option, Some, None, Result, Ok, Err}
-use Rattle.ink_model.specs.Line.{at_least, is_call}
+use Rattle.ink_model.specs.Run.Line.{at_least, is_call}
 use Rattle.ink_line.specs.Look.{Looking, Over, Search, Seeking, look_on, newline_between}
 use Rattle.ink_look.specs.declared.looking.Looked.{Looked}
 use Rattle.ink_look.specs.declared.looking.Looked.TheVariants as looked
 use Rattle.ink_look.specs.declared.looking.Standing.{Standing}
 use Rattle.ink_look.specs.declared.looking.Standing.TheVariants as standing
-use Rattle.ink_model.specs.Asks.{asks}
-use Rattle.ink_model.specs.Configuration.{Configuration}
-use Rattle.ink_model.specs.Host.{Bound}
-use Rattle.ink_model.specs.Output.{is_line}
-use Rattle.ink_model.specs.Page.{Page}
-use Rattle.ink_model.specs.Run.{At, Made, Stopped}
-use Rattle.ink_model.specs.Shown.{open_newline}
-use Rattle.ink_model.specs.Step.{step}
-use Rattle.ink_model.specs.Tree.{StoryTree}
+use Rattle.ink_model.specs.Memory.Asks.{asks}
+use Rattle.ink_model.specs.Run.Configuration.{Configuration}
+use Rattle.ink_model.specs.Host.Bindings.{Bound}
+use Rattle.ink_model.specs.Text.Output.{is_line}
+use Rattle.ink_model.specs.Text.Page.{Page}
+use Rattle.ink_model.specs.Run.Moments.{At, Made, Stopped}
+use Rattle.ink_model.specs.Text.Shown.{open_newline}
+use Rattle.ink_model.specs.Run.Step.{step}
+use Rattle.ink_model.specs.Story.Tree.{StoryTree}
 use Rattle.ink_model.specs.declared.fault.Fault.{Fault}
 use Rattle.ink_model.specs.declared.fault.Fault.TheVariants.{OutOfMemory}
 use Rattle.ink_model.specs.declared.host.Event.{Event}

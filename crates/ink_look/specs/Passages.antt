@@ -1,9 +1,9 @@
 -- The passage of what a running command said (docs/PROTOCOL.md, "Answers").
 use Rattle.std.specs.Prelude.{[]}
 use Rattle.ink_look.specs.declared.said.Said.{Said}
-use Rattle.ink_model.specs.Configuration.{Configuration, can_go_on}
-use Rattle.ink_model.specs.Passage.{is_loose}
-use Rattle.ink_model.specs.Turns.{open_choices}
+use Rattle.ink_model.specs.Run.Configuration.{Configuration, can_go_on}
+use Rattle.ink_model.specs.Protocol.Passage.{is_loose}
+use Rattle.ink_model.specs.Protocol.Turns.{open_choices}
 use Rattle.ink_model.specs.declared.passage.Passage.{Passage}
 
 -- with the choices that are open, and how flow stands; its events come with it later

@@ -2,24 +2,24 @@
 //! stopped (docs/RUNNING.md, "Lines", "Marks").
 
 ghost use Rattle.std.specs.Prelude.{◌≡◌, suc, length, List, Option, None, Some, true};
-ghost use Rattle.ink_check.specs.Words.{story_tree};
+ghost use Rattle.ink_check.specs.Standing.{story_tree};
 ghost use Rattle.ink_host.specs.Desk.{Grew, bound_by};
 ghost use Rattle.ink_host.specs.Telling.{log_of};
 ghost use Rattle.ink_line.specs.Look.{looked_by};
 ghost use Rattle.ink_look.specs.Ahead.{writes_words};
 ghost use Rattle.ink_look.specs.LineEnds.{RunsToLine};
 ghost use Rattle.ink_look.specs.Looking.{IsMarked, MarksHere, StandsAs, StepsOn, Waits, found_of, newline_from, search_after, waiting_after, waiting_then};
-ghost use Rattle.ink_model.specs.Configuration.{Configuration};
-ghost use Rattle.ink_model.specs.Events.{Made, calls};
-ghost use Rattle.ink_model.specs.Run as runs;
-ghost use Rattle.ink_model.specs.Shown as rules;
-ghost use Rattle.ink_model.specs.Tree.{StoryTree};
+ghost use Rattle.ink_model.specs.Run.Configuration.{Configuration};
+ghost use Rattle.ink_model.specs.Host.Events.{Made, calls};
+ghost use Rattle.ink_model.specs.Run.Moments as runs;
+ghost use Rattle.ink_model.specs.Text.Shown as rules;
+ghost use Rattle.ink_model.specs.Story.Tree.{StoryTree};
 ghost use Rattle.ink_model.specs.declared.host.Event.{Event as Happening};
 ghost use Rattle.ink_model.specs.declared.host.Given.{Given as Gift};
 ghost use Rattle.ink_step.specs.Marks.{config_back, stood_of, unmarked};
 ghost use Rattle.ink_step.specs.Parts.{config_of_parts};
 ghost use Rattle.ink_effects.specs.Refusals.{RunStopsAtRefusal, StepStopsAtRefusal};
-ghost use Rattle.ink_step.specs.Words.{aside_in, config_of, start_of};
+ghost use Rattle.ink_step.specs.Standing.{aside_in, config_of, start_of};
 
 use crate::ahead::writes_words;
 use ink_check::Story;

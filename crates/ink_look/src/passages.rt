@@ -1,19 +1,19 @@
 //! Running commands, and the passages that they answer (docs/PROTOCOL.md, "Answers").
 
 ghost use Rattle.std.specs.Prelude.{◌≡◌, ◌≢◌, [], List, IfOk, OnErr};
-ghost use Rattle.ink_check.specs.Words.{story_tree};
+ghost use Rattle.ink_check.specs.Standing.{story_tree};
 ghost use Rattle.ink_host.specs.Desk.{Grew, bound_by};
 ghost use Rattle.ink_host.specs.Telling.{log_of};
-ghost use Rattle.ink_look.specs.Words.{said, said_asks};
-ghost use Rattle.ink_model.specs.Events.{Made, calls};
-ghost use Rattle.ink_model.specs.Passage.{passage, passage_asks};
-ghost use Rattle.ink_model.specs.Tree.{StoryTree};
-ghost use Rattle.ink_model.specs.Turns.{open_choices};
+ghost use Rattle.ink_look.specs.Said.{said, said_asks};
+ghost use Rattle.ink_model.specs.Host.Events.{Made, calls};
+ghost use Rattle.ink_model.specs.Protocol.Passage.{passage, passage_asks};
+ghost use Rattle.ink_model.specs.Story.Tree.{StoryTree};
+ghost use Rattle.ink_model.specs.Protocol.Turns.{open_choices};
 ghost use Rattle.ink_look.specs.Extents.{RunsBy};
 ghost use Rattle.ink_look.specs.Passages.{passage_of};
 ghost use Rattle.ink_step.specs.Marks.{stood_of, unmarked};
 ghost use Rattle.ink_effects.specs.Refusals.{RunStopsAtRefusal};
-ghost use Rattle.ink_step.specs.Words.{aside_in, config_of, globals_of, start_of};
+ghost use Rattle.ink_step.specs.Standing.{aside_in, config_of, globals_of, start_of};
 
 use crate::lines::{LineEnd, line};
 use crate::running::through;

@@ -1,15 +1,15 @@
 //! Runs to the stop (docs/RUNNING.md, "Runs").
 
 ghost use Rattle.std.specs.Prelude.{◌≡◌, List};
-ghost use Rattle.ink_check.specs.Words.{story_tree};
+ghost use Rattle.ink_check.specs.Standing.{story_tree};
 ghost use Rattle.ink_host.specs.Desk.{Grew, bound_by};
 ghost use Rattle.ink_host.specs.Telling.{log_of};
 ghost use Rattle.ink_look.specs.Ends.{RunsThrough};
-ghost use Rattle.ink_look.specs.Words.{said, said_asks};
-ghost use Rattle.ink_model.specs.Events.{Made, calls};
+ghost use Rattle.ink_look.specs.Said.{said, said_asks};
+ghost use Rattle.ink_model.specs.Host.Events.{Made, calls};
 ghost use Rattle.ink_step.specs.Marks.{stood_of, unmarked};
 ghost use Rattle.ink_effects.specs.Refusals.{RunStopsAtRefusal};
-ghost use Rattle.ink_step.specs.Words.{aside_in, config_of, globals_of, start_of};
+ghost use Rattle.ink_step.specs.Standing.{aside_in, config_of, globals_of, start_of};
 
 use crate::said::{Said, said_by};
 use ink_check::Story;

@@ -1,9 +1,9 @@
 //! What a running command says (docs/TEXT.md).
 
 ghost use Rattle.std.specs.Prelude.{◌≡◌, true, IfOk, OnErr};
-ghost use Rattle.ink_look.specs.Words.{said, said_asks};
-ghost use Rattle.ink_model.specs.Tree.{StoryTree};
-ghost use Rattle.ink_step.specs.Words.{config_of};
+ghost use Rattle.ink_look.specs.Said.{said, said_asks};
+ghost use Rattle.ink_model.specs.Story.Tree.{StoryTree};
+ghost use Rattle.ink_step.specs.Standing.{config_of};
 
 use ink_model::{Seq, Shared, Text};
 use ink_step::Machine;

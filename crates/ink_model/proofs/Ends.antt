@@ -7,7 +7,7 @@ use Rattle.std.proofs.lemmas.List.{take_at, drop_at, length-drop, length-reverse
 use Rattle.std.proofs.lemmas.List.Sums.{prefix_len-le-length, suffix_len-le-length, prefix_len_passes}
 use Rattle.std.proofs.lemmas.Str.{IsCharBoundary-start, IsCharBoundary-end, IsCharBoundary-before_ascii, IsCharBoundary-after_ascii}
 use Rattle.std.proofs.Math.Numerals.{one-add, add-one}
-use Rattle.ink_model.specs.Bytes.{is_blank, leading, without, trailing, trimmed}
+use Rattle.ink_model.specs.Text.Bytes.{is_blank, leading, without, trailing, trimmed}
 
 -- ---- the ends as parts
 

@@ -1,7 +1,7 @@
 -- What is printed of a place: its first part, and each other one behind a dot.
 use Rattle.std.proofs.Common.{◌≡◌, ℕ, List, [], ◌∷◌, ◌++◌, flat_map, take, length, append-nil, ap}
 use Rattle.std.proofs.Math.Seq.{take-length}
-use Rattle.ink_model.specs.Path.{part_text, place_text}
+use Rattle.ink_model.specs.Story.Path.{part_text, place_text}
 use Rattle.ink_model.specs.declared.place.Part.{Part}
 
 abbrev pub dotted : Part → List ℕ

@@ -1,7 +1,7 @@
 //! What the flags of a choice say (docs/STORY_FORMAT.md, "Content").
 
 ghost use Rattle.std.specs.Prelude.{◌≡◌};
-ghost use Rattle.ink_model.specs.Flags as rules;
+ghost use Rattle.ink_model.specs.Story.Flags as rules;
 
 /// Whether a condition is popped for a choice, by its flags.
 pub fn is_conditional(flags: u8) -> bool

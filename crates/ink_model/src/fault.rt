@@ -109,7 +109,7 @@ pub enum Halt {
 }
 
 impl Cause {
-    ghost use Rattle.ink_model.specs.Answer.{cause_name, is_of_a_place};
+    ghost use Rattle.ink_model.specs.Protocol.Answer.{cause_name, is_of_a_place};
 
     /// The cause's name, as the program prints it (docs/PROTOCOL.md, "The program").
     pub fn name(self) -> &'static str
@@ -138,7 +138,7 @@ impl Cause {
 }
 
 impl fmt::Display for Cause {
-    ghost use Rattle.ink_model.specs.Answer.{cause_name};
+    ghost use Rattle.ink_model.specs.Protocol.Answer.{cause_name};
 
     ghost output = { λ c. Some (cause_name c) };
 
@@ -148,7 +148,7 @@ impl fmt::Display for Cause {
 }
 
 impl Fault {
-    ghost use Rattle.ink_model.specs.Answer.{fault_name};
+    ghost use Rattle.ink_model.specs.Protocol.Answer.{fault_name};
 
     /// The fault's name, as answers have it (docs/PROTOCOL.md, "Answers").
     pub fn name(self) -> &'static str
@@ -176,7 +176,7 @@ impl Fault {
 }
 
 impl fmt::Display for Fault {
-    ghost use Rattle.ink_model.specs.Answer.{fault_name};
+    ghost use Rattle.ink_model.specs.Protocol.Answer.{fault_name};
 
     ghost output = { λ f. Some (fault_name f) };
 
@@ -186,7 +186,7 @@ impl fmt::Display for Fault {
 }
 
 impl Refusal {
-    ghost use Rattle.ink_model.specs.Answer.{refusal_name};
+    ghost use Rattle.ink_model.specs.Protocol.Answer.{refusal_name};
 
     /// The refusal's name, as answers have it (docs/PROTOCOL.md, "Answers").
     pub fn name(self) -> &'static str
@@ -210,7 +210,7 @@ impl Refusal {
 }
 
 impl fmt::Display for Refusal {
-    ghost use Rattle.ink_model.specs.Answer.{refusal_name};
+    ghost use Rattle.ink_model.specs.Protocol.Answer.{refusal_name};
 
     ghost output = { λ r. Some (refusal_name r) };
 
@@ -220,7 +220,7 @@ impl fmt::Display for Refusal {
 }
 
 impl ReadRefusal {
-    ghost use Rattle.ink_model.specs.Grammar.{here};
+    ghost use Rattle.ink_model.specs.Story.Grammar.{here};
 
     /// A refusal of the story as a whole, at its root. Takes no memory.
     pub fn at_root(alloc: Global, cause: Cause) -> ReadRefusal
@@ -235,7 +235,7 @@ impl ReadRefusal {
 
 /// The cause, and where it is of one place ` at ` with that.
 impl fmt::Display for ReadRefusal {
-    ghost use Rattle.ink_model.specs.Answer.{refused_story_text};
+    ghost use Rattle.ink_model.specs.Protocol.Answer.{refused_story_text};
 
     ghost output = { λ r. Some (refused_story_text r) };
 
@@ -251,7 +251,7 @@ impl fmt::Display for ReadRefusal {
 
 /// `refused: ` and the refusal's name, or `fault: ` and the fault's.
 impl fmt::Display for Halt {
-    ghost use Rattle.ink_model.specs.Answer.{halt_text};
+    ghost use Rattle.ink_model.specs.Protocol.Answer.{halt_text};
 
     ghost output = { λ h. Some (halt_text h) };
 

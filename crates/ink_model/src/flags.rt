@@ -1,7 +1,7 @@
 //! What the flags of containers say (docs/STORY_FORMAT.md, "Containers").
 
 ghost use Rattle.std.specs.Prelude.{◌≡◌};
-ghost use Rattle.ink_model.specs.Flags as rules;
+ghost use Rattle.ink_model.specs.Story.Flags as rules;
 
 /// Whether a container's visits are counted, by its flags.
 pub fn counts_visits(flags: u8) -> bool

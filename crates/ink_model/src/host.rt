@@ -1,7 +1,7 @@
 //! What a host's objects are asked and answer, and what happened between them and a player (docs/HOST.md).
 
 ghost use Rattle.std.specs.Prelude.{◌≡◌, IfOk, OnErr};
-ghost use Rattle.ink_model.specs.Host.{value_given};
+ghost use Rattle.ink_model.specs.Host.Bindings.{value_given};
 ghost use Rattle.ink_model.specs.declared.host.HostFault.TheVariants as fault;
 
 use crate::seq::Seq;
@@ -20,7 +20,7 @@ pub enum Given {
 }
 
 impl Given {
-    ghost use Rattle.ink_model.specs.Host.{giving, shares};
+    ghost use Rattle.ink_model.specs.Host.Bindings.{giving, shares};
     ghost use Rattle.ink_model.specs.declared.host.Given.TheVariants as given;
 
     /// A text of its own. The one error is a refused request for memory.

@@ -32,7 +32,7 @@ impl Part {
 
 /// The index, or the name.
 impl fmt::Display for Part {
-    ghost use Rattle.ink_model.specs.Path.{part_text};
+    ghost use Rattle.ink_model.specs.Story.Path.{part_text};
 
     ghost output = { λ part. Some (part_text part) };
 
@@ -107,7 +107,7 @@ impl Place {
 
 /// The parts with dots between, or `root`.
 impl fmt::Display for Place {
-    ghost use Rattle.ink_model.specs.Path.{place_text};
+    ghost use Rattle.ink_model.specs.Story.Path.{place_text};
 
     ghost output = { λ p. Some (place_text p) };
 

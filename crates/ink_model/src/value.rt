@@ -21,7 +21,7 @@ pub enum Value {
 }
 
 impl Value {
-    ghost use Rattle.ink_model.specs.Memory.{holds_memory};
+    ghost use Rattle.ink_model.specs.Memory.Refusals.{holds_memory};
 
     /// A copy, which shares what it can: it asks for no memory. The one error is a count of owners that is full.
     pub fn clone_in(&self, _alloc: Global) -> Result<Value, AllocError>

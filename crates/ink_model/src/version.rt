@@ -9,7 +9,7 @@ pub enum InkVersion {
 
 impl InkVersion {
     ghost use Rattle.std.specs.Prelude.{◌≡◌};
-    ghost use Rattle.ink_model.specs.Grammar.{version_numbered};
+    ghost use Rattle.ink_model.specs.Story.Grammar.{version_numbered};
 
     /// The version that has this number; none where its stories are not read.
     pub fn from_number(number: u64) -> Option<InkVersion>

@@ -1,18 +1,18 @@
 -- Calls that change threads, or what is written to, beside the definitions over places.
 use Rattle.std.proofs.Common.{◌≡◌, ap, sym, subst, refl, inl, inr, ℕ, ◌+◌, List, [], ◌∷◌, length, map, Bool, true, false, if◌then◌else◌, nat_eq, nat_lt, is_ok, Result, Ok, Err, IfErr}
 use Rattle.std.proofs.lemmas.List.{length-map}
-use Rattle.ink_model.specs.Flow.{Written, on_page, or_breaks}
-use Rattle.ink_model.specs.Frames.{FrameOf, ThreadOf, ThreadsOf, map_frame, map_thread, map_threads}
-use Rattle.ink_model.specs.Memory.{Gives, leaving}
-use Rattle.ink_model.specs.Output.{ends_function}
-use Rattle.ink_model.specs.Page.{Page}
-use Rattle.ink_model.specs.Threads.{back_to, new_frame, popped, pushed, same_kind, top_result}
+use Rattle.ink_model.specs.Flow.Transfers.{Written, on_page, or_breaks}
+use Rattle.ink_model.specs.Flow.Frames.{FrameOf, ThreadOf, ThreadsOf, map_frame, map_thread, map_threads}
+use Rattle.ink_model.specs.Memory.Refusals.{Gives, leaving}
+use Rattle.ink_model.specs.Text.Output.{ends_function}
+use Rattle.ink_model.specs.Text.Page.{Page}
+use Rattle.ink_model.specs.Flow.Threads.{back_to, new_frame, frame_popped, frame_pushed, same_kind, top_result}
 use Rattle.ink_model.specs.declared.fault.Fault.{Fault}
 use Rattle.ink_model.specs.declared.fault.Fault.TheVariants.{BadMode, BadPop, TooDeep}
 use Rattle.ink_model.specs.declared.frame.FrameKind.{FrameKind}
 use Rattle.ink_model.specs.declared.frame.FrameKind.TheVariants.{Function}
 use Rattle.ink_model.specs.declared.limits.TheConstants.{MAX_FRAMES}
-use Rattle.ink_stack.specs.Words.{Changes, Grows}
+use Rattle.ink_stack.specs.Outcomes.{Changes, Grows}
 use Rattle.ink_moves.specs.Reaches.{PassesAs, left_asks}
 
 -- ---- calls on threads do the same at other places
@@ -22,7 +22,7 @@ mapped f (Ok a) = Ok (f a)
 mapped f (Err g) = Err g
 
 module _ {P Q : Type 0} (f : P → Q) where
-  popped_map : (k : FrameKind) (d : ℕ) (t : ThreadOf P) → popped k d (map_thread f t) ≡ mapped (map_thread f) (popped k d t)
+  popped_map : (k : FrameKind) (d : ℕ) (t : ThreadOf P) → frame_popped k d (map_thread f t) ≡ mapped (map_thread f) (frame_popped k d t)
   popped_map k d t = by (same_kind t.frame.kind k) t.below
     where
       at_depth : (e : Bool) (g : FrameOf P) (gs : List (FrameOf P)) → (if e then Ok (map_thread f (record t { frame = g; below = gs })) else Err BadMode)
@@ -35,7 +35,7 @@ module _ {P Q : Type 0} (f : P → Q) where
       by true (g ∷ gs) = at_depth (nat_eq t.frame.depth d) g gs
       by false fs = refl
 
-  pushed_map : (k : FrameKind) (d : ℕ) (t : ThreadOf P) → pushed k d (map_thread f t) ≡ mapped (map_thread f) (pushed k d t)
+  pushed_map : (k : FrameKind) (d : ℕ) (t : ThreadOf P) → frame_pushed k d (map_thread f t) ≡ mapped (map_thread f) (frame_pushed k d t)
   pushed_map k d t = rw (length-map t.below (map_frame f)) (by (nat_lt (length t.below + 1) MAX_FRAMES))
     where
       by : (b : Bool) → (if b then Ok (map_thread f (record t { frame = new_frame k t.frame.place d; below = t.frame ∷ t.below })) else Err TooDeep)
@@ -54,15 +54,15 @@ module _ {P Q : Type 0} (f : P → Q) where
   grows_map (Ok t) old new u h = ap (map_threads f) h
   grows_map (Err e) old new u h = absurd h
 
-  pub pops : {U : Type 0} (k : FrameKind) (d : ℕ) (old new : ThreadsOf P) (result : Result U Fault) → Changes (top_result (popped k d old.thread) old) old new result
-      → Changes (top_result (popped k d (map_threads f old).thread) (map_threads f old)) (map_threads f old) (map_threads f new) result
+  pub pops : {U : Type 0} (k : FrameKind) (d : ℕ) (old new : ThreadsOf P) (result : Result U Fault) → Changes (top_result (frame_popped k d old.thread) old) old new result
+      → Changes (top_result (frame_popped k d (map_threads f old).thread) (map_threads f old)) (map_threads f old) (map_threads f new) result
   pops k d old new result h = subst (λ r. Changes (top_result r (map_threads f old)) (map_threads f old) (map_threads f new) result) (sym (popped_map k d old.thread))
-      (changes_map (popped k d old.thread) old new result h)
+      (changes_map (frame_popped k d old.thread) old new result h)
 
-  pub pushes : {U : Type 0} (k : FrameKind) (d : ℕ) (old new : ThreadsOf P) (u : U) → Grows (top_result (pushed k d old.thread) old) old new (Ok u)
-      → Grows (top_result (pushed k d (map_threads f old).thread) (map_threads f old)) (map_threads f old) (map_threads f new) (Ok u)
+  pub pushes : {U : Type 0} (k : FrameKind) (d : ℕ) (old new : ThreadsOf P) (u : U) → Grows (top_result (frame_pushed k d old.thread) old) old new (Ok u)
+      → Grows (top_result (frame_pushed k d (map_threads f old).thread) (map_threads f old)) (map_threads f old) (map_threads f new) (Ok u)
   pushes k d old new u h = subst (λ r. Grows (top_result r (map_threads f old)) (map_threads f old) (map_threads f new) (Ok u)) (sym (pushed_map k d old.thread))
-      (grows_map (pushed k d old.thread) old new u h)
+      (grows_map (frame_pushed k d old.thread) old new u h)
 
 -- ---- what is written
 

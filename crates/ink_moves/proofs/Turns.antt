@@ -1,15 +1,15 @@
 -- One turn of where flow goes, by what is at its end.
 use Rattle.std.proofs.Common.{◌≡◌, ◌∙◌, ap, is_ok, sym, subst, refl, inl, inr, ℕ, ◌+◌, List, [], ◌∷◌, length, Bool, true, false, nat_eq, Option, Some, None, option_and_then, Result, Ok, Err}
-use Rattle.ink_model.specs.Flow.{Written, Reached, Reaches, Halts, Breaks, depth_of, leave_for, moved_on, on_page, or_breaks, reach, thread_of, void_for}
-use Rattle.ink_model.specs.Frames.{FrameOf, ThreadOf, ThreadsOf, gone, map_threads}
-use Rattle.ink_model.specs.MoveMemory.{moved_asks}
-use Rattle.ink_model.specs.Output.{ends_function}
-use Rattle.ink_model.specs.Page.{Page}
-use Rattle.ink_model.specs.Threads.{popped}
+use Rattle.ink_model.specs.Flow.Transfers.{Written, Reached, Reaches, Halts, Breaks, depth_of, leave_for, moved_on, on_page, or_breaks, reach, thread_of, void_for}
+use Rattle.ink_model.specs.Flow.Frames.{FrameOf, ThreadOf, ThreadsOf, gone, map_threads}
+use Rattle.ink_model.specs.Memory.Moves.{moved_asks}
+use Rattle.ink_model.specs.Text.Output.{ends_function}
+use Rattle.ink_model.specs.Text.Page.{Page}
+use Rattle.ink_model.specs.Flow.Threads.{frame_popped}
 use Rattle.ink_model.specs.declared.fault.Fault.{Fault}
 use Rattle.ink_model.specs.declared.fault.Fault.TheVariants.{OutOfMemory}
 use Rattle.ink_model.specs.declared.frame.FrameKind.TheVariants.{Function}
-use Rattle.ink_moves.specs.Reaches.{PassesAs, ReachesAs, ended, left_asks, void_given}
+use Rattle.ink_moves.specs.Reaches.{PassesAs, ReachesAs, off_function, left_asks, void_given}
 use Rattle.ink_moves.specs.declared.flow.StepEnd.{StepEnd}
 use Rattle.ink_moves.specs.declared.flow.StepEnd.TheVariants as ends
 
@@ -26,7 +26,7 @@ module _ {P : Type 0} (after : P → Option P) where
   module _ (f : FrameOf P) (o : Option P) (w : Written) (next : option_and_then after f.place ≡ None) (kind : f.kind ≡ Function) where
     -- flow goes on where the function that ended leaves it
     abbrev GoesOn : List (FrameOf P) → List (ThreadOf P) → Type 0
-    GoesOn fs us = let ts : ThreadsOf P = record { thread = thread_of f fs o; below = us } in moved_on after ts w ≡ or_breaks (ended ts w) Breaks (λ r. moved_on after r.0 r.1)
+    GoesOn fs us = let ts : ThreadsOf P = record { thread = thread_of f fs o; below = us } in moved_on after ts w ≡ or_breaks (off_function ts w) Breaks (λ r. moved_on after r.0 r.1)
 
     pub leaves : (fs : List (FrameOf P)) (us : List (ThreadOf P)) → GoesOn fs us
     leaves [] [] = rw (next, kind) refl
@@ -47,7 +47,7 @@ module _ {P : Type 0} (after : P → Option P) where
         by (u ∷ us) true depth (Err e) leave = rw (next, kind, depth, leave) refl
         by us true depth (Ok v) leave = void us depth v leave (void_for g.evaluating v) refl
 
-    pub leave_asks : (fs : List (FrameOf P)) (us : List (ThreadOf P)) → left_asks Function (popped Function (depth_of w) (thread_of f fs o)) f w ≡ true
+    pub leave_asks : (fs : List (FrameOf P)) (us : List (ThreadOf P)) → left_asks Function (frame_popped Function (depth_of w) (thread_of f fs o)) f w ≡ true
         → moved_asks after (record { thread = thread_of f fs o; below = us }) w ≡ true
     leave_asks [] us asking = absurd (let no : false ≡ true = rw kind at asking in cc)
     leave_asks (g ∷ gs) us asking = by us (nat_eq f.depth (depth_of w)) refl
@@ -99,9 +99,9 @@ all_frames ts = frames_in (ts.thread ∷ ts.below)
 
 -- a function that ended could be popped, and its mark had room
 module _ {P : Type 0} where
-  ended_asks : (asks : Bool) (ts us : ThreadsOf P) (w v : Written) (u : Unit {0}) → PassesAs asks (ended ts w) us v (Ok u)
-      → left_asks Function (popped Function (depth_of w) ts.thread) ts.thread.frame w ≡ true
-  ended_asks asks ts us w v u = by (popped Function (depth_of w) ts.thread) (ends_function ts.thread.frame.enter w.page) refl
+  ended_asks : (asks : Bool) (ts us : ThreadsOf P) (w v : Written) (u : Unit {0}) → PassesAs asks (off_function ts w) us v (Ok u)
+      → left_asks Function (frame_popped Function (depth_of w) ts.thread) ts.thread.frame w ≡ true
+  ended_asks asks ts us w v u = by (frame_popped Function (depth_of w) ts.thread) (ends_function ts.thread.frame.enter w.page) refl
     where
       by : (r : Result (ThreadOf P) Fault) (page : Result Page Fault) → ends_function ts.thread.frame.enter w.page ≡ page
           → PassesAs asks (or_breaks (or_breaks r Err (λ t. or_breaks (on_page page w) Err (λ x. Ok (record ts { thread = t }, x)))) Err void_given) us v (Ok u)
@@ -126,17 +126,17 @@ module _ {P Q : Type 0} (f : P → Q) (after : Q → Option Q) (start : ThreadsO
 
   module _ (next : option_and_then after (map_threads f ts).thread.frame.place ≡ None) where
     module _ (kind : ts.thread.frame.kind ≡ Function) (us : ThreadsOf Q) (v : Written) where
-      asking : left_asks Function (popped Function (depth_of w) (map_threads f ts).thread) (map_threads f ts).thread.frame w ≡ true → moved_asks after start begun ≡ true
+      asking : left_asks Function (frame_popped Function (depth_of w) (map_threads f ts).thread) (map_threads f ts).thread.frame w ≡ true → moved_asks after start begun ≡ true
       asking h = way.asks (leave_asks after _ _ w next kind _ _ h)
 
       -- a function ends
-      pub function_ended : (u : Unit {0}) → PassesAs (left_asks Function (popped Function (depth_of w) (map_threads f ts).thread) (map_threads f ts).thread.frame w) (ended (map_threads f ts) w) us v (Ok u)
+      pub function_ended : (u : Unit {0}) → PassesAs (left_asks Function (frame_popped Function (depth_of w) (map_threads f ts).thread) (map_threads f ts).thread.frame w) (off_function (map_threads f ts) w) us v (Ok u)
           → OnTheWay after start begun us v
       function_ended u h =
-          let there = leaves after _ _ w next kind _ _ ∙ way_on (λ r. moved_on after r.0 r.1) _ (ended (map_threads f ts) w) us v u h in
+          let there = leaves after _ _ w next kind _ _ ∙ way_on (λ r. moved_on after r.0 r.1) _ (off_function (map_threads f ts) w) us v u h in
           record { same = sym there ∙ way.same; asks = λ _. asking (ended_asks _ (map_threads f ts) us w v u h) }
 
-      pub function_broke : (g : Fault) (ended_in : ThreadsOf Q) (x : Written) → PassesAs (left_asks Function (popped Function (depth_of w) (map_threads f ts).thread) (map_threads f ts).thread.frame w) (ended (map_threads f ts) w) us v (Err g)
+      pub function_broke : (g : Fault) (ended_in : ThreadsOf Q) (x : Written) → PassesAs (left_asks Function (frame_popped Function (depth_of w) (map_threads f ts).thread) (map_threads f ts).thread.frame w) (off_function (map_threads f ts) w) us v (Err g)
           → ReachesAs (moved_asks after start begun) (moved_on after start begun) ended_in x (Err g)
       function_broke g ended_in x h = subst (λ m. ReachesAs (moved_asks after start begun) m ended_in x (Err g)) (sym (leaves after _ _ w next kind _ _) ∙ way.same)
-          (way_off (λ r. moved_on after r.0 r.1) _ (moved_asks after start begun) asking (ended (map_threads f ts) w) us ended_in v x g h)
+          (way_off (λ r. moved_on after r.0 r.1) _ (moved_asks after start begun) asking (off_function (map_threads f ts) w) us ended_in v x g h)

@@ -1,9 +1,9 @@
 -- How flow goes on, beside the definitions: its results, and where memory may be refused on the way.
 use Rattle.std.specs.Prelude.{◌≡◌, ◌⊎◌, Bool, true, false, Result, Ok, Err}
-use Rattle.ink_model.specs.Flow.{Written, Reached, Reaches, Halts, Breaks, depth_of, enter_for, leave_for, number_for, or_breaks, void_for}
-use Rattle.ink_model.specs.Frames.{FrameOf, ThreadOf, ThreadsOf}
-use Rattle.ink_model.specs.MoveMemory.{has_end_room}
-use Rattle.ink_model.specs.Threads.{popped}
+use Rattle.ink_model.specs.Flow.Transfers.{Written, Reached, Reaches, Halts, Breaks, depth_of, enter_for, leave_for, number_for, or_breaks, void_for}
+use Rattle.ink_model.specs.Flow.Frames.{FrameOf, ThreadOf, ThreadsOf}
+use Rattle.ink_model.specs.Memory.Moves.{has_end_room}
+use Rattle.ink_model.specs.Flow.Threads.{frame_popped}
 use Rattle.ink_model.specs.declared.fault.Fault.{Fault}
 use Rattle.ink_model.specs.declared.fault.Fault.TheVariants.{OutOfMemory}
 use Rattle.ink_model.specs.declared.frame.FrameKind.{FrameKind}
@@ -46,12 +46,12 @@ left_asks k r f w = false
 
 module _ {P : Type 0} where
   -- the frame that was pushed has its mark
-  abbrev pub entered : FrameKind → ThreadsOf P → Written → Result (ThreadsOf P × Written) Fault
-  entered k ts w = or_breaks (enter_for k w) Err (λ v. Ok (record ts { thread = number_for k w ts.thread }, v))
+  abbrev pub frame_entered : FrameKind → ThreadsOf P → Written → Result (ThreadsOf P × Written) Fault
+  frame_entered k ts w = or_breaks (enter_for k w) Err (λ v. Ok (record ts { thread = number_for k w ts.thread }, v))
 
   -- a frame of a kind is popped, with its mark
   abbrev pub left : FrameKind → ThreadsOf P → Written → Result (ThreadsOf P × Written) Fault
-  left k ts w = or_breaks (popped k (depth_of w) ts.thread) Err (λ t.
+  left k ts w = or_breaks (frame_popped k (depth_of w) ts.thread) Err (λ t.
       or_breaks (leave_for k ts.thread.frame.enter w) Err (λ v. Ok (record ts { thread = t }, v)))
 
   -- void for the caller, where it evaluates
@@ -59,5 +59,5 @@ module _ {P : Type 0} where
   void_given r = or_breaks (void_for r.0.thread.frame.evaluating r.1) Err (λ v. Ok (r.0, v))
 
   -- off the end of a function
-  abbrev pub ended : ThreadsOf P → Written → Result (ThreadsOf P × Written) Fault
-  ended ts w = or_breaks (left Function ts w) Err void_given
+  abbrev pub off_function : ThreadsOf P → Written → Result (ThreadsOf P × Written) Fault
+  off_function ts w = or_breaks (left Function ts w) Err void_given

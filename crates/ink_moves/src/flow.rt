@@ -4,21 +4,21 @@ ghost use Rattle.ink_out.specs.Undo.{output_stood};
 ghost use Rattle.ink_stack.specs.Undo.{threads_spare, threads_stood};
 ghost use Rattle.ink_value.specs.Undo.{stack_stood};
 ghost use Rattle.std.specs.Prelude.{◌≡◌, List, None, Some, Ok, Err, false, nat_lt, if◌then◌else◌, option_map, option_and_then, ◌≤◌, ◌+◌, OnOk};
-ghost use Rattle.ink_model.specs.Flow.{Written, called, depth_of, done, forked, halt, moved_on, reach, returned, void_for};
-ghost use Rattle.ink_model.specs.Frames.{base_threads, is_function, map_threads, place_in};
-ghost use Rattle.ink_model.specs.Memory.{Gives, leaving};
-ghost use Rattle.ink_model.specs.MoveMemory.{dropped_asks, forked_asks, moved_asks, returned_asks};
-ghost use Rattle.ink_model.specs.Output.{is_line};
-ghost use Rattle.ink_model.specs.Page.{Page};
-ghost use Rattle.ink_model.specs.Place.{next_place};
-ghost use Rattle.ink_model.specs.Threads.{dropped, frame_count, popped};
-ghost use Rattle.ink_model.specs.Tree.{StoryTree};
+ghost use Rattle.ink_model.specs.Flow.Transfers.{Written, called, depth_of, done, forked, halt, moved_on, reach, returned, void_for};
+ghost use Rattle.ink_model.specs.Flow.Frames.{base_threads, is_function, map_threads, place_in};
+ghost use Rattle.ink_model.specs.Memory.Refusals.{Gives, leaving};
+ghost use Rattle.ink_model.specs.Memory.Moves.{dropped_asks, forked_asks, moved_asks, returned_asks};
+ghost use Rattle.ink_model.specs.Text.Output.{is_line};
+ghost use Rattle.ink_model.specs.Text.Page.{Page};
+ghost use Rattle.ink_model.specs.Run.Place.{next_place};
+ghost use Rattle.ink_model.specs.Flow.Threads.{dropped, frame_count, frame_popped};
+ghost use Rattle.ink_model.specs.Story.Tree.{StoryTree};
 ghost use Rattle.ink_model.specs.declared.frame.FrameKind.TheVariants as kind;
 ghost use Rattle.ink_model.specs.declared.limits.TheConstants.{MAX_FRAMES};
 ghost use Rattle.ink_model.specs.declared.value.Value.{Value as Data};
 ghost use Rattle.ink_stack.specs.Calls.{frame_kind};
 ghost use Rattle.ink_moves.specs.declared.flow.StepEnd.TheVariants.{Went};
-ghost use Rattle.ink_moves.specs.Reaches.{PassesAs, ReachesAs, ended, entered, left, left_asks, went, written};
+ghost use Rattle.ink_moves.specs.Reaches.{PassesAs, ReachesAs, off_function, frame_entered, left, left_asks, went, written};
 ghost use Rattle.ink_tree.specs.Nodes.{place_of, story_tree};
 
 use ink_model::{Fault, FrameKind, Value};
@@ -158,7 +158,7 @@ pub fn call(
 /// A frame of this kind is popped. Flow goes on after its call, or lands at the place that is given. `BadPop` where the top frame
 /// is of another kind or the only one, else `BadMode` where another number of strings and tags is open than at its call; the
 /// faults of moving on where no place is given; `TooDeep` and `OutOfMemory` at a function's mark.
-pub fn give_back(
+pub fn return_frame(
     tree: &Tree,
     threads: &mut Threads<Spot>,
     stack: &mut EvalStack,
@@ -272,7 +272,7 @@ fn end_function(
 ) -> Result<(), Fault>
     requires room { 1 ≤ threads_spare threads.old }
     ensures flow { (s : StoryTree) → let ts = map_threads (place_of s) threads.old.threads in let w = written stack.old output.old in
-        PassesAs (left_asks kind.Function (popped kind.Function (depth_of w) ts.thread) ts.thread.frame w) (ended ts w) (map_threads (place_of s) threads.new.threads) (written stack.new output.new) result }
+        PassesAs (left_asks kind.Function (frame_popped kind.Function (depth_of w) ts.thread) ts.thread.frame w) (off_function ts w) (map_threads (place_of s) threads.new.threads) (written stack.new output.new) result }
     ensures threads_mark { threads_stood threads.new ≡ threads_stood threads.old }
     ensures stack_mark { stack_stood stack.new ≡ stack_stood stack.old }
     ensures output_mark { output_stood output.new ≡ output_stood output.old }
@@ -301,7 +301,7 @@ fn push_void(stack: &mut EvalStack, evaluating: bool) -> Result<(), Fault>
 fn enter(threads: &mut Threads<Spot>, output: &mut Output, kind: CallKind) -> Result<(), Fault>
     requires room { 1 ≤ threads_spare threads.old }
     ensures flow { (s : StoryTree) (values : List Data) → let ts = map_threads (place_of s) threads.old.threads in let w : Written = record { stack = values; page = output.old.page } in
-        PassesAs (is_function (frame_kind kind)) (entered (frame_kind kind) ts w) (map_threads (place_of s) threads.new.threads) (record { stack = values; page = output.new.page }) result }
+        PassesAs (is_function (frame_kind kind)) (frame_entered (frame_kind kind) ts w) (map_threads (place_of s) threads.new.threads) (record { stack = values; page = output.new.page }) result }
     ensures threads_mark { threads_stood threads.new ≡ threads_stood threads.old }
     ensures output_mark { output_stood output.new ≡ output_stood output.old }
     ensures spare { threads_spare threads.old ≤ threads_spare threads.new + 1 }
@@ -323,7 +323,7 @@ fn enter(threads: &mut Threads<Spot>, output: &mut Output, kind: CallKind) -> Re
 fn leave(threads: &mut Threads<Spot>, output: &mut Output, kind: FrameKind) -> Result<(), Fault>
     requires room { 1 ≤ threads_spare threads.old }
     ensures flow { (s : StoryTree) (values : List Data) → let ts = map_threads (place_of s) threads.old.threads in let w : Written = record { stack = values; page = output.old.page } in
-        PassesAs (left_asks kind (popped kind (depth_of w) ts.thread) ts.thread.frame w) (left kind ts w) (map_threads (place_of s) threads.new.threads) (record { stack = values; page = output.new.page }) result }
+        PassesAs (left_asks kind (frame_popped kind (depth_of w) ts.thread) ts.thread.frame w) (left kind ts w) (map_threads (place_of s) threads.new.threads) (record { stack = values; page = output.new.page }) result }
     ensures threads_mark { threads_stood threads.new ≡ threads_stood threads.old }
     ensures output_mark { output_stood output.new ≡ output_stood output.old }
     ensures spare { threads_spare threads.old ≤ threads_spare threads.new + 1 }

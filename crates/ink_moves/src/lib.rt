@@ -4,5 +4,5 @@
 mod flow;
 
 pub use flow::{
-    MOVING, StepEnd, call, done, end, fork, give_back, land, move_on, move_to, next_of,
+    MOVING, StepEnd, call, done, end, fork, land, move_on, move_to, next_of, return_frame,
 };

@@ -4,12 +4,12 @@ use Rattle.std.specs.BTreeMap.{get_by_text}
 use Rattle.std.proofs.lemmas.Bool.{cases_Bool, cases_eq}
 use Rattle.std.proofs.lemmas.List.{get_or-set_other, get_or-set_same, get_or_read, length-set}
 use Rattle.std.proofs.lemmas.Slice.Eq.{bytes_eq-Decides}
-use Rattle.ink_names.specs.Hints.{Finds, Keeps, Leads, Right, behind, slot}
+use Rattle.ink_names.specs.Hints.{Finds, KeepsNumbers, Leads, Right, behind, slot}
 use Rattle.ink_names.specs.Names.{Differ, names_of, number_of}
 use Rattle.ink_names.proofs.Numbers.{last, number_pushed, other, still}
 
 -- slots and others that keep what they have lead where they led
-pub leads_on : (slots new : List ℕ) (m n : BTreeMap (String Global) ℕ) → length new ≡ length slots → ((at : ℕ) → 0 < get_or slots at 0 → get_or new at 0 ≡ get_or slots at 0) → Keeps m n
+pub leads_on : (slots new : List ℕ) (m n : BTreeMap (String Global) ℕ) → length new ≡ length slots → ((at : ℕ) → 0 < get_or slots at 0 → get_or new at 0 ≡ get_or slots at 0) → KeepsNumbers m n
     → (name : List ℕ) (number : ℕ) → Leads slots m name number → Leads new n name number
 leads_on slots new m n same stays keeps name number leads =
     let kept : 0 < behind slots name → behind new name ≡ behind slots name = λ taken. ap (λ many. get_or new (slot name many) 0) same ∙ stays (slot name (length slots)) taken in
@@ -43,7 +43,7 @@ module _ (m n : BTreeMap (String Global) ℕ) (name : List ℕ) (w : Option ℕ)
   pub put_there : get_by_text n name ≡ w
   put_there = is name ∙ ap (λ b. cond b w (get_by_text m name)) ((bytes_eq-Decides name name).1 refl)
 
-  pub put_keeps : get_by_text m name ≡ None → Keeps m n
+  pub put_keeps : get_by_text m name ≡ None → KeepsNumbers m n
   put_keeps none q i has = elim (changed q) [
     | inl here ↦ let wrong : None ≡ Some i = sym none ∙ ap (get_by_text m) here.0 ∙ has in absurd (cc)
     | inr same ↦ same.1 ∙ has

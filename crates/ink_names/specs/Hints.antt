@@ -32,5 +32,5 @@ abbrev pub Right : BTreeMap (String Global) ℕ → List (List ℕ) → Type 0
 Right others names = (name : List ℕ) (number : ℕ) → get_by_text others name ≡ Some number → number_of names name ≡ Some number
 
 -- what the others have stays
-abbrev pub Keeps : BTreeMap (String Global) ℕ → BTreeMap (String Global) ℕ → Type 0
-Keeps old new = (name : List ℕ) (number : ℕ) → get_by_text old name ≡ Some number → get_by_text new name ≡ Some number
+abbrev pub KeepsNumbers : BTreeMap (String Global) ℕ → BTreeMap (String Global) ℕ → Type 0
+KeepsNumbers old new = (name : List ℕ) (number : ℕ) → get_by_text old name ≡ Some number → get_by_text new name ≡ Some number

@@ -2,7 +2,7 @@
 
 ghost use Rattle.std.specs.Prelude.{◌≡◌, ◌≤◌, ◌<◌, ◌+◌, ◌*◌, ◌^◌, ℕ, List, [], Some, true, bytes_eq, if◌then◌else◌, get_or, length, max, IfOk, OnOk, OnErr};
 ghost use Rattle.std.specs.BTreeMap.{get_by_text};
-ghost use Rattle.ink_names.specs.Hints.{Finds, Keeps, Leads, Right, behind, hash, mixed, slot};
+ghost use Rattle.ink_names.specs.Hints.{Finds, KeepsNumbers, Leads, Right, behind, hash, mixed, slot};
 ghost use Rattle.ink_names.specs.Names.{Differ, names_of, number_of};
 
 use std::alloc::{AllocError, Global};
@@ -73,7 +73,7 @@ impl Hints {
         requires { 0 < count }
         ensures slots { IfOk result (λ hints. length hints ≡ count) }
         ensures right { let all = names_of names.now.items in Differ all → Right others.old all → Right others.new all }
-        ensures kept { Keeps others.old others.new }
+        ensures kept { KeepsNumbers others.old others.new }
         ensures finds { let all = names_of names.now.items in IfOk result (λ hints. Differ all → Right others.old all → Finds hints others.new all) }
     {
         let mut hints = Hints {
@@ -98,10 +98,10 @@ impl Hints {
         requires number { number + 1 < 2 ^ 64 }
         ensures slots { length self.new ≡ length self.old }
         ensures right { (names : List (List ℕ)) → number_of names name.now ≡ Some number → Right others.old names → Right others.new names }
-        ensures kept { Keeps others.old others.new }
+        ensures kept { KeepsNumbers others.old others.new }
         ensures leads { (other : List ℕ) (its : ℕ) → Leads self.old others.old other its → Leads self.new others.new other its }
         ensures ok { OnOk result ((names : List (List ℕ)) → number_of names name.now ≡ Some number → Right others.old names → Leads self.new others.new name.now number) }
-        ensures err { OnErr result (Keeps others.new others.old) }
+        ensures err { OnErr result (KeepsNumbers others.new others.old) }
     {
         if self.mark(name, number) || others.contains_key(name) {
             return Ok(());

@@ -2,15 +2,15 @@
 use Rattle.std.proofs.Common.{◌≡◌, ℕ, Bool, true, false, not, ◌&&◌, ◌||◌, eqb, List, [], ◌∷◌, ◌++◌, drop, if◌then◌else◌, is_some, reverse, Option, None, Some, refl, sym, ap, ◌∙◌, subst}
 use Rattle.std.proofs.lemmas.Bool.{or_left, eq-eqb, ne_eqb}
 use Rattle.std.proofs.lemmas.List.{reverse-reverse}
-use Rattle.ink_model.specs.Clean.{clean}
-use Rattle.ink_model.specs.Shown.{blank_shown, clear, ends, newlines_before, is_among, open_newline, has_more, more_from, is_shown, shown_text, shows_text, some, text_before}
+use Rattle.ink_model.specs.Text.Clean.{clean}
+use Rattle.ink_model.specs.Text.Shown.{blank_shown, unhidden_newline, newline_last, newlines_before, is_among, open_newline, has_more, more_from, is_shown, shown_text, shows_text, shown_before, text_before}
 use Rattle.ink_model.specs.declared.mark.Mark.{Mark}
 use Rattle.ink_model.specs.declared.mark.Mark.TheVariants.{Text, Blank, Newline}
 use Rattle.ink_out.specs.declared.tracker.First.{First}
 use Rattle.ink_out.specs.declared.tracker.Tracker.{Tracker}
 use Rattle.ink_out.specs.declared.tracker.Waiting.{Waiting}
 use Rattle.ink_out.specs.declared.state.State.{State}
-use Rattle.ink_out.specs.Tracks.{stays, waits, Tracks, Fits, FitsNewline}
+use Rattle.ink_out.specs.Tracks.{stays, waits, Tracks, FitsWaiting, FitsNewline}
 use Rattle.ink_out.specs.Stands.{Stands, is_past}
 use Rattle.ink_out.proofs.Tracking.{hidden_now}
 use Rattle.ink_out.proofs.Opens.{more_is, opens_there, open_none, open_followed}
@@ -27,14 +27,14 @@ shown_now before s settled w is t = t.newlines [] ∙ rw (is, waits_now before w
 
 pub open_waiting : (marks : List Mark) (settled : List ℕ) (s : State) (w : Waiting) → s.tracker.newline ≡ Some w → w.tagged ≡ false → Stands (reverse marks) settled s → Some w.at ≡ open_newline marks
 open_waiting marks settled s w is untagged h =
-    let fits : FitsNewline (reverse marks) s.tracker w = subst (λ o. Fits (reverse marks) s.tracker o) is h.tracks.fits in
+    let fits : FitsNewline (reverse marks) s.tracker w = subst (λ o. FitsWaiting (reverse marks) s.tracker o) is h.tracks.fits in
     let now = shown_now (reverse marks) s.tracker settled w is h.tracks in
     let among : is_among w.at (newlines_before (reverse marks) []) ≡ true = ap (is_among w.at) now ∙ or_left (eqb w.at w.at) (is_among w.at settled) (eq-eqb w.at w.at refl) in
     sym (opens_there (reverse marks) [] w.at among (sym fits.tagged ∙ untagged)).1
 
 pub open_tagged : (marks : List Mark) (settled : List ℕ) (s : State) (w : Waiting) → s.tracker.newline ≡ Some w → w.tagged ≡ true → Stands (reverse marks) settled s → None ≡ open_newline marks
 open_tagged marks settled s w is tagged h =
-    let fits : FitsNewline (reverse marks) s.tracker w = subst (λ o. Fits (reverse marks) s.tracker o) is h.tracks.fits in
+    let fits : FitsNewline (reverse marks) s.tracker w = subst (λ o. FitsWaiting (reverse marks) s.tracker o) is h.tracks.fits in
     sym (open_followed (reverse marks) [] w.at settled (shown_now (reverse marks) s.tracker settled w is h.tracks) (sym fits.tagged ∙ tagged))
 
 pub open_nothing : (marks : List Mark) (settled : List ℕ) (s : State) → s.tracker.newline ≡ None → Stands (reverse marks) settled s → None ≡ open_newline marks
@@ -61,18 +61,18 @@ pub shows_of : (marks : List Mark) (settled : List ℕ) (s : State) → Stands (
 shows_of marks settled s h = sym (h.tracks.some [] ∙ ap (λ b. s.tracker.text || b) (stays_now (reverse marks) s.tracker.blank))
 
 -- where neither a text nor a blank is shown, nothing is
-nothing_before : (before after : List Mark) → some before after ≡ false → text_before before after ≡ []
+nothing_before : (before after : List Mark) → shown_before before after ≡ false → text_before before after ≡ []
 nothing_before [] after h = refl
 nothing_before (Text t ∷ before) after h = absurd (cc)
 nothing_before (Blank t ∷ before) after h = by (blank_shown before after) h (nothing_before before (Blank t ∷ after))
   where
-    by : (b : Bool) → b || some before (Blank t ∷ after) ≡ false → (some before (Blank t ∷ after) ≡ false → text_before before (Blank t ∷ after) ≡ [])
+    by : (b : Bool) → b || shown_before before (Blank t ∷ after) ≡ false → (shown_before before (Blank t ∷ after) ≡ false → text_before before (Blank t ∷ after) ≡ [])
         → text_before before (Blank t ∷ after) ++ (if b then t else []) ≡ []
     by true k on = absurd (cc)
     by false k on = ap (λ text. text ++ []) (on k)
-nothing_before (Newline ∷ before) after h = rw (nothing_before before (Newline ∷ after) h) (unshown _ (clear before after) (some before (Newline ∷ after)) h)
+nothing_before (Newline ∷ before) after h = rw (nothing_before before (Newline ∷ after) h) (unshown _ (unhidden_newline before after) (shown_before before (Newline ∷ after)) h)
   where
-    unshown : (text : List ℕ) (c x : Bool) → x ≡ false → (if c && (x && not (ends before (Newline ∷ after))) then text else []) ≡ []
+    unshown : (text : List ℕ) (c x : Bool) → x ≡ false → (if c && (x && not (newline_last before (Newline ∷ after))) then text else []) ≡ []
     unshown text true true k = absurd (cc)
     unshown text c x k = refl
 nothing_before (m ∷ before) after h = ap (λ text. text ++ []) (nothing_before before (m ∷ after) h)

@@ -4,9 +4,9 @@ use Rattle.std.specs.List.{list_any}
 use Rattle.std.proofs.Math.Bool.{or_assoc}
 use Rattle.std.proofs.lemmas.Bool.{and_cases, not-false, or_parts}
 use Rattle.std.proofs.lemmas.List.Sorted.{list_any-IsPermutation, IsPermutation-reverse}
-use Rattle.ink_model.specs.Bytes.{is_blank, is_newline}
-use Rattle.ink_model.specs.Clean.{clean}
-use Rattle.ink_model.specs.Shown.{blank_shown, clear, ends, has_text, is_filled_blank, newline_shown, shown_text, shows_more, shows_text, some, text_before}
+use Rattle.ink_model.specs.Text.Bytes.{is_blank, is_newline}
+use Rattle.ink_model.specs.Text.Clean.{clean}
+use Rattle.ink_model.specs.Text.Shown.{blank_shown, unhidden_newline, newline_last, has_text, is_filled_blank, newline_shown, shown_text, shows_more, shows_text, shown_before, text_before}
 use Rattle.ink_model.specs.declared.mark.Mark.{Mark}
 use Rattle.ink_model.specs.declared.mark.Mark.TheVariants.{Text, Blank, Newline}
 use Rattle.ink_out.specs.Cleaning.{cleaned_on}
@@ -43,7 +43,7 @@ held : (t : List ℕ) (b : Bool) → is_filled t ≡ false → is_filled (if b t
 held t true h = h
 held t false h = refl
 
-blank_before : (before after : List Mark) → has_text before ≡ false → ends before after ≡ false → list_any is_filled_blank before ≡ false
+blank_before : (before after : List Mark) → has_text before ≡ false → newline_last before after ≡ false → list_any is_filled_blank before ≡ false
     → is_filled (text_before before after) ≡ false
 blank_before [] after h e w = refl
 blank_before (Text t ∷ before) after h e w = absurd (cc)
@@ -52,9 +52,9 @@ blank_before (Blank t ∷ before) after h e w =
     blank_append (text_before before (Blank t ∷ after)) (if blank_shown before after then t else []) (blank_before before (Blank t ∷ after) h e p.1)
     (held t (blank_shown before after) p.0)
 blank_before (Newline ∷ before) after h e w =
-    let p = or_parts (clear before after && some before (Newline ∷ after)) (ends before (Newline ∷ after)) e in
+    let p = or_parts (unhidden_newline before after && shown_before before (Newline ∷ after)) (newline_last before (Newline ∷ after)) e in
     blank_append (text_before before (Newline ∷ after)) (if newline_shown before after then 10 ∷ [] else []) (blank_before before (Newline ∷ after) h p.1 w)
-    (unshown (clear before after) (some before (Newline ∷ after)) (ends before (Newline ∷ after)) p.0)
+    (unshown (unhidden_newline before after) (shown_before before (Newline ∷ after)) (newline_last before (Newline ∷ after)) p.0)
 blank_before (m ∷ before) after h e w = blank_append (text_before before (m ∷ after)) [] (blank_before before (m ∷ after) h e w) refl
 
 turned_round : (marks : List Mark) → list_any is_filled_blank (reverse marks) ≡ list_any is_filled_blank marks
@@ -62,11 +62,11 @@ turned_round marks = sym (list_any-IsPermutation is_filled_blank marks (reverse 
 
 pub nothing_more : (marks : List Mark) → shows_more marks ≡ false → [] ≡ clean (shown_text marks)
 nothing_more marks h =
-    elim (and_cases (shows_text marks) (has_text (reverse marks) || (ends (reverse marks) [] || list_any is_filled_blank marks)) h) [
+    elim (and_cases (shows_text marks) (has_text (reverse marks) || (newline_last (reverse marks) [] || list_any is_filled_blank marks)) h) [
       | inl none ↦ nothing_shown marks none
       | inr blank ↦
-          let p = or_parts (has_text (reverse marks)) (ends (reverse marks) [] || list_any is_filled_blank marks) blank in
-          let q = or_parts (ends (reverse marks) []) (list_any is_filled_blank marks) p.1 in
+          let p = or_parts (has_text (reverse marks)) (newline_last (reverse marks) [] || list_any is_filled_blank marks) blank in
+          let q = or_parts (newline_last (reverse marks) []) (list_any is_filled_blank marks) p.1 in
           sym (clean_is (shown_text marks) ∙ cleaned_blank (shown_text marks) (blank_before (reverse marks) [] p.0 q.0 (turned_round marks ∙ q.1)))
     ]
 
@@ -80,7 +80,7 @@ pub more_is : (marks : List Mark) (settled : List ℕ) (s : State) → Stands (r
 more_is marks settled s h =
     let t = s.tracker in
     let words = list_any is_filled_blank marks in
-    let ends_is : is_some t.newline ≡ ends (reverse marks) [] = sym (h.tracks.ends [] ∙ waiting_now (reverse marks) t.newline) in
+    let ends_is : is_some t.newline ≡ newline_last (reverse marks) [] = sym (h.tracks.ends [] ∙ waiting_now (reverse marks) t.newline) in
     ap (λ b. b && ((t.text || is_some t.newline) || words)) (shows_of marks settled s h)
     ∙ ap (λ b. shows_text marks && b) (or_assoc t.text (is_some t.newline) words)
     ∙ ap (λ b. shows_text marks && (b || (is_some t.newline || words))) h.tracks.text

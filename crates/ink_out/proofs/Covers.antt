@@ -1,7 +1,7 @@
 -- How far a Leave reaches back.
 use Rattle.std.proofs.Common.{◌≡◌, ℕ, ◌<◌, ◌≤◌, true, false, not, ◌||◌, cond, eqb, List, [], ◌∷◌, length, Option, None, Some, refl, sym, arith, inl, inr}
 use Rattle.std.proofs.lemmas.Bool.{cases_lt, or_cases, or_parts, or_from, or_left, or_right, not-false, not_from_true, false≢true, lt-ltb, le-ltb, le-leb, lt-leb}
-use Rattle.ink_model.specs.Shown.{entered, passes, covered}
+use Rattle.ink_model.specs.Text.Shown.{has_enter, passes, covered}
 use Rattle.ink_model.specs.declared.mark.Mark.{Mark}
 use Rattle.ink_model.specs.declared.mark.Mark.TheVariants.{Text, Enter, Leave}
 use Rattle.ink_out.specs.Tracks.{since, enter_at, reach_of, reached}
@@ -9,15 +9,15 @@ use Rattle.ink_out.specs.Tracks.{since, enter_at, reach_of, reached}
 -- ---- fewer marks between, more is reached
 
 abbrev Within : List Mark → List Mark → Type 0
-Within b a = (n : ℕ) → entered n b ≡ true → entered n a ≡ true
+Within b a = (n : ℕ) → has_enter n b ≡ true → has_enter n a ≡ true
 
 within_enter : (b a : List Mark) (k : ℕ) → Within b a → Within (Enter k ∷ b) (Enter k ∷ a)
 within_enter b a k w n h =
-    elim (or_cases (eqb n k) (entered n b) h) [ inl e ↦ or_left (eqb n k) (entered n a) e | inr e ↦ or_right (eqb n k) (entered n a) (w n e) ]
+    elim (or_cases (eqb n k) (has_enter n b) h) [ inl e ↦ or_left (eqb n k) (has_enter n a) e | inr e ↦ or_right (eqb n k) (has_enter n a) (w n e) ]
 
 passes_less : (b a : List Mark) (n : Option ℕ) → Within b a → passes n b ≡ false → passes n a ≡ false
 passes_less b a None w h = h
-passes_less b a (Some n) w h = not_from_true (entered n a) (w n (not-false (entered n b) h))
+passes_less b a (Some n) w h = not_from_true (has_enter n a) (w n (not-false (has_enter n b) h))
 
 covered_less : (b a after : List Mark) → Within b a → covered b after ≡ false → covered a after ≡ false
 covered_less b a [] w h = refl
@@ -48,12 +48,12 @@ reached_past n at (Enter k ∷ before) h =
     [ true ↦ le-leb (length before) at (omega arith) | false ↦ reached_past n at before (omega arith) ]
 reached_past n at (m ∷ before) h = reached_past n at before (omega arith)
 
-passes_number : (n at : ℕ) (before : List Mark) → not (entered n (since before at)) ≡ reached at (enter_at n before)
+passes_number : (n at : ℕ) (before : List Mark) → not (has_enter n (since before at)) ≡ reached at (enter_at n before)
 passes_number n at [] = refl
 passes_number n at (Enter k ∷ before) =
     elim (cases_lt at (length before)) [
       | inl h ↦ rw (since_more (Enter k) before at h)
-          (elim (eqb n k) as (λ b. not (b || entered n (since before at)) ≡ reached at (cond b (Some (length before)) (enter_at n before)))
+          (elim (eqb n k) as (λ b. not (b || has_enter n (since before at)) ≡ reached at (cond b (Some (length before)) (enter_at n before)))
           [ true ↦ sym (lt-leb (length before) at h) | false ↦ passes_number n at before ])
       | inr h ↦ rw (le-ltb at (length before) h)
           (elim (eqb n k) as (λ b. true ≡ reached at (cond b (Some (length before)) (enter_at n before)))

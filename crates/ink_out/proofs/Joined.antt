@@ -2,8 +2,8 @@
 use Rattle.std.proofs.Common.{◌≡◌, ◌≢◌, ℕ, ◌+◌, List, [], ◌∷◌, ◌++◌, true, refl, sym, ap, ◌∙◌, reverse, drop, get_or, length, ◌≤◌, ◌<◌}
 use Rattle.std.specs.List.{list_all}
 use Rattle.std.proofs.lemmas.List.{append-nil, append_assoc, at_drop_more, drop_all, reverse-append}
-use Rattle.ink_model.specs.Output.{is_text}
-use Rattle.ink_model.specs.Shown.{shown_text, text_before, written}
+use Rattle.ink_model.specs.Text.Output.{is_text}
+use Rattle.ink_model.specs.Text.Shown.{shown_text, text_before, written}
 use Rattle.ink_model.specs.declared.mark.Mark.{Mark}
 use Rattle.ink_model.specs.declared.mark.Mark.TheVariants as kinds
 use Rattle.ink_out.specs.declared.kept.Form.{Form}

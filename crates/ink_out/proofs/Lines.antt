@@ -7,8 +7,8 @@ use Rattle.std.proofs.lemmas.List.{append-nil, append_assoc, take-append-drop, l
 use Rattle.std.proofs.Math.Seq.{drop-length, take-length}
 use Rattle.std.proofs.lemmas.List.Sums.{prefix_len-le-length, prefix_len_passes, prefix_len_stops}
 use Rattle.std.proofs.lemmas.Str.{IsCharBoundary-end, IsCharBoundary-before_ascii, IsCharBoundary-after_ascii}
-use Rattle.ink_model.specs.Bytes.{is_newline, is_blank, is_white, onto, pieces, joined, is_filled}
-use Rattle.ink_model.specs.Clean.{clean_line, clean}
+use Rattle.ink_model.specs.Text.Bytes.{is_newline, is_blank, is_white, onto, pieces, joined, is_filled}
+use Rattle.ink_model.specs.Text.Clean.{clean_line, clean}
 use Rattle.ink_out.specs.Cleaning.{AreWords, space, gap, cleaned_on, shown_as, HoldsBytes}
 use Rattle.ink_out.specs.declared.cleaning.Before.{Before}
 use Rattle.ink_out.specs.declared.cleaning.Before.TheVariants.{Nothing, Word, Gap}

@@ -3,7 +3,7 @@ use Rattle.std.proofs.Common.{◌≡◌, ℕ, suc, ◌<◌, ◌≤◌, Bool, tru
 use Rattle.std.proofs.lemmas.Bool.{cases_lt, cases_Bool, or_cases, or_parts, or_left, or_right, eqb-true, eq-eqb, false≢true, le-leb, lt-leb, both_ways}
 use Rattle.std.proofs.lemmas.List.{reverse-append, length-reverse, drop-append-le, drop_all}
 use Rattle.std.proofs.Math.Bool.{or-false}
-use Rattle.ink_model.specs.Shown.{clear, some, ends, newline_shown, newlines_before, is_among, open_before, has_more}
+use Rattle.ink_model.specs.Text.Shown.{unhidden_newline, shown_before, newline_last, newline_shown, newlines_before, is_among, open_before, has_more}
 use Rattle.ink_model.specs.declared.mark.Mark.{Mark}
 use Rattle.ink_model.specs.declared.mark.Mark.TheVariants.{Text, Newline, Tag}
 use Rattle.ink_out.specs.Tracks.{since}
@@ -49,19 +49,19 @@ shown_clear true true false h = (refl, refl)
 shown_clear x s e h = absurd (false≢true h)
 
 -- a shown newline that no Text or Tag follows is the last one shown, and it is the open one
-pub opens_there : (before after : List Mark) (i : ℕ) → is_among i (newlines_before before after) ≡ true → has_more (since before i) ≡ false → (ends before after ≡ true) × (open_before before after ≡ Some i)
+pub opens_there : (before after : List Mark) (i : ℕ) → is_among i (newlines_before before after) ≡ true → has_more (since before i) ≡ false → (newline_last before after ≡ true) × (open_before before after ≡ Some i)
 opens_there [] after i e h = absurd (false≢true e)
 opens_there (Text t ∷ before) after i e h = absurd (marked_behind (Text t) before after i (λ ms. refl) e h)
 opens_there (Tag t ∷ before) after i e h = absurd (marked_behind (Tag t) before after i (λ ms. refl) e h)
 opens_there (Newline ∷ before) after i e h =
-    let shows = clear before after && some before (Newline ∷ after) in
-    let ended = ends before (Newline ∷ after) in
+    let shows = unhidden_newline before after && shown_before before (Newline ∷ after) in
+    let ended = newline_last before (Newline ∷ after) in
     let there : is_among i (newlines_before before (Newline ∷ after)) ≡ true → (ended ≡ true) × (open_before before (Newline ∷ after) ≡ Some i) =
     λ among. opens_there before (Newline ∷ after) i among (plain_behind Newline before after i false (λ ms. refl) among h) in
     elim (cases_Bool (newline_shown before after)) [
       | inl s ↦
           let among : is_among i (length before ∷ newlines_before before (Newline ∷ after)) ≡ true = rw s at e in
-          let (here, last) = shown_clear (clear before after) (some before (Newline ∷ after)) ended s in (
+          let (here, last) = shown_clear (unhidden_newline before after) (shown_before before (Newline ∷ after)) ended s in (
             or_left shows ended here,
             rw s (elim (or_cases (eqb i (length before)) (is_among i (newlines_before before (Newline ∷ after))) among)
                 [ inl k ↦ ap Some (sym (eqb-true i (length before) k)) | inr k ↦ absurd (both_ways ended last (there k).0) ]),
@@ -75,14 +75,14 @@ opens_there (m ∷ before) after i e h = opens_there before (m ∷ after) i e (p
 -- ---- none is open
 
 -- where the last shown mark is no newline, none is
-pub open_none : (before after : List Mark) → ends before after ≡ false → open_before before after ≡ None
+pub open_none : (before after : List Mark) → newline_last before after ≡ false → open_before before after ≡ None
 open_none [] after h = refl
 open_none (Text t ∷ before) after h = refl
 open_none (Tag t ∷ before) after h = refl
 open_none (Newline ∷ before) after h =
-    let (c, e) = or_parts (clear before after && some before (Newline ∷ after)) (ends before (Newline ∷ after)) h in
+    let (c, e) = or_parts (unhidden_newline before after && shown_before before (Newline ∷ after)) (newline_last before (Newline ∷ after)) h in
     elim (cases_Bool (newline_shown before after)) [
-      | inl s ↦ absurd (both_ways (clear before after && some before (Newline ∷ after)) c (shown_clear (clear before after) (some before (Newline ∷ after)) (ends before (Newline ∷ after)) s).0)
+      | inl s ↦ absurd (both_ways (unhidden_newline before after && shown_before before (Newline ∷ after)) c (shown_clear (unhidden_newline before after) (shown_before before (Newline ∷ after)) (newline_last before (Newline ∷ after)) s).0)
       | inr s ↦ rw s (open_none before (Newline ∷ after) e)
     ]
 open_none (m ∷ before) after h = open_none before (m ∷ after) h

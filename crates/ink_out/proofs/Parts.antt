@@ -1,8 +1,8 @@
 -- The pieces of a text, as parts of it.
 use Rattle.std.proofs.Common.{◌≡◌, ◌∙◌, ◌+◌, ◌-◌, ℕ, List, [], ◌∷◌, ◌++◌, true, false, drop, take, length, arith, ap, refl, sym}
 use Rattle.std.proofs.lemmas.List.{append_assoc, drop-drop, take_rest}
-use Rattle.ink_model.specs.Bytes.{has_newline, is_blank, is_white, leading, trailing, trimmed, without}
-use Rattle.ink_model.specs.Mark.{cut, cut_end, piece}
+use Rattle.ink_model.specs.Text.Bytes.{has_newline, is_blank, is_white, leading, trailing, trimmed, without}
+use Rattle.ink_model.specs.Text.Mark.{cut, cut_end, piece}
 use Rattle.ink_model.specs.declared.mark.Mark.{Mark}
 use Rattle.ink_model.specs.declared.mark.Mark.TheVariants.{Newline}
 

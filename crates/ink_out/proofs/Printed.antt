@@ -9,9 +9,9 @@ use Rattle.std.proofs.lemmas.Int.{ints}
 use Rattle.std.proofs.lemmas.List.Sorted.{list_any-IsPermutation, IsPermutation-reverse}
 use Rattle.std.proofs.lemmas.Str.Parse.{digit_from_value}
 use Rattle.std.specs.Str.Parse.{AllDigits}
-use Rattle.ink_model.specs.Bytes.{is_blank, is_white, leading, trailing}
-use Rattle.ink_model.specs.Mark.{cut, piece}
-use Rattle.ink_model.specs.Value.{truth_text}
+use Rattle.ink_model.specs.Text.Bytes.{is_blank, is_white, leading, trailing}
+use Rattle.ink_model.specs.Text.Mark.{cut, piece}
+use Rattle.ink_model.specs.Values.Value.{truth_text}
 use Rattle.ink_model.specs.declared.mark.Mark.TheVariants.{Text}
 use Rattle.ink_out.proofs.Noting.{whole_cut}
 

@@ -2,7 +2,7 @@
 use Rattle.std.proofs.Common.{◌≡◌, ℕ, suc, ◌+◌, ◌-◌, ◌<◌, ◌≤◌, true, false, cond, eqb, List, [], ◌∷◌, ◌++◌, length, reverse, take, get_or, refl, sym, ap, ◌∙◌, subst, arith}
 use Rattle.std.proofs.lemmas.Bool.{ne_eqb, or_from}
 use Rattle.std.proofs.lemmas.List.{reverse-append, take_more}
-use Rattle.ink_model.specs.Shown.{newline_shown, newlines_before, is_among}
+use Rattle.ink_model.specs.Text.Shown.{newline_shown, newlines_before, is_among}
 use Rattle.ink_model.specs.declared.mark.Mark.{Mark}
 use Rattle.ink_model.specs.declared.mark.Mark.TheVariants.{Newline}
 use Rattle.ink_out.specs.declared.cutting.Piece.{Piece}

@@ -2,7 +2,7 @@
 use Rattle.std.proofs.Common.{◌≡◌, ◌∙◌, ℕ, Bool, true, false, not, ◌&&◌, ◌||◌, cond, eqb, List, [], ◌∷◌, ◌++◌, drop, get_or, length, reverse, take, ◌<◌, ◌+◌, arith, if◌then◌else◌, Option, None, Some, refl, sym, ap, subst}
 use Rattle.std.proofs.Math.Seq.{drop-append_seam, take-append_seam}
 use Rattle.std.proofs.lemmas.List.{append-nil, append_assoc, length-append, length-reverse, nil_from_length, reverse-append, reverse-reverse, length-take-le, take-append-drop, take_more}
-use Rattle.ink_model.specs.Shown.{clear, ends, newlines_before, some}
+use Rattle.ink_model.specs.Text.Shown.{unhidden_newline, newline_last, newlines_before, shown_before}
 use Rattle.ink_model.specs.declared.mark.Mark.{Mark}
 use Rattle.ink_model.specs.declared.mark.Mark.TheVariants.{Text, Blank, Newline, Enter}
 use Rattle.ink_out.specs.declared.enters.Enters.{Enters}
@@ -107,7 +107,7 @@ pub settled_back : (m : Mark) (before : List Mark) (s t : Tracker) (xs ys : List
 settled_back (Text u) before s t xs ys p q =
     sym (none_waits (Text u ∷ before) t.newline [] ys (sym (q.ends []))) ∙ sym (q.newlines []) ∙ p.newlines (Text u ∷ []) ∙ by_text before s.newline u xs
 settled_back Newline before s t xs ys p q =
-    by_newline (clear before []) (some before (Newline ∷ [])) (ends before (Newline ∷ [])) (length before) (newlines_before before (Newline ∷ []))
+    by_newline (unhidden_newline before []) (shown_before before (Newline ∷ [])) (newline_last before (Newline ∷ [])) (length before) (newlines_before before (Newline ∷ []))
     (waiting_at before s.newline (Newline ∷ [])) (waiting_at (Newline ∷ before) t.newline []) xs ys
     (counted before s.newline (Newline ∷ []) ∙ ap one_if (sym (p.ends (Newline ∷ []))))
     (counted (Newline ∷ before) t.newline [] ∙ ap one_if (sym (q.ends [])))

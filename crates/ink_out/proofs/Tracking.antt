@@ -3,7 +3,7 @@ use Rattle.std.proofs.Common.{◌≡◌, ℕ, ◌<◌, Bool, true, false, not, �
 use Rattle.std.specs.Option.{is_some}
 use Rattle.std.proofs.lemmas.Bool.{cases_Bool, or_parts, or_right, not-true, false≢true}
 use Rattle.std.proofs.Math.Bool.{and-true}
-use Rattle.ink_model.specs.Shown.{glued, broken, glues, covered, some, clear, ends, newlines_before, has_more}
+use Rattle.ink_model.specs.Text.Shown.{glued, newline_before, glues, covered, shown_before, unhidden_newline, newline_last, newlines_before, has_more}
 use Rattle.ink_model.specs.declared.mark.Mark.{Mark}
 use Rattle.ink_model.specs.declared.mark.Mark.TheVariants.{Text, Blank, Newline, Glue, Tag, Leave}
 use Rattle.ink_out.specs.declared.tracker.Hides.{Hides}
@@ -11,7 +11,7 @@ use Rattle.ink_out.specs.declared.tracker.Hides.TheVariants.{Near, Any, Never}
 use Rattle.ink_out.specs.declared.tracker.Waiting.{Waiting}
 use Rattle.ink_out.specs.declared.tracker.First.{First}
 use Rattle.ink_out.specs.declared.tracker.Tracker.{Tracker}
-use Rattle.ink_out.specs.Tracks.{since, hidden_by, waits, waiting, waiting_at, IsBroken, FitsNewline, Fits, stays, FitsBlank, FitsFirst, Tracks, reach_of, reached}
+use Rattle.ink_out.specs.Tracks.{since, hidden_by, waits, waiting, waiting_at, IsBroken, FitsNewline, FitsWaiting, stays, FitsBlank, FitsFirst, Tracks, reach_of, reached}
 use Rattle.ink_out.specs.Next.{hides_behind, hides_next, newline_left, blank_left}
 use Rattle.ink_out.proofs.Covers.{uncovered, since_more, since_here, passes_reached}
 
@@ -46,7 +46,7 @@ unhidden before after t o Any any g e =
     unjoined before after o b (rw textless at e)
 
 -- a newline behind one that waits shows it is waiting
-pub behind : (before after : List Mark) (s : Tracker) (settled : List ℕ) (w : Waiting) → Tracks before s settled → FitsNewline before s w → clear before after ≡ true → some before (Newline ∷ after) ≡ true → waits before w (Newline ∷ after) ≡ true
+pub behind : (before after : List Mark) (s : Tracker) (settled : List ℕ) (w : Waiting) → Tracks before s settled → FitsNewline before s w → unhidden_newline before after ≡ true → shown_before before (Newline ∷ after) ≡ true → waits before w (Newline ∷ after) ≡ true
 behind before after s settled w t fits c e =
     let (g, r) = or_parts (glued before) (glues after || covered [] after) (not-true (glued before || (glues after || covered [] after)) c) in
     let (near, cov) = or_parts (glues after) (covered [] after) r in
@@ -78,16 +78,16 @@ pub stays_over : (m : Mark) → Plain m → (before after : List Mark) (s : Trac
 stays_over m p before after s None f = refl
 stays_over m p before after s (Some b) f = rw (since_more m before b.at f.within, p.joins after, p.covered (since before b.at) after) refl
 
-waiting_over : (m : Mark) → Plain m → (before after : List Mark) (s : Tracker) (o : Option Waiting) → Fits before s o → waiting (m ∷ before) o after ≡ waiting before o (m ∷ after)
+waiting_over : (m : Mark) → Plain m → (before after : List Mark) (s : Tracker) (o : Option Waiting) → FitsWaiting before s o → waiting (m ∷ before) o after ≡ waiting before o (m ∷ after)
 waiting_over m p before after s None f = refl
 waiting_over m p before after s (Some w) f = waits_over m p before after w f.within
 
-waiting_at_over : (m : Mark) → Plain m → (before after : List Mark) (s : Tracker) (o : Option Waiting) → Fits before s o → waiting_at (m ∷ before) o after ≡ waiting_at before o (m ∷ after)
+waiting_at_over : (m : Mark) → Plain m → (before after : List Mark) (s : Tracker) (o : Option Waiting) → FitsWaiting before s o → waiting_at (m ∷ before) o after ≡ waiting_at before o (m ∷ after)
 waiting_at_over m p before after s None f = refl
 waiting_at_over m p before after s (Some w) f = ap (λ b. cond b (w.at ∷ []) []) (waits_over m p before after w f.within)
 
 -- the newline that waits goes on waiting
-pub waiting_kept : (m : Mark) → Plain m → (before after : List Mark) (s : Tracker) (settled : List ℕ) → Tracks before s settled → (newlines_before before (m ∷ after) ≡ waiting_at (m ∷ before) s.newline after ++ settled) × (ends before (m ∷ after) ≡ waiting (m ∷ before) s.newline after)
+pub waiting_kept : (m : Mark) → Plain m → (before after : List Mark) (s : Tracker) (settled : List ℕ) → Tracks before s settled → (newlines_before before (m ∷ after) ≡ waiting_at (m ∷ before) s.newline after ++ settled) × (newline_last before (m ∷ after) ≡ waiting (m ∷ before) s.newline after)
 waiting_kept m p before after s settled t = (
   t.newlines (m ∷ after) ∙ ap (λ ks. ks ++ settled) (sym (waiting_at_over m p before after s s.newline t.fits)),
   t.ends (m ∷ after) ∙ sym (waiting_over m p before after s s.newline t.fits),
@@ -106,10 +106,10 @@ value_of (Some w) h = (w, refl)
 pub newline_more : (before : List Mark) (s : Tracker) (settled : List ℕ) → is_some s.newline ≡ true → Tracks before s settled → Tracks (Newline ∷ before) s settled
 newline_more before s settled h t =
     let (w, is) = value_of s.newline h in
-    let fits : FitsNewline before s w = subst (λ o. Fits before s o) is t.fits in
+    let fits : FitsNewline before s w = subst (λ o. FitsWaiting before s o) is t.fits in
     let within = fits.within in
     let over : (after : List Mark) → waits (Newline ∷ before) w after ≡ waits before w (Newline ∷ after) = λ after. waits_over Newline plain_newline before after w within in
-    let hid : (after : List Mark) → clear before after ≡ true → some before (Newline ∷ after) ≡ true → ends before (Newline ∷ after) ≡ true =
+    let hid : (after : List Mark) → unhidden_newline before after ≡ true → shown_before before (Newline ∷ after) ≡ true → newline_last before (Newline ∷ after) ≡ true =
     λ after c e. t.ends (Newline ∷ after) ∙ rw is (behind before after s settled w t fits c e) in
     let new : FitsNewline (Newline ∷ before) s w =
     record { within = omega (arith, within); breaks = fits.breaks; any = fits.any; tagged = rw (since_more Newline before w.at within) fits.tagged } in
@@ -117,13 +117,13 @@ newline_more before s settled h t =
       text = t.text;
       glue = t.glue;
       breaks = fits.breaks;
-      fits = subst (λ o. Fits (Newline ∷ before) s o) (sym is) new;
+      fits = subst (λ o. FitsWaiting (Newline ∷ before) s o) (sym is) new;
       first = first_over Newline before s s s.blank refl (λ h. h) t.first;
       newlines = λ after.
-          rw (hidden_behind (clear before after) (some before (Newline ∷ after)) (ends before (Newline ∷ after)) (hid after))
+          rw (hidden_behind (unhidden_newline before after) (shown_before before (Newline ∷ after)) (newline_last before (Newline ∷ after)) (hid after))
           (t.newlines (Newline ∷ after) ∙ rw (is, over after) refl);
       ends = λ after.
-          same_behind (clear before after) (some before (Newline ∷ after)) (ends before (Newline ∷ after)) (hid after)
+          same_behind (unhidden_newline before after) (shown_before before (Newline ∷ after)) (newline_last before (Newline ∷ after)) (hid after)
           ∙ t.ends (Newline ∷ after) ∙ rw (is, over after) refl;
       some = λ after. t.some (Newline ∷ after) ∙ ap (λ b. s.text || b) (sym (stays_over Newline plain_newline before after s s.blank t.first));
     }
@@ -184,9 +184,9 @@ next_any g t o hides h a = cc
 
 pub newline_next : (before : List Mark) (s : Tracker) (settled : List ℕ) (hides : Hides) → s.newline ≡ None → hides_next s ≡ Some hides → Tracks before s settled → Tracks (Newline ∷ before) record s { broken = true; newline = Some record { at = length before; hides = hides; tagged = false } } settled
 newline_next before s settled hides is h t =
-    let shown : (after : List Mark) → (clear before after && some before (Newline ∷ after)) ≡ not (hidden_by hides after || covered [] after) =
+    let shown : (after : List Mark) → (unhidden_newline before after && shown_before before (Newline ∷ after)) ≡ not (hidden_by hides after || covered [] after) =
     λ after. rw (sym t.glue, t.some) (next_shown s.glue s.text s.blank hides before after h) in
-    let unended : (after : List Mark) → ends before (Newline ∷ after) ≡ false = λ after. t.ends (Newline ∷ after) ∙ rw is refl in
+    let unended : (after : List Mark) → newline_last before (Newline ∷ after) ≡ false = λ after. t.ends (Newline ∷ after) ∙ rw is refl in
     let rest : (after : List Mark) → newlines_before before (Newline ∷ after) ≡ settled = λ after. t.newlines (Newline ∷ after) ∙ rw is refl in
     record {
       text = t.text;
@@ -195,10 +195,10 @@ newline_next before s settled hides is h t =
       fits = record { within = omega arith; breaks = refl; any = next_any s.glue s.text s.blank hides h; tagged = rw since_here refl };
       first = first_over Newline before s record s { broken = true; newline = Some record { at = length before; hides = hides; tagged = false } } s.blank refl (λ _. refl) t.first;
       newlines = λ after.
-          rw (bare (clear before after) (some before (Newline ∷ after)) (ends before (Newline ∷ after)) (unended after), shown after, rest after, since_here)
+          rw (bare (unhidden_newline before after) (shown_before before (Newline ∷ after)) (newline_last before (Newline ∷ after)) (unended after), shown after, rest after, since_here)
           (put_before (not (hidden_by hides after || covered [] after)) (length before) settled);
       ends = λ after.
-          or_nothing (clear before after && some before (Newline ∷ after)) (ends before (Newline ∷ after)) (unended after)
+          or_nothing (unhidden_newline before after && shown_before before (Newline ∷ after)) (newline_last before (Newline ∷ after)) (unended after)
           ∙ shown after ∙ rw since_here refl;
       some = λ after. t.some (Newline ∷ after) ∙ ap (λ b. s.text || b) (sym (stays_over Newline plain_newline before after s s.blank t.first));
     }
@@ -209,24 +209,24 @@ last_of : (x y : Bool) → (x ≡ true → y ≡ true) → (x || y) ≡ y
 last_of true y h = sym (h refl)
 last_of false y h = refl
 
-some_blank : (a before after : List Mark) (s : Tracker) (b : First) → FitsBlank before s b → s.broken ≡ broken before → not (covered [] after || (broken before && glued after)) ≡ true → not (covered a after || (b.broken && glued after)) ≡ true
+some_blank : (a before after : List Mark) (s : Tracker) (b : First) → FitsBlank before s b → s.broken ≡ newline_before before → not (covered [] after || (newline_before before && glued after)) ≡ true → not (covered a after || (b.broken && glued after)) ≡ true
 some_blank a before after s b f e h =
-    let (c, j) = or_parts (covered [] after) (broken before && glued after) (not-true (covered [] after || (broken before && glued after)) h) in
+    let (c, j) = or_parts (covered [] after) (newline_before before && glued after) (not-true (covered [] after || (newline_before before && glued after)) h) in
     let u = uncovered a after c in
     let k : (b.broken && glued after) ≡ false =
     elim (cases_Bool b.broken) [
-      | inl r ↦ let q : broken before ≡ true = sym e ∙ f.breaks r in rw r (rw q at j)
+      | inl r ↦ let q : newline_before before ≡ true = sym e ∙ f.breaks r in rw r (rw q at j)
       | inr r ↦ rw r refl
     ] in
     rw (u, k) refl
 
-pub fits_over : (m : Mark) (before : List Mark) (s : Tracker) (o : Option Waiting) → ((ms : List Mark) → has_more (m ∷ ms) ≡ has_more ms) → Fits before s o → Fits (m ∷ before) s o
+pub fits_over : (m : Mark) (before : List Mark) (s : Tracker) (o : Option Waiting) → ((ms : List Mark) → has_more (m ∷ ms) ≡ has_more ms) → FitsWaiting before s o → FitsWaiting (m ∷ before) s o
 fits_over m before s None h f = f
 fits_over m before s (Some w) h f =
     let within = f.within in
     record { within = omega (arith, within); breaks = f.breaks; any = f.any; tagged = f.tagged ∙ sym (h (since before w.at)) ∙ ap has_more (sym (since_more m before w.at within)) }
 
-blank_after : (m : Mark) (before after : List Mark) (s : Tracker) (o : Option First) → FitsFirst before s o → s.broken ≡ broken before → (s.text || is_some o) ≡ true → not (covered [] after || (broken before && glued after)) ≡ true → (s.text || stays (m ∷ before) o after) ≡ true
+blank_after : (m : Mark) (before after : List Mark) (s : Tracker) (o : Option First) → FitsFirst before s o → s.broken ≡ newline_before before → (s.text || is_some o) ≡ true → not (covered [] after || (newline_before before && glued after)) ≡ true → (s.text || stays (m ∷ before) o after) ≡ true
 blank_after m before after s None f e h k = h
 blank_after m before after s (Some b) f e h k = rw (some_blank (since (m ∷ before) b.at) before after s b f e k) (or_right s.text true refl)
 
@@ -244,8 +244,8 @@ blank_more before text s settled h t =
       ends = λ after. (waiting_kept m p before after s settled t).1;
       some = λ after.
           let over = sym (stays_over m p before after s s.blank t.first) in
-          ap (λ b. not (covered [] after || (broken before && glued after)) || b) (t.some (m ∷ after) ∙ ap (λ b. s.text || b) over)
-          ∙ last_of (not (covered [] after || (broken before && glued after))) (s.text || stays (m ∷ before) s.blank after)
+          ap (λ b. not (covered [] after || (newline_before before && glued after)) || b) (t.some (m ∷ after) ∙ ap (λ b. s.text || b) over)
+          ∙ last_of (not (covered [] after || (newline_before before && glued after))) (s.text || stays (m ∷ before) s.blank after)
           (λ k. blank_after m before after s s.blank t.first t.breaks h k);
     }
 
@@ -255,7 +255,7 @@ left_hidden : (n : Option ℕ) (after : List Mark) (h : Hides) → hidden_by h (
 left_hidden n after Near = refl
 left_hidden n after h = refl
 
-left_waiting : (n : Option ℕ) (before after : List Mark) (s : Tracker) (o : Option Waiting) → Fits before s o → (waiting before o (Leave n ∷ after) ≡ waiting (Leave n ∷ before) (newline_left o (reach_of n before)) after) × (waiting_at before o (Leave n ∷ after) ≡ waiting_at (Leave n ∷ before) (newline_left o (reach_of n before)) after)
+left_waiting : (n : Option ℕ) (before after : List Mark) (s : Tracker) (o : Option Waiting) → FitsWaiting before s o → (waiting before o (Leave n ∷ after) ≡ waiting (Leave n ∷ before) (newline_left o (reach_of n before)) after) × (waiting_at before o (Leave n ∷ after) ≡ waiting_at (Leave n ∷ before) (newline_left o (reach_of n before)) after)
 left_waiting n before after s None f = (refl, refl)
 left_waiting n before after s (Some w) f =
     rw (passes_reached n w.at before)
@@ -277,11 +277,11 @@ left_broken : (o : Option First) (reach : Option ℕ) → IsBroken o → IsBroke
 left_broken None reach h = h
 left_broken (Some b) reach h = elim (reached b.at reach) as (λ r. IsBroken (cond r None (Some b))) [ true ↦ tt | false ↦ h ]
 
-left_fits : (m : Mark) (before : List Mark) (s r : Tracker) (o : Option Waiting) (reach : Option ℕ) → ((ms : List Mark) → has_more (m ∷ ms) ≡ has_more ms) → r.broken ≡ s.broken → r.text ≡ s.text → (IsBroken s.blank → IsBroken r.blank) → Fits before s o → Fits (m ∷ before) r (newline_left o reach)
+left_fits : (m : Mark) (before : List Mark) (s r : Tracker) (o : Option Waiting) (reach : Option ℕ) → ((ms : List Mark) → has_more (m ∷ ms) ≡ has_more ms) → r.broken ≡ s.broken → r.text ≡ s.text → (IsBroken s.blank → IsBroken r.blank) → FitsWaiting before s o → FitsWaiting (m ∷ before) r (newline_left o reach)
 left_fits m before s r None reach more eb et keeps f = f
 left_fits m before s r (Some w) reach more eb et keeps f =
     let within = f.within in
-    elim (reached w.at reach) as (λ b. Fits (m ∷ before) r (cond b None (Some w))) [
+    elim (reached w.at reach) as (λ b. FitsWaiting (m ∷ before) r (cond b None (Some w))) [
       | true ↦ tt
       | false ↦ record {
         within = omega (arith, within);
@@ -314,9 +314,9 @@ left before n reach s settled e t =
     }
 
 -- where nothing waits the end leaves all as it is
-left_quiet : (before : List Mark) (n : Option ℕ) (text glue broken : Bool) (newline : Option Waiting) (blank : Option First) (settled : List ℕ) → (is_some newline || is_some blank) ≡ false → Tracks before record { text = text; glue = glue; broken = broken; newline = newline; blank = blank } settled → Tracks (Leave n ∷ before) record { text = text; glue = glue; broken = broken; newline = newline; blank = blank } settled
-left_quiet before n text glue broken None None settled h t = left before n (reach_of n before) record { text = text; glue = glue; broken = broken; newline = None; blank = None } settled refl t
-left_quiet before n text glue broken newline blank settled h t = cc
+left_quiet : (before : List Mark) (n : Option ℕ) (text glue newline_before : Bool) (newline : Option Waiting) (blank : Option First) (settled : List ℕ) → (is_some newline || is_some blank) ≡ false → Tracks before record { text = text; glue = glue; broken = newline_before; newline = newline; blank = blank } settled → Tracks (Leave n ∷ before) record { text = text; glue = glue; broken = newline_before; newline = newline; blank = blank } settled
+left_quiet before n text glue newline_before None None settled h t = left before n (reach_of n before) record { text = text; glue = glue; broken = newline_before; newline = None; blank = None } settled refl t
+left_quiet before n text glue newline_before newline blank settled h t = cc
 
 pub left_as_is : (before : List Mark) (n : Option ℕ) (s : Tracker) (settled : List ℕ) → (is_some s.newline || is_some s.blank) ≡ false → Tracks before s settled → Tracks (Leave n ∷ before) s settled
 left_as_is before n s settled h t = left_quiet before n s.text s.glue s.broken s.newline s.blank settled h t

@@ -2,13 +2,13 @@
 use Rattle.std.proofs.Common.{◌≡◌, ◌∙◌, ◌≤◌, ◌<◌, ◌-◌, ℕ, Bool, true, false, List, [], ◌∷◌, ◌++◌, Option, None, Some, Result, Ok, Err, OnOk, ◌^◌, ap, arith, cond, get_or, is_some, length, refl, reverse, set, subst, sym, take}
 use Rattle.std.specs.Result.{IsErrAnd}
 use Rattle.std.proofs.lemmas.List.{length-reverse, reverse-append}
-use Rattle.ink_model.specs.Configuration.{Page, Section}
-use Rattle.ink_model.specs.Output.{is_crowded, noted, writes_marks}
+use Rattle.ink_model.specs.Run.Configuration.{Page, Section}
+use Rattle.ink_model.specs.Text.Output.{is_crowded, noted, writes_marks}
 use Rattle.ink_model.specs.declared.fault.Fault.{Fault}
 use Rattle.ink_model.specs.declared.fault.Fault.TheVariants.{TooDeep}
 use Rattle.ink_model.specs.declared.limits.TheConstants.{MAX_MARKS}
 use Rattle.ink_model.specs.declared.mark.Mark.{Mark}
-use Rattle.ink_out.specs.Undo.{GoesBack, Held, Keeps, open_in, open_marks, output_back, room_of, with_open, with_open_in}
+use Rattle.ink_out.specs.Undo.{GoesBack, Held, KeepsState, open_in, open_marks, output_back, room_of, with_open, with_open_in}
 use Rattle.ink_out.specs.Writing.{page_of}
 use Rattle.ink_out.specs.declared.state.State.{State}
 use Rattle.ink_out.specs.declared.undo.OutputPair.{OutputPair}
@@ -119,11 +119,11 @@ goes-more r s (e ∷ es) page more h =
     ((held.0, omega (arith, more, held.1)), h.1, goes-more (room_of e r) (room_of e s) es (output_back e page) (more_of e r s more) h.2)
 
 -- with a pair more
-pub goes-with : (e : OutputPair) (n : ℕ) (was is : Page) (u : Option (Undo OutputPair)) (r s : ℕ) → output_back e is ≡ was → Held s is → Keeps e was → r ≤ room_of e s
+pub goes-with : (e : OutputPair) (n : ℕ) (was is : Page) (u : Option (Undo OutputPair)) (r s : ℕ) → output_back e is ≡ was → Held s is → KeepsState e was → r ≤ room_of e s
     → GoesBack r (trail_of u) was → GoesBack s (trail_of (with_pair e n u)) is
 goes-with e n was is None r s same held keeps more h = held
 goes-with e n was is (Some u) r s same held keeps more h =
-    (held, subst (λ p. Keeps e p) (sym same) keeps, goes-more r (room_of e s) u.trail (output_back e is) more (subst (λ p. GoesBack r u.trail p) (sym same) h))
+    (held, subst (λ p. KeepsState e p) (sym same) keeps, goes-more r (room_of e s) u.trail (output_back e is) more (subst (λ p. GoesBack r u.trail p) (sym same) h))
 
 -- where no mark stands
 pub goes-unmarked : (room : ℕ) (u : Option (Undo OutputPair)) (page : Page) → is_some u ≡ false → Held room page → GoesBack room (trail_of u) page

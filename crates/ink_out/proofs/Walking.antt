@@ -2,7 +2,7 @@
 use Rattle.std.proofs.Common.{◌≡◌, ℕ, suc, ◌<◌, ◌≤◌, Bool, true, false, not, ◌||◌, ◌&&◌, cond, eqb, nat_lt, List, [], ◌∷◌, ◌++◌, length, Option, None, Some, refl, sym, ap, ◌∙◌, subst, arith, inl, inr}
 use Rattle.std.proofs.lemmas.Bool.{cases_Bool, or_left, or_right, or_from, ne_eqb, eqb-true, eq-eqb, lt-ltb, le-ltb, leb-false, lt-leb}
 use Rattle.std.proofs.lemmas.List.{append-nil, append_assoc, append_cancel_right, nil_from_length}
-use Rattle.ink_model.specs.Shown.{glued, glues, covered, passes, newline_shown, newlines_before, is_among, text_before, written, broken}
+use Rattle.ink_model.specs.Text.Shown.{glued, glues, covered, passes, newline_shown, newlines_before, is_among, text_before, written, newline_before}
 use Rattle.ink_model.specs.declared.mark.Mark.{Mark}
 use Rattle.ink_model.specs.declared.mark.Mark.TheVariants as kinds
 use Rattle.ink_out.specs.declared.pile.Held.{Held}
@@ -11,7 +11,7 @@ use Rattle.ink_out.specs.declared.tracker.Hides.{Hides}
 use Rattle.ink_out.specs.declared.tracker.Hides.TheVariants.{Near, Any, Never}
 use Rattle.ink_out.specs.declared.tracker.Waiting.{Waiting}
 use Rattle.ink_out.specs.declared.tracker.Tracker.{Tracker}
-use Rattle.ink_out.specs.Tracks.{since, hidden_by, waits, waiting_at, reached, reach_of, Fits, Tracks, settled_by}
+use Rattle.ink_out.specs.Tracks.{since, hidden_by, waits, waiting_at, reached, reach_of, FitsWaiting, Tracks, settled_by}
 use Rattle.std.specs.Borrow.{Bor}
 use Rattle.ink_out.specs.declared.enters.Start.{Start}
 use Rattle.ink_out.specs.declared.walk.Walk.{Walk}
@@ -71,7 +71,7 @@ one_waits : (before after : List Mark) (o : Option Waiting) → length (waiting_
 one_waits before after None = omega arith
 one_waits before after (Some w) = elim (waits before w after) as (λ b. length (cond b (w.at ∷ []) []) ≤ 1) [ true ↦ omega arith | false ↦ omega arith ]
 
-waits_within : (marks before after : List Mark) (s : Tracker) (o : Option Waiting) (at : ℕ) → Fits before s o → length before ≤ at → is_among at (waiting_at marks o after) ≡ false
+waits_within : (marks before after : List Mark) (s : Tracker) (o : Option Waiting) (at : ℕ) → FitsWaiting before s o → length before ≤ at → is_among at (waiting_at marks o after) ≡ false
 waits_within marks before after s None at f l = refl
 waits_within marks before after s (Some w) at f l =
     let within = f.within in
@@ -115,7 +115,7 @@ glue_within (kinds.Glue ∷ before) = omega arith
 glue_within (m ∷ before) = omega (arith, glue_within before)
 
 -- a Blank is shown as its piece says
-blank_here : (before after : List Mark) (w : Option Waiting) (r : Bool) (text : Bor (List ℕ)) → r ≡ broken before → held_text (kinds.Blank text.now ∷ before) w (Blank (length before) r text) after ≡ written before (kinds.Blank text.now) after
+blank_here : (before after : List Mark) (w : Option Waiting) (r : Bool) (text : Bor (List ℕ)) → r ≡ newline_before before → held_text (kinds.Blank text.now ∷ before) w (Blank (length before) r text) after ≡ written before (kinds.Blank text.now) after
 blank_here before after w r text e =
     let past : nat_lt (length before) (glue_at before) ≡ false = le-ltb (length before) (glue_at before) (glue_within before) in
     let joined = or_nothing (glued after) (nat_lt (length before) (glue_at before)) past in

@@ -8,7 +8,7 @@ use Rattle.std.proofs.Math.Numerals.{one-add}
 use Rattle.std.proofs.Math.Seq.{take-add}
 use Rattle.std.proofs.lemmas.List.Sorted.{list_any-IsPermutation, IsPermutation-reverse}
 use Rattle.ink_model.proofs.Ends.{blank_ascii, leading_is, trailing_is, trimmed_is, without_is}
-use Rattle.ink_model.specs.Bytes.{has_newline, is_blank, is_newline, is_white, leading, trailing, trimmed, without}
+use Rattle.ink_model.specs.Text.Bytes.{has_newline, is_blank, is_newline, is_white, leading, trailing, trimmed, without}
 
 -- ---- whether the white there holds a newline
 

@@ -1,7 +1,7 @@
 -- A text that is made by pieces, as it is or cleaned.
 use Rattle.std.specs.Prelude.{◌≡◌, ◌⊎◌, ◌≤◌, ◌<◌, ℕ, List, [], ◌∷◌, ◌++◌, Bool, true, false, if◌then◌else◌, Option, None, Some, drop, get_or, length, string_bytes, take}
-use Rattle.ink_model.specs.Bytes.{is_blank, is_newline, is_white}
-use Rattle.ink_model.specs.Clean.{clean}
+use Rattle.ink_model.specs.Text.Bytes.{is_blank, is_newline, is_white}
+use Rattle.ink_model.specs.Text.Clean.{clean}
 use Rattle.ink_out.specs.declared.cleaning.Before.{Before}
 use Rattle.ink_out.specs.declared.cleaning.Before.TheVariants.{Nothing, Word, Gap}
 use Rattle.ink_out.specs.declared.cleaning.Shown.{Shown}

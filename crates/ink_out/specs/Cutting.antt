@@ -1,6 +1,6 @@
 -- The bytes at the ends of a text, and its pieces.
 use Rattle.std.specs.Prelude.{ℕ, Bool, true, false}
-use Rattle.ink_model.specs.Bytes.{is_blank, is_white}
+use Rattle.ink_model.specs.Text.Bytes.{is_blank, is_white}
 use Rattle.ink_model.specs.declared.mark.Mark.{Mark}
 use Rattle.ink_model.specs.declared.mark.Mark.TheVariants as kinds
 use Rattle.ink_out.specs.declared.cutting.Piece.{Piece}

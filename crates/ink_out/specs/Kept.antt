@@ -1,7 +1,7 @@
 -- Marks as they are kept.
 use Rattle.std.specs.Prelude.{ℕ, List}
 use Rattle.std.specs.Fmt.{signed_decimal}
-use Rattle.ink_model.specs.Value.{truth_text}
+use Rattle.ink_model.specs.Values.Value.{truth_text}
 use Rattle.ink_model.specs.declared.mark.Mark.{Mark}
 use Rattle.ink_model.specs.declared.mark.Mark.TheVariants as kinds
 use Rattle.ink_out.specs.declared.kept.Form.{Form}

@@ -1,7 +1,7 @@
 -- What a tracker knows of the marks of a section.
 use Rattle.std.specs.Prelude.{◌≡◌, ℕ, ◌<◌, nat_lt, nat_le, List, [], ◌∷◌, ◌++◌, length, Option, None, Some, Bool, true, false, not, ◌||◌, ◌&&◌, ◌==◌, if◌then◌else◌}
-pub use Rattle.ink_model.specs.Shown.{has_text}
-use Rattle.ink_model.specs.Shown.{glued, broken, glues, covered, some, ends, newlines_before, has_more}
+pub use Rattle.ink_model.specs.Text.Shown.{has_text}
+use Rattle.ink_model.specs.Text.Shown.{glued, newline_before, glues, covered, shown_before, newline_last, newlines_before, has_more}
 use Rattle.ink_model.specs.declared.mark.Mark.{Mark}
 use Rattle.ink_model.specs.declared.mark.Mark.TheVariants.{Text, Enter}
 use Rattle.ink_out.specs.declared.tracker.Hides.{Hides}
@@ -47,9 +47,9 @@ pub record FitsNewline (before : List Mark) (s : Tracker) (w : Waiting) : Type 0
   pub any : w.hides ≡ Any → (s.text ≡ false) × IsBroken s.blank
   pub tagged : w.tagged ≡ has_more (since before w.at)
 
-abbrev pub Fits : List Mark → Tracker → Option Waiting → Type 0
-Fits before s None = Unit {0}
-Fits before s (Some w) = FitsNewline before s w
+abbrev pub FitsWaiting : List Mark → Tracker → Option Waiting → Type 0
+FitsWaiting before s None = Unit {0}
+FitsWaiting before s (Some w) = FitsNewline before s w
 
 -- ---- the first blank
 
@@ -72,12 +72,12 @@ FitsFirst before s (Some b) = FitsBlank before s b
 pub record Tracks (before : List Mark) (s : Tracker) (settled : List ℕ) : Type 0 where
   pub text : s.text ≡ has_text before
   pub glue : s.glue ≡ glued before
-  pub breaks : s.broken ≡ broken before
-  pub fits : Fits before s s.newline
+  pub breaks : s.broken ≡ newline_before before
+  pub fits : FitsWaiting before s s.newline
   pub first : FitsFirst before s s.blank
   pub newlines : (after : List Mark) → newlines_before before after ≡ waiting_at before s.newline after ++ settled
-  pub ends : (after : List Mark) → ends before after ≡ waiting before s.newline after
-  pub some : (after : List Mark) → some before after ≡ (s.text || stays before s.blank after)
+  pub ends : (after : List Mark) → newline_last before after ≡ waiting before s.newline after
+  pub some : (after : List Mark) → shown_before before after ≡ (s.text || stays before s.blank after)
 
 -- a text settles the newline that waits
 abbrev pub settled_by : Option Waiting → List ℕ → List ℕ

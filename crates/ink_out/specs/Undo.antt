@@ -1,6 +1,6 @@
 -- How changes of the text being written are put back.
 use Rattle.std.specs.Prelude.{◌≤◌, ℕ, List, [], ◌∷◌, drop, length, reverse, vec_capacity, Option}
-use Rattle.ink_model.specs.Configuration.{Page, Section}
+use Rattle.ink_model.specs.Run.Configuration.{Page, Section}
 use Rattle.ink_model.specs.declared.limits.TheConstants.{MAX_MARKS}
 use Rattle.ink_model.specs.declared.mark.Mark.{Mark}
 use Rattle.ink_out.specs.Stands.{IsStateOf}
@@ -56,11 +56,11 @@ room_of (Sections xs) room = vec_capacity xs
 room_of e room = room
 
 -- a mark was noted with the state before it
-abbrev pub Keeps : OutputPair → Page → Type 0
-Keeps (Wrote s) page = IsStateOf (open_marks page) s
-Keeps e page = Unit {0}
+abbrev pub KeepsState : OutputPair → Page → Type 0
+KeepsState (Wrote s) page = IsStateOf (open_marks page) s
+KeepsState e page = Unit {0}
 
 -- so it is at each moment while the pairs are put back
 abbrev pub GoesBack : ℕ → List OutputPair → Page → Type 0
 GoesBack room [] page = Held room page
-GoesBack room (e ∷ es) page = Held room page × Keeps e (output_back e page) × GoesBack (room_of e room) es (output_back e page)
+GoesBack room (e ∷ es) page = Held room page × KeepsState e (output_back e page) × GoesBack (room_of e room) es (output_back e page)

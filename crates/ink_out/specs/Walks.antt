@@ -1,6 +1,6 @@
 -- What the walk over marks has written, and what waits to be written.
 use Rattle.std.specs.Prelude.{◌≡◌, ℕ, ◌<◌, nat_lt, List, [], ◌∷◌, ◌++◌, length, Option, None, Some, Bool, false, not, ◌||◌, ◌&&◌, ◌==◌, if◌then◌else◌}
-use Rattle.ink_model.specs.Shown.{glued, covered, is_among, text_before}
+use Rattle.ink_model.specs.Text.Shown.{glued, covered, is_among, text_before}
 use Rattle.ink_model.specs.declared.mark.Mark.{Mark}
 use Rattle.ink_model.specs.declared.mark.Mark.TheVariants.{Text, Glue}
 use Rattle.ink_out.specs.declared.pile.Held.{Held}

@@ -1,9 +1,9 @@
 -- The text being written, as contracts see it.
 use Rattle.std.specs.Prelude.{ℕ, List, [], Bool, true, false, drop, length, reverse, Result, Ok, Err}
-use Rattle.ink_model.specs.Configuration.{Page, Section}
-use Rattle.ink_model.specs.Memory.{Leaves}
-use Rattle.ink_model.specs.Mark.{cut}
-use Rattle.ink_model.specs.Output.{let_through, writes_marks}
+use Rattle.ink_model.specs.Run.Configuration.{Page, Section}
+use Rattle.ink_model.specs.Memory.Refusals.{Leaves}
+use Rattle.ink_model.specs.Text.Mark.{cut}
+use Rattle.ink_model.specs.Text.Output.{let_through, writes_marks}
 use Rattle.ink_model.specs.declared.fault.Fault.{Fault}
 use Rattle.ink_model.specs.declared.mark.Mark.{Mark}
 use Rattle.ink_model.specs.declared.value.Value.{Value}

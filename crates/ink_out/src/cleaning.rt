@@ -3,8 +3,8 @@
 ghost use Rattle.std.specs.Prelude.{◌≡◌, ◌≤◌, ◌<◌, ◌+◌, ℕ, List, [], ◌∷◌, ◌++◌, Bool, true, false, get_or, length, not, take, IfOk, IfSome, IsTrue, OnOk, string_bytes};
 ghost use Rattle.std.specs.List.{prefix_len};
 ghost use Rattle.std.specs.Str.{IsCharBoundary};
-ghost use Rattle.ink_model.specs.Bytes.{is_white};
-ghost use Rattle.ink_model.specs.Clean.{clean};
+ghost use Rattle.ink_model.specs.Text.Bytes.{is_white};
+ghost use Rattle.ink_model.specs.Text.Clean.{clean};
 ghost use Rattle.ink_out.specs.Cleaning.{AreWords, Holds, cleaned_on, shown_as, space};
 
 use crate::cutting::has_words;

@@ -3,9 +3,9 @@
 ghost use Rattle.std.specs.Prelude.{◌≡◌, ◌≢◌, ◌<◌, ◌≤◌, ◌-◌, [], ◌∷◌, ◌++◌, ◌||◌, ◌&&◌, drop, length, map, not, take, IfOk, OnOk, IfSome, is_some, slice_index};
 ghost use Rattle.std.specs.List.{list_any, prefix_len, suffix_len};
 ghost use Rattle.std.specs.Str.{IsCharBoundary};
-ghost use Rattle.ink_model.specs.Mark.{cut, cut_end, piece};
-ghost use Rattle.ink_model.specs.Output.{is_text};
-ghost use Rattle.ink_model.specs.Bytes.{has_newline, is_blank, is_newline, is_white, leading, trailing, trimmed, without};
+ghost use Rattle.ink_model.specs.Text.Mark.{cut, cut_end, piece};
+ghost use Rattle.ink_model.specs.Text.Output.{is_text};
+ghost use Rattle.ink_model.specs.Text.Bytes.{has_newline, is_blank, is_newline, is_white, leading, trailing, trimmed, without};
 ghost use Rattle.ink_model.specs.declared.mark.Mark.{Mark};
 ghost use Rattle.ink_out.specs.Cutting.{is_newline_mark, is_space, piece_mark};
 

@@ -1,7 +1,7 @@
 //! Marks as they are kept (docs/TEXT.md, "Marks").
 
 ghost use Rattle.std.specs.Prelude.{◌≡◌, IfOk};
-ghost use Rattle.ink_model.specs.Value.{truth_text};
+ghost use Rattle.ink_model.specs.Values.Value.{truth_text};
 ghost use Rattle.ink_out.specs.Kept.{said};
 
 use crate::lent::Lent;

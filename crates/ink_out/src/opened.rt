@@ -1,12 +1,12 @@
 //! Strings and tags that are open on the line, and where a mark is written.
 
 ghost use Rattle.std.specs.Prelude.{ℕ, Err, IfErr, ◌≡◌, ◌≤◌, [], ◌∷◌, ◌++◌, ◌+◌, ◌-◌, ◌<◌, length, map, take, IfOk, OnOk, OnErr};
-ghost use Rattle.ink_model.specs.Clean.{clean};
-ghost use Rattle.ink_model.specs.Configuration.{Page};
-ghost use Rattle.ink_model.specs.Output.{is_crowded, is_string, writes_marks};
+ghost use Rattle.ink_model.specs.Text.Clean.{clean};
+ghost use Rattle.ink_model.specs.Run.Configuration.{Page};
+ghost use Rattle.ink_model.specs.Text.Output.{is_crowded, is_string, writes_marks};
 ghost use Rattle.ink_model.specs.declared.mark.Mark.{Mark};
 ghost use Rattle.ink_model.specs.declared.limits.TheConstants.{MAX_MARKS};
-ghost use Rattle.ink_model.specs.Shown.{shown_text};
+ghost use Rattle.ink_model.specs.Text.Shown.{shown_text};
 ghost use Rattle.ink_out.specs.Cutting.{piece_mark};
 ghost use Rattle.ink_out.specs.Opened.{section_kind};
 ghost use Rattle.ink_out.specs.Stands.{IsStateOf};
@@ -39,7 +39,7 @@ pub struct Opened {
 }
 
 impl Model for Opened {
-    ghost use Rattle.ink_model.specs.Configuration.{Section};
+    ghost use Rattle.ink_model.specs.Run.Configuration.{Section};
     ghost use Rattle.ink_out.specs.Cutting.{piece_mark};
     ghost use Rattle.ink_out.specs.Opened.{section_kind};
 

@@ -2,19 +2,19 @@
 
 ghost use Rattle.std.specs.Prelude.{ℕ, ◌≡◌, ◌<◌, ◌≤◌, ◌+◌, ◌&&◌, not, refl, [], ◌∷◌, Err, Ok, None, Some, is_some, length, map, reverse, true, ◌≢◌, IfErr, IfOk, IsOk, IsTrue, OnErr};
 ghost use Rattle.std.specs.List.{list_any};
-ghost use Rattle.ink_model.specs.Asks.{prints_bytes};
-ghost use Rattle.ink_model.specs.Clean.{clean};
-ghost use Rattle.ink_model.specs.Configuration.{Page, string_section, tag_section};
-ghost use Rattle.ink_model.specs.Mark.{cut, piece, tags};
-ghost use Rattle.ink_model.specs.Memory.{Gives, Hands, Leaves};
-ghost use Rattle.ink_model.specs.Bytes.{fits_text};
-ghost use Rattle.ink_model.specs.Output.{writes_marks, writes_value, writes_text, writes_newline, writes_glue, begins_function, ends_function, opens, closes_string, closes_tag, writes_tag, prints_text, ends_line, empty_page, is_string, is_text, kept_text, let_through, tagged};
+ghost use Rattle.ink_model.specs.Memory.Asks.{prints_bytes};
+ghost use Rattle.ink_model.specs.Text.Clean.{clean};
+ghost use Rattle.ink_model.specs.Run.Configuration.{Page, string_section, tag_section};
+ghost use Rattle.ink_model.specs.Text.Mark.{cut, piece, tags};
+ghost use Rattle.ink_model.specs.Memory.Refusals.{Gives, Hands, Leaves};
+ghost use Rattle.ink_model.specs.Text.Bytes.{fits_text};
+ghost use Rattle.ink_model.specs.Text.Output.{writes_marks, writes_value, writes_text, writes_newline, writes_glue, begins_function, ends_function, opens, closes_string, closes_tag, writes_tag, prints_text, ends_line, empty_page, is_string, is_text, kept_text, let_through, tagged};
 ghost use Rattle.ink_model.specs.declared.limits.TheConstants.{MAX_MARKS};
 ghost use Rattle.ink_model.specs.declared.mark.Mark.TheVariants as kinds;
-ghost use Rattle.ink_model.specs.Shown.{shown_text, shows_more, is_shown, open_newline, more_from};
-ghost use Rattle.ink_model.specs.Step.Host as host;
-ghost use Rattle.ink_model.specs.Step.Text.{in_string, in_tag};
-ghost use Rattle.ink_model.specs.Value.{printed};
+ghost use Rattle.ink_model.specs.Text.Shown.{shown_text, shows_more, is_shown, open_newline, more_from};
+ghost use Rattle.ink_model.specs.Run.Step.Host as host;
+ghost use Rattle.ink_model.specs.Run.Step.Text.{in_string, in_tag};
+ghost use Rattle.ink_model.specs.Values.Value.{printed};
 ghost use Rattle.ink_out.specs.Cutting.{piece_mark};
 ghost use Rattle.ink_out.specs.Kept.{mark_of, said};
 ghost use Rattle.ink_out.specs.Opened.{section_kind};
@@ -114,7 +114,7 @@ impl Output {
     /// `BadOperands` for a value that does not print, `TooDeep` for more than 100,000 marks in the line, `OutOfMemory` for a
     /// refused request for memory, which is never made for void, for a text without bytes and for what does not print; nothing
     /// has changed then.
-    #[tactic(auto, unfolding(ink_model::specs::Value::printed))]
+    #[tactic(auto, unfolding(ink_model::specs::Values::Value::printed))]
     pub fn write(&mut self, value: &Value, fresh: bool) -> Result<bool, Fault>
         ensures page { Leaves (writes_value fresh value.now self.old.page) self.old.page self.new.page result }
         ensures text { IfOk result (λ has_text. has_text ≡ prints_text (printed value.now)) }

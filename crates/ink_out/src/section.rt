@@ -2,11 +2,11 @@
 
 ghost use Rattle.std.specs.Prelude.{ℕ, ◌≡◌, ◌≤◌, ◌+◌, [], ◌∷◌, ◌++◌, length, map, string_bytes, true, vec_len, vec_capacity, IfOk, IfSome, IsOk, OnOk, OnErr};
 ghost use Rattle.std.specs.List.{list_any};
-ghost use Rattle.ink_model.specs.Clean.{clean};
-ghost use Rattle.ink_model.specs.Configuration.{Page};
-ghost use Rattle.ink_model.specs.Mark.{tags};
+ghost use Rattle.ink_model.specs.Text.Clean.{clean};
+ghost use Rattle.ink_model.specs.Run.Configuration.{Page};
+ghost use Rattle.ink_model.specs.Text.Mark.{tags};
 ghost use Rattle.ink_model.specs.declared.mark.Mark.TheVariants as kinds;
-ghost use Rattle.ink_model.specs.Shown.{is_filled_blank, is_shown, more_from, open_newline, shown_text, shows_more};
+ghost use Rattle.ink_model.specs.Text.Shown.{is_filled_blank, is_shown, more_from, open_newline, shown_text, shows_more};
 ghost use Rattle.ink_out.specs.Cutting.{piece_mark};
 ghost use Rattle.ink_out.specs.declared.state.State.{State};
 ghost use Rattle.ink_out.specs.Kept.{said};

@@ -2,7 +2,7 @@
 
 ghost use Rattle.std.specs.Prelude.{◌≡◌, ℕ, List, [], ◌∷◌, ◌+◌, ◌<◌, ◌≤◌, length, reverse, vec_len, vec_capacity, IsSome, OnOk};
 ghost use Rattle.ink_model.specs.declared.mark.Mark.{Mark};
-ghost use Rattle.ink_model.specs.Shown.{is_among};
+ghost use Rattle.ink_model.specs.Text.Shown.{is_among};
 ghost use Rattle.ink_out.specs.Stands.{Falling, Knows, Stands};
 ghost use Rattle.ink_out.specs.Tracks.{settled_after};
 

@@ -1,7 +1,7 @@
 //! The tags among marks (docs/TEXT.md).
 
 ghost use Rattle.std.specs.Prelude.{◌≡◌, [], IfOk, IsOk};
-ghost use Rattle.ink_model.specs.Mark.{tags};
+ghost use Rattle.ink_model.specs.Text.Mark.{tags};
 
 use crate::kept::{Form, Kept};
 use ink_model::{Seq, Shared, Text};

@@ -2,7 +2,7 @@
 
 ghost use Rattle.std.specs.Prelude.{ℕ, ◌≡◌, ◌≤◌, ◌+◌, vec_capacity};
 ghost use Rattle.ink_out.specs.Stands.{IsStateOf};
-ghost use Rattle.ink_out.specs.Undo.{Held, Keeps, open_marks, output_back, room_of, with_open};
+ghost use Rattle.ink_out.specs.Undo.{Held, KeepsState, open_marks, output_back, room_of, with_open};
 ghost use Rattle.ink_out.specs.Writing.{page_of};
 ghost use Rattle.ink_trail.specs.Undo.{Ends, but_last, spare, with_pair};
 
@@ -44,7 +44,7 @@ pub(crate) fn put_one_back(
     spares: &mut Spares,
     pair: OutputPair,
 )
-    requires keeps { Keeps pair (output_back pair (page_of line.old sections.old.items next_enter.old)) }
+    requires keeps { KeepsState pair (output_back pair (page_of line.old sections.old.items next_enter.old)) }
     requires held { Held (room_of pair (vec_capacity sections.old)) (output_back pair (page_of line.old sections.old.items next_enter.old)) }
     ensures page { page_of line.new sections.new.items next_enter.new ≡ output_back pair (page_of line.old sections.old.items next_enter.old) }
     ensures room { room_of pair (vec_capacity sections.old) ≤ vec_capacity sections.new }

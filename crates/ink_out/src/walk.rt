@@ -3,7 +3,7 @@
 ghost use Rattle.std.specs.Prelude.{◌≡◌, ℕ, List, [], ◌∷◌, Bool, length, reverse, IfOk, OnOk, string_bytes};
 ghost use Rattle.ink_model.specs.declared.mark.Mark.{Mark};
 ghost use Rattle.ink_model.specs.declared.mark.Mark.TheVariants as kinds;
-ghost use Rattle.ink_model.specs.Shown.{shown_text, text_before};
+ghost use Rattle.ink_model.specs.Text.Shown.{shown_text, text_before};
 ghost use Rattle.ink_out.specs.Cleaning.{Holds, shown_as};
 ghost use Rattle.ink_out.specs.Kept.{said};
 ghost use Rattle.ink_out.specs.Stands.{Knows, Leads, Passes};

@@ -8,7 +8,7 @@ use Rattle.std.specs.List.{list_all}
 use Rattle.std.specs.Char.{is_control}
 use Rattle.std.specs.Str.{all_scalars}
 use Rattle.unicode_width.specs.Width.{char_width}
-use Rattle.ink_page.specs.Lines.{AreLines, Fits, IsLine, Mark, Letter, Dim, Undim, broken, is_plain, widest, width, written}
+use Rattle.ink_page.specs.Lines.{AreLines, FitsColumns, IsLine, Mark, Letter, Dim, Undim, lines_broken, is_plain, widest, width, written}
 use Rattle.ink_page.specs.Sheet.{columns_of}
 
 -- ---- one behind another
@@ -37,9 +37,9 @@ widest-before (Letter c ∷ a) b = let more = widest-before a b in omega arith
 widest-before (Dim ∷ a) b = widest-before a b
 widest-before (Undim ∷ a) b = widest-before a b
 
-pub broken-push : (ls : List (List Mark)) (l : List Mark) → broken (ls ++ l ∷ []) ≡ broken ls ++ (written l ++ 10 ∷ [])
+pub broken-push : (ls : List (List Mark)) (l : List Mark) → lines_broken (ls ++ l ∷ []) ≡ lines_broken ls ++ (written l ++ 10 ∷ [])
 broken-push [] l = refl
-broken-push (m ∷ ls) l = ap (λ x. written m ++ 10 ∷ x) (broken-push ls l) ∙ sym (append_assoc (written m) (10 ∷ broken ls) (written l ++ 10 ∷ []))
+broken-push (m ∷ ls) l = ap (λ x. written m ++ 10 ∷ x) (broken-push ls l) ∙ sym (append_assoc (written m) (10 ∷ lines_broken ls) (written l ++ 10 ∷ []))
 
 pub lines-push : (dims : Bool) (columns margin : ℕ) (ls : List (List Mark)) (l : List Mark) → AreLines dims columns margin ls → IsLine dims columns margin l → AreLines dims columns margin (ls ++ l ∷ [])
 lines-push dims columns margin [] l all last = (last, tt)
@@ -54,12 +54,12 @@ scalars-append (c ∷ cs) ds hc hd =
     let both = and_parts _ _ hc in and_from _ _ both.0 (scalars-append cs ds both.1 hd)
 
 -- what fits, fits behind more
-pub fits-behind : (columns margin n : ℕ) (a b : List Mark) → Fits columns margin b n → Fits columns margin (a ++ b) n
+pub fits-behind : (columns margin n : ℕ) (a b : List Mark) → FitsColumns columns margin b n → FitsColumns columns margin (a ++ b) n
 fits-behind columns margin n a b (inl h) = inl h
 fits-behind columns margin n a b (inr h) = let more = widest-behind a b in inr (omega arith)
 
 -- and with more behind it
-pub fits-before : (columns margin n : ℕ) (a b : List Mark) → Fits columns margin a n → Fits columns margin (a ++ b) n
+pub fits-before : (columns margin n : ℕ) (a b : List Mark) → FitsColumns columns margin a n → FitsColumns columns margin (a ++ b) n
 fits-before columns margin n a b (inl h) = inl h
 fits-before columns margin n a b (inr h) = let more = widest-before a b in inr (omega arith)
 

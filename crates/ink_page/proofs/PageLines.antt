@@ -9,7 +9,7 @@ use Rattle.ink_page.proofs.Lines.{ArePrintable, printable-encoded}
 use Rattle.ink_page.proofs.Pages.{Holds, dimmed-holds, ended-holds, laid-holds, opened-holds, undimmed-holds}
 use Rattle.ink_page.specs.Lines.{AreTexts, IsPage}
 use Rattle.ink_page.specs.Page.{lead_of, tag_laid, tagged, tags_laid}
-use Rattle.ink_page.specs.Sheet.{SheetView, dimmed, ended, laid, opened, undimmed}
+use Rattle.ink_page.specs.Sheet.{SheetView, dimmed, sheet_text, laid, opened, undimmed}
 use Rattle.ink_page.specs.declared.page.Look.{Look}
 
 hash : IsUtf8 (codes " # ")
@@ -62,7 +62,7 @@ choice-holds look number text small utf8 =
     (opened-holds look.dims look.columns margin (lead_of number) (lead-printable number small) refl)
 
 -- what is told of such a paragraph at its end
-pub page-lines : {E : Type 0} (look : Look) (margin : ℕ) (s : SheetView) (r : Result (String Global) E) → IfOk r (λ page. string_bytes page ≡ ended s)
+pub page-lines : {E : Type 0} (look : Look) (margin : ℕ) (s : SheetView) (r : Result (String Global) E) → IfOk r (λ page. string_bytes page ≡ sheet_text s)
     → Holds look.dims look.columns margin s → IfOk r (λ page. IsPage look.dims look.columns margin (string_bytes page))
 page-lines look margin s (Ok page) is h = subst (λ p. IsPage look.dims look.columns margin p) (sym is) (ended-holds look.dims look.columns margin s h)
 page-lines look margin s (Err e) is h = tt

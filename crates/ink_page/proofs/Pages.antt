@@ -7,8 +7,8 @@ use Rattle.std.specs.Char.{is_control}
 use Rattle.std.specs.List.{list_all}
 use Rattle.std.specs.Str.{all_scalars}
 use Rattle.ink_page.proofs.Lines.{ArePrintable, blanks, broken-push, fits-before, fits-behind, letters, letters-written, lines-push, newline-encoded, plain-append, printable-encoded, printable-plain, printable-scalars, printable-width, scalars-append, sign-encoded, width-append, written-append}
-use Rattle.ink_page.specs.Lines.{AreLines, Fits, IsPage, Mark, Letter, Dim, Undim, broken, is_plain, width, written}
-use Rattle.ink_page.specs.Sheet.{SheetView, added, behind, columns_of, dimmed, ended, is_blank, laid, opened, placed, roomy, shown, spaced, undimmed}
+use Rattle.ink_page.specs.Lines.{AreLines, FitsColumns, IsPage, Mark, Letter, Dim, Undim, lines_broken, is_plain, width, written}
+use Rattle.ink_page.specs.Sheet.{SheetView, added, behind, columns_of, dimmed, sheet_text, is_blank, laid, opened, placed, roomy, with_character, spaced, undimmed}
 
 -- a word that is open: its marks, and that it fits on a line of its own
 pub record IsWord (dims : Bool) (columns margin : ℕ) (bytes : List ℕ) (wide : ℕ) : Type 0 where
@@ -17,19 +17,19 @@ pub record IsWord (dims : Bool) (columns margin : ℕ) (bytes : List ℕ) (wide 
   pub scalars : all_scalars (written marks) ≡ true
   pub plain : list_all (is_plain dims) marks ≡ true
   pub takes : wide ≡ width marks
-  pub fits : Fits columns margin marks (margin + wide)
+  pub fits : FitsColumns columns margin marks (margin + wide)
 
 -- what is laid out: its lines, and how much of the last one is taken
 pub record IsLaid (dims : Bool) (columns margin : ℕ) (done : List ℕ) (column : ℕ) : Type 0 where
   pub lines : List (List Mark)
   pub line : List Mark
-  pub spelled : done ≡ encode_utf8_all (broken lines ++ written line)
-  pub scalars : all_scalars (broken lines ++ written line) ≡ true
+  pub spelled : done ≡ encode_utf8_all (lines_broken lines ++ written line)
+  pub scalars : all_scalars (lines_broken lines ++ written line) ≡ true
   pub above : AreLines dims columns margin lines
   pub plain : list_all (is_plain dims) line ≡ true
   pub takes : column ≡ width line
   pub least : margin ≤ column
-  pub fits : Fits columns margin line column
+  pub fits : FitsColumns columns margin line column
 
 -- a paragraph of lines that fit
 pub record Holds (dims : Bool) (columns margin : ℕ) (s : SheetView) : Type 0 where
@@ -45,18 +45,18 @@ module _ (dims : Bool) (columns margin : ℕ) where
   -- marks go behind the last line
   follow : (done : List ℕ) (column : ℕ) (l : IsLaid dims columns margin done column) (marks : List Mark) (bytes : List ℕ) (wide : ℕ)
       → bytes ≡ encode_utf8_all (written marks) → all_scalars (written marks) ≡ true → list_all (is_plain dims) marks ≡ true → wide ≡ width marks
-      → Fits columns margin (l.line ++ marks) (column + wide) → IsLaid dims columns margin (done ++ bytes) (column + wide)
+      → FitsColumns columns margin (l.line ++ marks) (column + wide) → IsLaid dims columns margin (done ++ bytes) (column + wide)
   follow done column l marks bytes wide spelled scalars plain is fits =
-      let text : (broken l.lines ++ written l.line) ++ written marks ≡ broken l.lines ++ written (l.line ++ marks) =
-      append_assoc (broken l.lines) (written l.line) (written marks) ∙ ap (λ x. broken l.lines ++ x) (sym (written-append l.line marks)) in
+      let text : (lines_broken l.lines ++ written l.line) ++ written marks ≡ lines_broken l.lines ++ written (l.line ++ marks) =
+      append_assoc (lines_broken l.lines) (written l.line) (written marks) ∙ ap (λ x. lines_broken l.lines ++ x) (sym (written-append l.line marks)) in
       let sum = width-append l.line marks in
       let was = l.takes in
       let floor = l.least in
       record {
         lines = l.lines;
         line = l.line ++ marks;
-        spelled = ap₂ (λ x y. x ++ y) l.spelled spelled ∙ sym (encodes-append (broken l.lines ++ written l.line) (written marks)) ∙ ap encode_utf8_all text;
-        scalars = subst (λ x. all_scalars x ≡ true) text (scalars-append (broken l.lines ++ written l.line) (written marks) l.scalars scalars);
+        spelled = ap₂ (λ x y. x ++ y) l.spelled spelled ∙ sym (encodes-append (lines_broken l.lines ++ written l.line) (written marks)) ∙ ap encode_utf8_all text;
+        scalars = subst (λ x. all_scalars x ≡ true) text (scalars-append (lines_broken l.lines ++ written l.line) (written marks) l.scalars scalars);
         above = l.above;
         plain = plain-append dims l.line marks l.plain plain;
         takes = omega arith;
@@ -69,13 +69,13 @@ module _ (dims : Bool) (columns margin : ℕ) where
   break done column l =
       let spaces = letters (replicate margin 32) in
       let blank = blanks margin in
-      let text : ((broken l.lines ++ written l.line) ++ 10 ∷ []) ++ written spaces ≡ broken (l.lines ++ l.line ∷ []) ++ written spaces =
-      ap (λ x. x ++ written spaces) (append_assoc (broken l.lines) (written l.line) (10 ∷ []) ∙ sym (broken-push l.lines l.line)) in
-      let encoded : (done ++ 10 ∷ []) ++ replicate margin 32 ≡ encode_utf8_all (((broken l.lines ++ written l.line) ++ 10 ∷ []) ++ written spaces) =
+      let text : ((lines_broken l.lines ++ written l.line) ++ 10 ∷ []) ++ written spaces ≡ lines_broken (l.lines ++ l.line ∷ []) ++ written spaces =
+      ap (λ x. x ++ written spaces) (append_assoc (lines_broken l.lines) (written l.line) (10 ∷ []) ∙ sym (broken-push l.lines l.line)) in
+      let encoded : (done ++ 10 ∷ []) ++ replicate margin 32 ≡ encode_utf8_all (((lines_broken l.lines ++ written l.line) ++ 10 ∷ []) ++ written spaces) =
       ap₂ (λ x y. (x ++ 10 ∷ []) ++ y) l.spelled (sym (printable-encoded (replicate margin 32) blank) ∙ ap encode_utf8_all (sym (letters-written (replicate margin 32))))
-      ∙ ap (λ x. x ++ encode_utf8_all (written spaces)) (ap (λ x. encode_utf8_all (broken l.lines ++ written l.line) ++ x) (sym newline-encoded) ∙ sym (encodes-append (broken l.lines ++ written l.line) (10 ∷ [])))
-      ∙ sym (encodes-append ((broken l.lines ++ written l.line) ++ 10 ∷ []) (written spaces)) in
-      let sound = scalars-append ((broken l.lines ++ written l.line) ++ 10 ∷ []) (written spaces) (scalars-append (broken l.lines ++ written l.line) (10 ∷ []) l.scalars refl)
+      ∙ ap (λ x. x ++ encode_utf8_all (written spaces)) (ap (λ x. encode_utf8_all (lines_broken l.lines ++ written l.line) ++ x) (sym newline-encoded) ∙ sym (encodes-append (lines_broken l.lines ++ written l.line) (10 ∷ [])))
+      ∙ sym (encodes-append ((lines_broken l.lines ++ written l.line) ++ 10 ∷ []) (written spaces)) in
+      let sound = scalars-append ((lines_broken l.lines ++ written l.line) ++ 10 ∷ []) (written spaces) (scalars-append (lines_broken l.lines ++ written l.line) (10 ∷ []) l.scalars refl)
       (ap all_scalars (letters-written (replicate margin 32)) ∙ printable-scalars (replicate margin 32) blank) in
       let wide : width spaces ≡ margin = printable-width (replicate margin 32) blank ∙ length-replicate margin 32 in
       record {
@@ -83,7 +83,7 @@ module _ (dims : Bool) (columns margin : ℕ) where
         line = spaces;
         spelled = encoded ∙ ap encode_utf8_all text;
         scalars = subst (λ x. all_scalars x ≡ true) text sound;
-        above = lines-push dims columns margin l.lines l.line l.above (record { plain = l.plain; narrow = subst (λ n. Fits columns margin l.line n) l.takes l.fits });
+        above = lines-push dims columns margin l.lines l.line l.above (record { plain = l.plain; narrow = subst (λ n. FitsColumns columns margin l.line n) l.takes l.fits });
         plain = printable-plain dims (replicate margin 32) blank;
         takes = sym wide;
         least = omega arith;
@@ -92,7 +92,7 @@ module _ (dims : Bool) (columns margin : ℕ) where
 
   -- a word goes behind what is laid out, where it fits there
   join : (done : List ℕ) (column : ℕ) (bytes : List ℕ) (wide : ℕ) → IsLaid dims columns margin done column → (w : IsWord dims columns margin bytes wide)
-      → Fits columns margin w.marks (column + wide) → IsLaid dims columns margin (done ++ bytes) (column + wide)
+      → FitsColumns columns margin w.marks (column + wide) → IsLaid dims columns margin (done ++ bytes) (column + wide)
   join done column bytes wide l w fits =
       follow done column l w.marks bytes wide w.spelled w.scalars w.plain w.takes (fits-behind columns margin (column + wide) l.line w.marks fits)
 
@@ -112,7 +112,7 @@ module _ (dims : Bool) (columns margin : ℕ) where
       by : (t : SheetView) → t.columns ≡ columns → t.margin ≡ margin → IsLaid dims columns margin (t.done ++ t.word) (t.column + t.wide) → Holds dims columns margin (record (behind t) { word = []; wide = 0 })
       by t cs m l = record { columns_are = cs; margin_is = m; laid = l; word = no_word }
 
-      anew : Fits columns margin h.word.marks (margin + s.wide)
+      anew : FitsColumns columns margin h.word.marks (margin + s.wide)
       anew = h.word.fits
 
       same : nat_le s.column s.margin ≡ true → s.column ≡ margin
@@ -121,7 +121,7 @@ module _ (dims : Bool) (columns margin : ℕ) where
       full : Holds dims columns margin (record (behind (spaced s)) { word = []; wide = 0 })
       full = cond_both (nat_le s.column s.margin) s (cond (nat_le (s.column + 1 + s.wide) s.columns) (record s { done = s.done ++ 32 ∷ []; column = s.column + 1 }) (record s { done = (s.done ++ 10 ∷ []) ++ replicate s.margin 32; column = s.margin }))
           (λ t. Holds dims columns margin (record (behind t) { word = []; wide = 0 }))
-          (λ e. by s h.columns_are h.margin_is (join s.done s.column s.word s.wide h.laid h.word (subst (λ n. Fits columns margin h.word.marks (n + s.wide)) (sym (same e)) anew)))
+          (λ e. by s h.columns_are h.margin_is (join s.done s.column s.word s.wide h.laid h.word (subst (λ n. FitsColumns columns margin h.word.marks (n + s.wide)) (sym (same e)) anew)))
           (λ e. cond_both (nat_le (s.column + 1 + s.wide) s.columns) (record s { done = s.done ++ 32 ∷ []; column = s.column + 1 }) (record s { done = (s.done ++ 10 ∷ []) ++ replicate s.margin 32; column = s.margin })
           (λ t. Holds dims columns margin (record (behind t) { word = []; wide = 0 })) beside below)
         where
@@ -139,7 +139,7 @@ module _ (dims : Bool) (columns margin : ℕ) where
 
   -- a character is added where it has room
   added-holds : (c : ℕ) (s : SheetView) → all_scalars (c ∷ []) ≡ true → is_control c ≡ false → Holds dims columns margin s
-      → Fits columns margin (Letter c ∷ []) (margin + (s.wide + columns_of c)) → Holds dims columns margin (added c s)
+      → FitsColumns columns margin (Letter c ∷ []) (margin + (s.wide + columns_of c)) → Holds dims columns margin (added c s)
   added-holds c s scalar plain h fits =
       let w = h.word in
       let sum = width-append w.marks (Letter c ∷ []) in
@@ -162,7 +162,7 @@ module _ (dims : Bool) (columns margin : ℕ) where
   not_blank true b e = absurd (true≢false e)
   not_blank false b e = e
 
-  pub shown-holds : (c : ℕ) (s : SheetView) → all_scalars (c ∷ []) ≡ true → Holds dims columns margin s → Holds dims columns margin (shown c s)
+  pub shown-holds : (c : ℕ) (s : SheetView) → all_scalars (c ∷ []) ≡ true → Holds dims columns margin s → Holds dims columns margin (with_character c s)
   shown-holds c s scalar h = cond_both (is_blank c) (placed s) (added c (roomy (columns_of c) s)) (λ t. Holds dims columns margin t) (λ e. placed-holds s h) (λ e. letter (not_blank (c == 32) (is_control c) e))
     where
       letter : is_control c ≡ false → Holds dims columns margin (added c (roomy (columns_of c) s))
@@ -182,14 +182,14 @@ module _ (dims : Bool) (columns margin : ℕ) where
   laid-holds [] s scalars h = h
   laid-holds (c ∷ cs) s scalars h =
       let both = and_parts _ _ scalars in
-      laid-holds cs (shown c s) both.1 (shown-holds c s (ap (λ b. b && true) both.0) h)
+      laid-holds cs (with_character c s) both.1 (shown-holds c s (ap (λ b. b && true) both.0) h)
 
   -- a sign goes behind what is laid out
   signed : (sign : Mark) (bytes : List ℕ) (s : SheetView) → bytes ≡ encode_utf8_all (written (sign ∷ [])) → all_scalars (written (sign ∷ [])) ≡ true → list_all (is_plain dims) (sign ∷ []) ≡ true → 0 ≡ width (sign ∷ [])
       → Holds dims columns margin s → Holds dims columns margin (record s { done = s.done ++ bytes })
   signed sign bytes s spelled scalars plain none h =
       let l = h.laid in
-      let fits : Fits columns margin (l.line ++ sign ∷ []) (s.column + 0) = subst (λ n. Fits columns margin (l.line ++ sign ∷ []) n) (sym (add-zero s.column)) (fits-before columns margin s.column l.line (sign ∷ []) l.fits) in
+      let fits : FitsColumns columns margin (l.line ++ sign ∷ []) (s.column + 0) = subst (λ n. FitsColumns columns margin (l.line ++ sign ∷ []) n) (sym (add-zero s.column)) (fits-before columns margin s.column l.line (sign ∷ []) l.fits) in
       record {
         columns_are = h.columns_are;
         margin_is = h.margin_is;
@@ -223,13 +223,13 @@ module _ (dims : Bool) (columns margin : ℕ) where
         word = no_word;
       }
 
-  pub ended-holds : (s : SheetView) → Holds dims columns margin s → IsPage dims columns margin (ended s)
+  pub ended-holds : (s : SheetView) → Holds dims columns margin s → IsPage dims columns margin (sheet_text s)
   ended-holds s h =
       let l = (placed-holds s h).laid in
       record {
         lines = l.lines;
         last = l.line;
-        whole = ap chars l.spelled ∙ chars-encodes (broken l.lines ++ written l.line) l.scalars;
+        whole = ap chars l.spelled ∙ chars-encodes (lines_broken l.lines ++ written l.line) l.scalars;
         all = l.above;
-        also_last = record { plain = l.plain; narrow = subst (λ n. Fits columns margin l.line n) l.takes l.fits };
+        also_last = record { plain = l.plain; narrow = subst (λ n. FitsColumns columns margin l.line n) l.takes l.fits };
       }

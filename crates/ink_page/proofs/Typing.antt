@@ -1,8 +1,8 @@
 -- A choice's number, in a line of a session and in one that a reader types.
 use Rattle.std.proofs.Common.{◌≡◌, refl, ℕ, List, length, Bool, true, false, not, ◌&&◌, ◌||◌, nat_le, if◌then◌else◌, Option, None, Some, option_map}
 use Rattle.std.specs.List.{list_all}
-use Rattle.ink_model.specs.Bytes.{is_digit, is_filled, number_from}
-use Rattle.ink_model.specs.Command as command
+use Rattle.ink_model.specs.Text.Bytes.{is_digit, is_filled, number_from}
+use Rattle.ink_model.specs.Protocol.Command as command
 use Rattle.ink_page.specs.Typed.{Asked, Choice, Unclear, choice_in}
 
 abbrev pub numbered : Option ℕ → Asked

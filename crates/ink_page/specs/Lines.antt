@@ -18,9 +18,9 @@ written (Dim ∷ ms) = (27 ∷ codes "[2m") ++ written ms
 written (Undim ∷ ms) = (27 ∷ codes "[0m") ++ written ms
 
 -- the characters of lines, with a newline behind each
-abbrev pub broken : List (List Mark) → List ℕ
-broken [] = []
-broken (l ∷ ls) = written l ++ 10 ∷ broken ls
+abbrev pub lines_broken : List (List Mark) → List ℕ
+lines_broken [] = []
+lines_broken (l ∷ ls) = written l ++ 10 ∷ lines_broken ls
 
 -- how many columns a line takes
 abbrev pub width : List Mark → ℕ
@@ -42,13 +42,13 @@ is_plain dims (Letter c) = not (is_control c)
 is_plain dims m = dims
 
 -- so many columns fit: into the columns, or behind the margin as a single character of the line
-abbrev pub Fits : ℕ → ℕ → List Mark → ℕ → Type 0
-Fits columns margin line n = (n ≤ columns) ⊎ (n ≤ margin + widest line)
+abbrev pub FitsColumns : ℕ → ℕ → List Mark → ℕ → Type 0
+FitsColumns columns margin line n = (n ≤ columns) ⊎ (n ≤ margin + widest line)
 
 -- a line without control characters, which is no wider than the columns unless a single character is
 pub record IsLine (dims : Bool) (columns margin : ℕ) (line : List Mark) : Type 0 where
   pub plain : list_all (is_plain dims) line ≡ true
-  pub narrow : Fits columns margin line (width line)
+  pub narrow : FitsColumns columns margin line (width line)
 
 abbrev pub AreLines : Bool → ℕ → ℕ → List (List Mark) → Type 0
 AreLines dims columns margin [] = ⊤
@@ -58,7 +58,7 @@ AreLines dims columns margin (l ∷ ls) = IsLine dims columns margin l × AreLin
 pub record IsPage (dims : Bool) (columns margin : ℕ) (page : List ℕ) : Type 0 where
   pub lines : List (List Mark)
   pub last : List Mark
-  pub whole : chars page ≡ broken lines ++ written last
+  pub whole : chars page ≡ lines_broken lines ++ written last
   pub all : AreLines dims columns margin lines
   pub also_last : IsLine dims columns margin last
 

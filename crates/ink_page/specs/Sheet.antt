@@ -57,13 +57,13 @@ abbrev pub roomy : ℕ → SheetView → SheetView
 roomy n s = if nat_lt s.columns (s.margin + s.wide + n) then placed s else s
 
 -- a character is shown: a blank ends the word, and any other is added to it
-abbrev pub shown : ℕ → SheetView → SheetView
-shown c s = if is_blank c then placed s else added c (roomy (columns_of c) s)
+abbrev pub with_character : ℕ → SheetView → SheetView
+with_character c s = if is_blank c then placed s else added c (roomy (columns_of c) s)
 
 -- characters are shown, one after another
 abbrev pub laid : List ℕ → SheetView → SheetView
 laid [] s = s
-laid (c ∷ cs) s = laid cs (shown c s)
+laid (c ∷ cs) s = laid cs (with_character c s)
 
 -- what comes is dimmed, or no longer
 abbrev pub dimmed : SheetView → SheetView
@@ -73,5 +73,5 @@ abbrev pub undimmed : SheetView → SheetView
 undimmed s = let t = placed s in record t { done = t.done ++ (27 ∷ codes "[0m") }
 
 -- what was shown
-abbrev pub ended : SheetView → List ℕ
-ended s = (placed s).done
+abbrev pub sheet_text : SheetView → List ℕ
+sheet_text s = (placed s).done

@@ -2,7 +2,7 @@
 use Rattle.std.specs.Prelude.{ℕ, List, codes, length, nat_le, bytes_eq, ◌||◌, not, if◌then◌else◌, Option, Some, None}
 use Rattle.std.specs.List.{list_all}
 use Rattle.std.specs.Str.{trim}
-use Rattle.ink_model.specs.Bytes.{after, is_digit, is_filled, number_from}
+use Rattle.ink_model.specs.Text.Bytes.{after, is_digit, is_filled, number_from}
 use Rattle.ink_page.specs.declared.typed.Typed.{Typed}
 use Rattle.ink_page.specs.declared.typed.Typed.TheVariants as as_typed
 

@@ -1,7 +1,7 @@
 //! What stands at a place of a story that is refused.
 
 ghost use Rattle.std.specs.Prelude.{◌≡◌};
-ghost use Rattle.ink_model.specs.Grammar.{unmarked};
+ghost use Rattle.ink_model.specs.Story.Grammar.{unmarked};
 
 use ink_model::Part;
 use serde_json::Value;

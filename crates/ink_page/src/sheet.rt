@@ -1,7 +1,7 @@
 //! Laying text out in a terminal's columns (docs/READER.md, "What is shown").
 
 ghost use Rattle.std.specs.Prelude.{◌≡◌, ◌≤◌, ◌+◌, ◌++◌, OnOk, IfOk, replicate, string_bytes, chars};
-ghost use Rattle.ink_page.specs.Sheet.{added, columns_of, dimmed, ended, is_blank, joined, laid, opened, placed, roomy, shown, spaced, undimmed};
+ghost use Rattle.ink_page.specs.Sheet.{added, columns_of, dimmed, sheet_text, is_blank, joined, laid, opened, placed, roomy, with_character, spaced, undimmed};
 
 use std::alloc::{AllocError, Global};
 use std::marker::Model;
@@ -57,7 +57,7 @@ impl Sheet {
 
     // Shows a character.
     fn put(&mut self, letter: char) -> Result<(), AllocError>
-        ensures { OnOk result (self.new ≡ shown letter self.old) }
+        ensures { OnOk result (self.new ≡ with_character letter self.old) }
     {
         if is_blank(letter) {
             return self.place();
@@ -149,7 +149,7 @@ impl Sheet {
 
     /// What was shown, without a newline at its end.
     pub fn end(mut self) -> Result<String, AllocError>
-        ensures { IfOk result (λ text. string_bytes text ≡ ended self) }
+        ensures { IfOk result (λ text. string_bytes text ≡ sheet_text self) }
     {
         self.place()?;
         let Sheet {

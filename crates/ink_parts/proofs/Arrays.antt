@@ -14,12 +14,12 @@ use Rattle.serde_json.specs.View as views
 use Rattle.serde_json.specs.declared.number.Number.{Number}
 use Rattle.serde_json.specs.declared.value.Value.{Value, the_lemmas}
 use Rattle.serde_json.specs.declared.value.Value as json
-use Rattle.ink_model.specs.Events as events
-use Rattle.ink_model.specs.Rows.{is_before, name_order, rows_rise}
-use Rattle.ink_model.specs.Store.{Values}
-use Rattle.ink_model.specs.ValueJson.{value_data}
+use Rattle.ink_model.specs.Host.Events as events
+use Rattle.ink_model.specs.Variables.Rows.{is_before, name_order, rows_rise}
+use Rattle.ink_model.specs.Variables.Store.{Values}
+use Rattle.ink_model.specs.Protocol.ValueJson.{value_data}
 use Rattle.ink_model.specs.declared.value.Value as model
-use Rattle.ink_parts.specs.Words.{put_all}
+use Rattle.ink_parts.specs.Written.{put_all}
 use Rattle.ink_model.specs.Save.Spelling.{count_data, list_data, temps_members}
 use Rattle.ink_stack.proofs.Reversing.{map-reverse}
 

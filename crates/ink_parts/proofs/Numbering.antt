@@ -4,7 +4,7 @@ use Rattle.std.proofs.lemmas.List.{append-nil, length-take-le, map-append, take_
 use Rattle.serde_json.specs.View.{view}
 use Rattle.serde_json.specs.declared.value.Value.{Value}
 use Rattle.ink_model.specs.Save.Spelling.{row_data}
-use Rattle.ink_model.specs.Tree.{StoryTree}
+use Rattle.ink_model.specs.Story.Tree.{StoryTree}
 use Rattle.json.specs.Written.{Written}
 use Rattle.ink_tokens.specs.Tokens.{Added, data_tokens}
 use Rattle.ink_tokens.proofs.Adding.{after, more_items}

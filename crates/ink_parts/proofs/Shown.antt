@@ -1,11 +1,11 @@
 -- All flows, as they are written.
 use Rattle.std.proofs.Common.{◌≡◌, ◌∙◌, ap, refl, [], ◌∷◌, map, Option, Some, None, option_map, unwrap_or}
-use Rattle.ink_flows.specs.Words.{aside_of, flow_of}
+use Rattle.ink_flows.specs.Standing.{aside_of, flow_of}
 use Rattle.ink_flows.specs.declared.flow.Flow.{Flow}
-use Rattle.ink_model.specs.Events.{items_of}
-use Rattle.ink_model.specs.Flows.{AsideOf, all_flows}
+use Rattle.ink_model.specs.Host.Events.{items_of}
+use Rattle.ink_model.specs.Run.Flows.{AsideOf, all_flows}
 use Rattle.ink_model.specs.Save.Spelling.{list_data, named_flow_data}
-use Rattle.ink_model.specs.Tree.{StoryTree}
+use Rattle.ink_model.specs.Story.Tree.{StoryTree}
 use Rattle.ink_parts.specs.Parts.{row_in}
 use Rattle.serde_json.specs.Data.{array}
 

@@ -10,8 +10,8 @@ use Rattle.json.specs.Written.{Written}
 use Rattle.serde_json.specs.Data.{Data, object}
 use Rattle.serde_json.specs.Written.{members_outline}
 use Rattle.ink_model.specs.Save.Spelling.{list_data, temps_members}
-use Rattle.ink_model.specs.Store.{Values}
-use Rattle.ink_model.specs.ValueJson.{value_data}
+use Rattle.ink_model.specs.Variables.Store.{Values}
+use Rattle.ink_model.specs.Protocol.ValueJson.{value_data}
 use Rattle.ink_model.specs.declared.value.Value.{Value}
 use Rattle.ink_tokens.specs.Tokens.{Added, data_tokens}
 use Rattle.ink_tokens.proofs.Adding.{after, finally, list_whole, more_items}

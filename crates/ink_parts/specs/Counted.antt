@@ -1,7 +1,7 @@
 -- Rows of counts by number.
 use Rattle.std.specs.Prelude.{ℕ, List, [], ◌∷◌, Option, Some, None}
-use Rattle.ink_model.specs.Rows.{map_keys}
-use Rattle.ink_model.specs.Tree.{StoryTree}
+use Rattle.ink_model.specs.Variables.Rows.{map_keys}
+use Rattle.ink_model.specs.Story.Tree.{StoryTree}
 use Rattle.ink_model.specs.declared.place.Part.{Part}
 use Rattle.ink_tree.specs.Nodes.{node_place}
 

@@ -1,12 +1,12 @@
 -- The game of what is kept.
 use Rattle.std.specs.Prelude.{List, ℕ, codes, unwrap_or, Option}
 use Rattle.serde_json.specs.Data.{Data, Members, put, string}
-use Rattle.ink_flows.specs.Words.{aside_of, flow_of}
+use Rattle.ink_flows.specs.Standing.{aside_of, flow_of}
 use Rattle.ink_flows.specs.declared.flow.Flow.{Flow}
-use Rattle.ink_model.specs.Configuration.{FlowOf}
-use Rattle.ink_model.specs.Flows.{Aside, Game, all_flows, current_name}
-use Rattle.ink_model.specs.Output.{empty_page}
-use Rattle.ink_model.specs.Tree.{StoryTree}
+use Rattle.ink_model.specs.Run.Configuration.{FlowOf}
+use Rattle.ink_model.specs.Run.Flows.{Aside, Game, all_flows, current_name}
+use Rattle.ink_model.specs.Text.Output.{empty_page}
+use Rattle.ink_model.specs.Story.Tree.{StoryTree}
 use Rattle.ink_model.specs.declared.place.Part.{Part}
 use Rattle.ink_model.specs.Save.Spelling.{list_data, named_flow_data}
 use Rattle.ink_parts.specs.Counted.{rows_at}

@@ -1,10 +1,10 @@
 //! Choices as JSON values, and as their text.
 
 ghost use Rattle.std.specs.Prelude.{◌≡◌, OnOk, map};
-ghost use Rattle.ink_model.specs.Configuration.{map_choice};
+ghost use Rattle.ink_model.specs.Run.Configuration.{map_choice};
 ghost use Rattle.ink_model.specs.Save.Spelling.{choice_data, list_data};
 ghost use Rattle.serde_json.specs.View.{members_view};
-ghost use Rattle.ink_parts.specs.Words.{choice_members};
+ghost use Rattle.ink_parts.specs.Written.{choice_members};
 ghost use Rattle.ink_tree.specs.Nodes.{place_of, story_tree};
 
 use crate::members::{add_flag, add_text};

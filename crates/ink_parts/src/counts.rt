@@ -6,7 +6,7 @@ ghost use Rattle.serde_json.specs.Data as entries;
 ghost use Rattle.serde_json.specs.View.{members_view, view};
 ghost use Rattle.ink_model.specs.Save.Spelling.{list_data, place_data, row_data};
 ghost use Rattle.ink_parts.specs.Counted.{place_at, rows_at};
-ghost use Rattle.ink_model.specs.Tree.{StoryTree};
+ghost use Rattle.ink_model.specs.Story.Tree.{StoryTree};
 ghost use Rattle.ink_tokens.specs.Tokens.{Added, data_tokens};
 ghost use Rattle.ink_tree.specs.Nodes.{place_of, story_tree};
 ghost use Rattle.ink_vars.specs.Slots.{rows_from};

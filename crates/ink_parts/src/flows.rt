@@ -3,8 +3,8 @@
 ghost use Rattle.std.specs.Prelude.{◌≡◌, ◌∷◌, IfOk, OnOk, codes, flat_map, map, option_map, unwrap_or};
 ghost use Rattle.json.specs.Token as tokens;
 ghost use Rattle.serde_json.specs.View.{members_view, view};
-ghost use Rattle.ink_flows.specs.Words.{aside_of, flow_of};
-ghost use Rattle.ink_model.specs.Flows.{all_flows};
+ghost use Rattle.ink_flows.specs.Standing.{aside_of, flow_of};
+ghost use Rattle.ink_model.specs.Run.Flows.{all_flows};
 ghost use Rattle.ink_model.specs.Save.Spelling.{flow_members, list_data, named_flow_data};
 ghost use Rattle.ink_parts.specs.Parts.{flows_members, row_in};
 ghost use Rattle.ink_tokens.specs.Tokens.{Added, data_tokens};

@@ -5,10 +5,10 @@ ghost use Rattle.json.specs.Token as tokens;
 ghost use Rattle.serde_json.specs.Data.{no_members, object};
 ghost use Rattle.serde_json.specs.Data as entries;
 ghost use Rattle.serde_json.specs.View.{members_view, view};
-ghost use Rattle.ink_model.specs.Frames.{map_frame, map_thread, map_threads};
-ghost use Rattle.ink_model.specs.Rows.{name_order, rows_rise};
+ghost use Rattle.ink_model.specs.Flow.Frames.{map_frame, map_thread, map_threads};
+ghost use Rattle.ink_model.specs.Variables.Rows.{name_order, rows_rise};
 ghost use Rattle.ink_model.specs.Save.Spelling.{frame_data, list_data, place_or_null, temps_members, thread_data, threads_data};
-ghost use Rattle.ink_parts.specs.Words.{frame_members, put_all};
+ghost use Rattle.ink_parts.specs.Written.{frame_members, put_all};
 ghost use Rattle.ink_tokens.specs.Tokens.{Added, data_tokens};
 ghost use Rattle.ink_tree.specs.Nodes.{place_of, story_tree};
 

@@ -1,7 +1,7 @@
 //! Lists as JSON values, and as their text: stacks, and what has a JSON value itself.
 
 ghost use Rattle.ink_model.specs.Save.Spelling.{list_data};
-ghost use Rattle.ink_model.specs.ValueJson.{value_data};
+ghost use Rattle.ink_model.specs.Protocol.ValueJson.{value_data};
 
 use crate::written::{Written, put_list, write_list};
 use ink_model::Seq;

@@ -4,7 +4,7 @@ ghost use Rattle.std.specs.Prelude.{◌≡◌, IfOk, OnOk};
 ghost use Rattle.serde_json.specs.View.{members_view, view};
 ghost use Rattle.ink_model.specs.Save.Spelling.{spelling};
 ghost use Rattle.ink_parts.specs.Parts.{kept_as};
-ghost use Rattle.ink_parts.specs.Words.{shared_members};
+ghost use Rattle.ink_parts.specs.Written.{shared_members};
 ghost use Rattle.ink_tree.specs.Nodes.{story_tree};
 
 use crate::counts::add_counts;

@@ -3,7 +3,7 @@
 ghost use Rattle.std.specs.Prelude.{◌≡◌, IfOk};
 ghost use Rattle.serde_json.specs.Data.{member, no_members, object, string};
 ghost use Rattle.serde_json.specs.View.{view};
-ghost use Rattle.ink_model.specs.ValueJson.{value_data};
+ghost use Rattle.ink_model.specs.Protocol.ValueJson.{value_data};
 ghost use Rattle.ink_model.specs.Save.Spelling.{kind_data};
 ghost use Rattle.ink_model.specs.declared.value.Value.TheVariants.{Pointer, Target};
 

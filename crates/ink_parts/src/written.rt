@@ -5,7 +5,7 @@ ghost use Rattle.serde_json.specs.Data.{Data, array};
 ghost use Rattle.serde_json.specs.Data as entries;
 ghost use Rattle.json.specs.Token as tokens;
 ghost use Rattle.serde_json.specs.View.{items_view, members_view, view};
-ghost use Rattle.ink_model.specs.Tree.{StoryTree};
+ghost use Rattle.ink_model.specs.Story.Tree.{StoryTree};
 ghost use Rattle.ink_model.specs.Save.Spelling.{list_data};
 ghost use Rattle.ink_tokens.specs.Tokens.{Added, data_tokens};
 ghost use Rattle.ink_tree.specs.Nodes.{story_tree};

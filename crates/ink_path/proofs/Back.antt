@@ -7,8 +7,8 @@ use Rattle.std.proofs.lemmas.Fmt.{digits_decimal, digits_value-decimal, decimal_
 use Rattle.std.proofs.lemmas.List.{append-nil}
 use Rattle.std.proofs.lemmas.Option.{none-some, same_Some, cond_some}
 use Rattle.std.proofs.lemmas.Str.Parse.{not_in_digits}
-use Rattle.ink_model.specs.Bytes.{onto, pieces, joined, is_digit, is_dot, number_from}
-use Rattle.ink_model.specs.Path.{component, components, path_with, read_path, part_text, path_text}
+use Rattle.ink_model.specs.Text.Bytes.{onto, pieces, joined, is_digit, is_dot, number_from}
+use Rattle.ink_model.specs.Story.Path.{component, components, path_with, read_path, part_text, path_text}
 use Rattle.ink_model.specs.declared.place.Part.{Part}
 use Rattle.ink_model.specs.declared.place.Part.TheVariants.{Index, Name}
 use Rattle.ink_model.specs.declared.place.Path.{Path}

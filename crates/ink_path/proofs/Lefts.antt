@@ -1,7 +1,7 @@
 -- What is left of a path's components.
 use Rattle.std.proofs.Common.{◌≡◌, ◌≢◌, ◌∙◌, List, ℕ, [], ◌∷◌, Bool, true, false, not, is_some, Option, Some, None, Bor, sym}
 use Rattle.std.specs.Bool.{OnFalse}
-use Rattle.ink_model.specs.Bytes.{pieces, is_dot}
+use Rattle.ink_model.specs.Text.Bytes.{pieces, is_dot}
 use Rattle.ink_path.specs.Components.{texts_of}
 use Rattle.ink_path.proofs.Back.{some_piece}
 

@@ -7,8 +7,8 @@ use Rattle.std.specs.Str.{IsUtf8}
 use Rattle.std.proofs.lemmas.List.{append_assoc, drop_at, length-append}
 use Rattle.std.proofs.lemmas.Str.{IsUtf8-drop, IsCharBoundary-after_ascii}
 use Rattle.std.proofs.lemmas.Str.Parse.{IsNumeralModel, numerals_by_fold}
-use Rattle.ink_model.specs.Bytes.{onto, pieces, is_digit, is_dot, number_from}
-use Rattle.ink_model.specs.Path.{component, components, path_with, read_path}
+use Rattle.ink_model.specs.Text.Bytes.{onto, pieces, is_digit, is_dot, number_from}
+use Rattle.ink_model.specs.Story.Path.{component, components, path_with, read_path}
 use Rattle.ink_model.specs.declared.place.Part.{Part}
 use Rattle.ink_model.specs.declared.place.Part.TheVariants.{Index, Name}
 use Rattle.ink_model.specs.declared.place.Path.{Path}

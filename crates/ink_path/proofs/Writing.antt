@@ -3,8 +3,8 @@ use Rattle.std.proofs.Common.{◌≡◌, ◌≢◌, ℕ, zero, suc, ◌+◌, ◌
 use Rattle.std.proofs.lemmas.List.{take_more, map-append, length-map, length-take-le}
 use Rattle.std.proofs.lemmas.Bool.{lt-ltb}
 use Rattle.std.proofs.lemmas.Fmt.{decimal_nonempty}
-use Rattle.ink_model.specs.Path.{part_text}
-use Rattle.ink_model.specs.Bytes.{joined}
+use Rattle.ink_model.specs.Story.Path.{part_text}
+use Rattle.ink_model.specs.Text.Bytes.{joined}
 use Rattle.ink_model.specs.declared.place.Part.{Part}
 use Rattle.ink_path.specs.Laws.{dot_before}
 

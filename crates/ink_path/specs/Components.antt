@@ -2,8 +2,8 @@
 use Rattle.std.specs.Prelude.{◌≡◌, ℕ, List, [], ◌∷◌, Bool, false, if◌then◌else◌, Option, Some, None}
 use Rattle.std.specs.Borrow.{Bor}
 use Rattle.std.specs.Option.{option_map}
-use Rattle.ink_model.specs.Bytes.{pieces, is_dot}
-use Rattle.ink_model.specs.Path.{components}
+use Rattle.ink_model.specs.Text.Bytes.{pieces, is_dot}
+use Rattle.ink_model.specs.Story.Path.{components}
 use Rattle.ink_model.specs.declared.place.Part.{Part}
 use Rattle.ink_model.specs.declared.place.Part.TheVariants as parts
 use Rattle.ink_model.specs.declared.place.Path.{Path}

@@ -1,7 +1,7 @@
 -- What reading and writing a path keep, beside the definitions.
 use Rattle.std.specs.Prelude.{◌≡◌, ℕ, ◌^◌, List, [], ◌∷◌, Option, Some, None, if◌then◌else◌, nat_lt}
-use Rattle.ink_model.specs.Path.{read_path, path_text}
-use Rattle.ink_model.specs.Bytes.{number_from}
+use Rattle.ink_model.specs.Story.Path.{read_path, path_text}
+use Rattle.ink_model.specs.Text.Bytes.{number_from}
 use Rattle.ink_model.specs.declared.place.Path.{Path}
 
 -- a path that was read reads the same from its written form

@@ -2,8 +2,8 @@
 
 ghost use Rattle.std.specs.Prelude.{◌≡◌, ◌≢◌, [], ◌∷◌, option_map, length, ◌<◌, OnSome};
 ghost use Rattle.std.specs.Bool.{OnTrue, OnFalse};
-ghost use Rattle.ink_model.specs.Bytes.{pieces, is_dot};
-ghost use Rattle.ink_model.specs.Path as rules;
+ghost use Rattle.ink_model.specs.Text.Bytes.{pieces, is_dot};
+ghost use Rattle.ink_model.specs.Story.Path as rules;
 ghost use Rattle.ink_path.specs.Components.{TakesFirst, behind_dot, is_relative, part_of, path_of};
 
 use crate::path::{index_of, is_number, undotted};

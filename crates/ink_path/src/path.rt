@@ -2,9 +2,9 @@
 
 ghost use Rattle.std.specs.Prelude.{◌≡◌, ◌≢◌, ◌⊎◌, ◌<◌, length, None, Some, IsSome, is_some, true, [], ◌∷◌, ◌++◌, decimal, map, IfOk, IfErr, OnErr, OnOk, string_bytes};
 ghost use Rattle.std.specs.List.{list_all};
-ghost use Rattle.ink_model.specs.Bytes.{joined, pieces, is_digit, is_dot};
-ghost use Rattle.ink_model.specs.Grammar.{here};
-ghost use Rattle.ink_model.specs.Path as rules;
+ghost use Rattle.ink_model.specs.Text.Bytes.{joined, pieces, is_digit, is_dot};
+ghost use Rattle.ink_model.specs.Story.Grammar.{here};
+ghost use Rattle.ink_model.specs.Story.Path as rules;
 ghost use Rattle.ink_model.specs.declared.fault.Cause.TheVariants.{BadPath, OutOfMemory};
 ghost use Rattle.ink_model.specs.declared.place.Part.{Part as Component};
 ghost use Rattle.ink_path.specs.Components.{behind_dot, is_relative};
@@ -49,7 +49,7 @@ pub fn print_path(alloc: Global, path: &Path) -> Result<Text, AllocError>
 }
 
 // A dot in front makes a path relative; behind it stand the components.
-#[tactic(auto, unfolding(ink_model::specs::Path::read_path))]
+#[tactic(auto, unfolding(ink_model::specs::Story::Path::read_path))]
 pub(crate) fn undotted(text: &str) -> (bool, &str)
     ensures path { rules.read_path text.now ≡ rules.path_with result.0 result.1.now }
     ensures relative { result.0 ≡ is_relative text.now }

@@ -4,17 +4,17 @@ use Rattle.ink_commands.specs.Telling.{TellsWatchers}
 use Rattle.ink_host.specs.Desk.{DeskView, watches}
 use Rattle.ink_host.specs.Telling.{Watching}
 use Rattle.ink_host.specs.declared.objects.Called.{Called}
-use Rattle.ink_model.specs.Answer.{Acts, Reply}
-use Rattle.ink_model.specs.Configuration.{Configuration}
-use Rattle.ink_model.specs.Session.{BeginsAnew, condition_told, reply_told}
-use Rattle.ink_model.specs.State.{Ready, globals_of}
-use Rattle.ink_model.specs.Told.{told}
+use Rattle.ink_model.specs.Protocol.Answer.{Acts, Reply}
+use Rattle.ink_model.specs.Run.Configuration.{Configuration}
+use Rattle.ink_model.specs.Protocol.Session.{BeginsAnew, condition_told, reply_told}
+use Rattle.ink_model.specs.Protocol.State.{Ready, globals_of}
+use Rattle.ink_model.specs.Host.Told.{told}
 use Rattle.ink_model.specs.declared.fault.Fault.{Fault}
 use Rattle.ink_model.specs.declared.host.Change.{Change}
 use Rattle.ink_model.specs.declared.host.Event.{Event}
-use Rattle.ink_player.specs.Words.{DealtOnce, PlayerView, condition_by, desk_of, fault_told, is_empty, state_of, story_of, told_from}
+use Rattle.ink_player.specs.Standing.{DeliveredOnce, PlayerView, condition_by, desk_of, fault_told, is_empty, state_of, story_of, told_from}
 use Rattle.ink_player.proofs.Tellings.{globals-by, globals-told, none-left, told-done, told-state, with_parts}
-use Rattle.ink_step.specs.Words as step
+use Rattle.ink_step.specs.Standing as step
 use Rattle.ink_step.specs.declared.machine.Machine.{Machine}
 
 module _ {P F O : Type 0} (turn_log : F → List Called) (state : O → Watching) (p : PlayerView P F O) (m : Machine) where
@@ -38,7 +38,7 @@ module _ {P F O : Type 0} (turn_log : F → List Called) (state : O → Watching
       → TellsWatchers {E = Unit {0}} turn_log state p.desk changes changes (Ok all) d1
       → reply ≡ reply_told all (Acts d1.events) d1.events → b ≡ fault_told all None → d ≡ record d1 { events = [] }
       → (es : List Event) × BeginsAnew changes (step.game_of (story_of p) m) es (state_of p) reply (state_of (with_parts p m d b))
-      × DealtOnce turn_log state (told_from (desk_of p) (state_of p) (globals_of (state_of (with_parts p m d b)).condition)) (desk_of p) es reply d
+      × DeliveredOnce turn_log state (told_from (desk_of p) (state_of p) (globals_of (state_of (with_parts p m d b)).condition)) (desk_of p) es reply d
   begun-anew d1 d b all reply none tells replies broken taken =
       let leaves = told-state p m d d1 b None all after refl broken taken refl in
       let done = told-done turn_log state changes (condition_by p.broken before) (Ready after) (step.aside_of (story_of p) (step.aside_in m)) (desk_of p) d1 d all reply (state_of (with_parts p m d b))

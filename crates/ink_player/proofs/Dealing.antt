@@ -3,14 +3,14 @@ use Rattle.std.proofs.Common.{◌≡◌, ap, refl, ℕ, List, [], Option, Some}
 use Rattle.ink_host.specs.Desk.{DeskView}
 use Rattle.ink_host.specs.Telling.{Watching}
 use Rattle.ink_host.specs.declared.objects.Called.{Called}
-use Rattle.ink_model.specs.Answer.{Reply, Refuses}
-use Rattle.ink_model.specs.Command as command
-use Rattle.ink_model.specs.Command.{Command}
+use Rattle.ink_model.specs.Protocol.Answer.{Reply, Refuses}
+use Rattle.ink_model.specs.Protocol.Command as command
+use Rattle.ink_model.specs.Protocol.Command.{Command}
 use Rattle.ink_model.specs.declared.fault.Refusal.{Refusal}
 use Rattle.ink_model.specs.declared.host.Event.{Event}
 use Rattle.ink_model.specs.declared.host.Given.{Given}
 use Rattle.ink_model.specs.declared.value.Value.{Value}
-use Rattle.ink_player.specs.Words.{CommandStopsAtRefusal, DealtBy, DealtOf, Scene, bindings, changed}
+use Rattle.ink_player.specs.Standing.{CommandStopsAtRefusal, DeliveredBy, DeliveredOf, Scene, bindings, changed}
 use Rattle.ink_player.proofs.Refusals.{kept_with, none_called, replied}
 use Rattle.ink_player.proofs.Tellings.{bindings-same, once-none, run-none}
 
@@ -19,7 +19,7 @@ pub same_refusals : {P F O : Type 0} (refusals : F → ℕ) (a b : DeskView P F 
 same_refusals refusals a b reply same = replied refusals a b reply (kept_with refusals a a b same (none_called refusals a))
 
 module _ {P F O : Type 0} (turn_log : F → List Called) (refusals : F → ℕ) (state : O → Watching) where
-  leaves : (k : Option Command) (old : Scene P F O) (r : Refusal) → DealtBy turn_log state k old [] (Refuses r) old
+  leaves : (k : Option Command) (old : Scene P F O) (r : Refusal) → DeliveredBy turn_log state k old [] (Refuses r) old
   leaves (Some command.Continue) old r = run-none turn_log state (changed old old) old.desk r
   leaves (Some command.Through) old r = run-none turn_log state (changed old old) old.desk r
   leaves (Some (command.Set name (Some value))) old r = once-none turn_log state old.desk
@@ -28,12 +28,12 @@ module _ {P F O : Type 0} (turn_log : F → List Called) (refusals : F → ℕ) 
   leaves k old r = (refl, refl)
 
   -- one that is refused, and nothing has changed
-  pub untouched : (k : Option Command) (old : Scene P F O) (r : Refusal) → DealtOf turn_log refusals state k old [] (Refuses r) old
+  pub untouched : (k : Option Command) (old : Scene P F O) (r : Refusal) → DeliveredOf turn_log refusals state k old [] (Refuses r) old
   untouched k old r = (leaves k old r, none_called refusals old.desk)
 
 module _ {P F O : Type 0} (turn_log : F → List Called) (state : O → Watching) where
   -- names stay bound as they are, and the same are watched
-  pub command_binds : (meaning : P → List Value → Option Given) (k : Option Command) (old : Scene P F O) (es : List Event) (reply : Reply) (new : Scene P F O) → DealtBy turn_log state k old es reply new
+  pub command_binds : (meaning : P → List Value → Option Given) (k : Option Command) (old : Scene P F O) (es : List Event) (reply : Reply) (new : Scene P F O) → DeliveredBy turn_log state k old es reply new
       → bindings meaning new.desk ≡ bindings meaning old.desk
   command_binds meaning (Some command.Continue) old es reply new h = bindings-same turn_log state meaning old.desk new.desk es h.grew
   command_binds meaning (Some command.Through) old es reply new h = bindings-same turn_log state meaning old.desk new.desk es h.grew

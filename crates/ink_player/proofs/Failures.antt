@@ -2,12 +2,12 @@
 use Rattle.std.proofs.Common.{◌≡◌, refl, subst, sym, ℕ, List, Bool, Option, Err}
 use Rattle.ink_host.specs.Telling.{Watching}
 use Rattle.ink_host.specs.declared.objects.Called.{Called}
-use Rattle.ink_model.specs.Host.{Bindings}
-use Rattle.ink_model.specs.Tree.{StoryTree}
+use Rattle.ink_model.specs.Host.Bindings.{Bindings}
+use Rattle.ink_model.specs.Story.Tree.{StoryTree}
 use Rattle.ink_player.specs.Ends.{in_run}
 use Rattle.ink_player.specs.Playing.{OpenFails, play_fault}
 use Rattle.ink_player.specs.Serving.{Answers}
-use Rattle.ink_player.specs.Words.{Scene}
+use Rattle.ink_player.specs.Standing.{Scene}
 use Rattle.ink_player.specs.declared.end.PlayFault.{PlayFault}
 use Rattle.ink_player.specs.declared.end.PlayFault.TheVariants as play
 use Rattle.ink_protocol.specs.Buffered.{Buffered}

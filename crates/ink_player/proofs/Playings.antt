@@ -2,10 +2,10 @@
 use Rattle.std.proofs.Common.{◌≡◌, ℕ, ◌+◌, ◌-◌, ◌<◌, ◌≤◌, List, [], ◌∷◌, ◌++◌, length, false, Option, Result, Ok, Err, ap, ◌∙◌, sym, refl, subst, inl, inr, arith, append_assoc, append-nil, length-append}
 use Rattle.std.specs.Io.KnownBytes.{Consumes, IsAtEnd}
 use Rattle.std.proofs.KnownBytes.{Appends-nil, Consumes-trans}
-use Rattle.ink_model.specs.Bytes.{has_newline}
+use Rattle.ink_model.specs.Text.Bytes.{has_newline}
 use Rattle.ink_model.specs.declared.limits.TheConstants.{MAX_STORY, MAX_INPUT}
-use Rattle.ink_model.specs.Opening.{opened}
-use Rattle.ink_model.specs.Host.{Bindings}
+use Rattle.ink_model.specs.Run.Opening.{opened}
+use Rattle.ink_model.specs.Host.Bindings.{Bindings}
 use Rattle.ink_host.specs.Desk.{DeskView}
 use Rattle.ink_host.specs.Telling.{Watching}
 use Rattle.ink_host.specs.declared.objects.Called.{Called}
@@ -16,7 +16,7 @@ use Rattle.ink_player.specs.Ends.{IsLastLine}
 use Rattle.ink_player.specs.Playing.{IsStoryLine, PlaysOn, EndsEarly, PlayFails, PlayEnds, Plays, play_fault, OpenFails, Opens}
 use Rattle.ink_player.specs.Serving.{RunEnds, Runs}
 use Rattle.ink_protocol.specs.Spelled.{HasRoom}
-use Rattle.ink_player.specs.Words.{PlayerView, Scene, anew, scene_of, story_of}
+use Rattle.ink_player.specs.Standing.{PlayerView, Scene, anew, scene_of, story_of}
 use Rattle.ink_player.specs.declared.end.PlayEnd.{PlayEnd}
 use Rattle.ink_player.specs.declared.end.PlayFault.{PlayFault}
 use Rattle.ink_player.specs.declared.end.PlayFault.TheVariants as play

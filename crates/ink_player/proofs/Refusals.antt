@@ -1,12 +1,12 @@
 -- Turn functions that were refused memory, at the end of a command.
 use Rattle.std.proofs.Common.{◌≡◌, ◌∙◌, ap, inl, inr, refl, subst, sym, ℕ, List}
 use Rattle.ink_host.specs.Desk.{DeskView, at, refusals_at}
-use Rattle.ink_model.specs.Answer.{Reply, Breaks}
+use Rattle.ink_model.specs.Protocol.Answer.{Reply, Breaks}
 use Rattle.ink_model.specs.declared.fault.Fault.{Fault}
 use Rattle.ink_model.specs.declared.fault.Fault.TheVariants.{OutOfMemory}
 use Rattle.ink_model.specs.declared.host.Event.{Event}
 use Rattle.ink_effects.specs.Refusals.{KeepsRefusals, StopsAtRefusal}
-use Rattle.ink_player.specs.Words.{CommandStopsAtRefusal}
+use Rattle.ink_player.specs.Standing.{CommandStopsAtRefusal}
 
 module _ {P F O : Type 0} (refusals : F → ℕ) where
   pub none_called : (desk : DeskView P F O) → KeepsRefusals refusals desk desk

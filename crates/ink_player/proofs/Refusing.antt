@@ -4,10 +4,10 @@ use Rattle.std.specs.Str.{is_utf8}
 use Rattle.serde_json.proofs.OnLiterals.{serde_json_on_literals}
 use Rattle.serde_json.specs.Read.{read}
 use Rattle.ink_json.specs.Reading.{is_parsed}
-use Rattle.ink_model.specs.Acceptance.{accepted, accepted_story, and_then}
-use Rattle.ink_model.specs.Bytes.{is_filled}
-use Rattle.ink_model.specs.Grammar.{here, of_json, story, unmarked}
-use Rattle.ink_model.specs.Tree.{StoryTree}
+use Rattle.ink_model.specs.Story.Acceptance.{accepted, accepted_story, and_then}
+use Rattle.ink_model.specs.Text.Bytes.{is_filled}
+use Rattle.ink_model.specs.Story.Grammar.{here, of_json, story, unmarked}
+use Rattle.ink_model.specs.Story.Tree.{StoryTree}
 use Rattle.ink_model.specs.declared.fault.Cause.TheVariants.{Limit, OutOfMemory}
 use Rattle.ink_model.specs.declared.fault.ReadRefusal.{ReadRefusal}
 use Rattle.ink_model.specs.declared.limits.TheConstants.{MAX_STORY}

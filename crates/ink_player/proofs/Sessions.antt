@@ -6,14 +6,14 @@ use Rattle.std.specs.Io.KnownBytes.{Appends, IsAtEnd}
 use Rattle.std.proofs.KnownBytes.{Appends-nil, Appends-trans, Consumes-trans}
 use Rattle.ink_host.specs.Telling.{Watching}
 use Rattle.ink_host.specs.declared.objects.Called.{Called}
-use Rattle.ink_model.specs.Answer.{Reply, Refuses, answer}
-use Rattle.ink_model.specs.Bytes.{has_newline, onto}
-use Rattle.ink_model.specs.Command as command
-use Rattle.ink_model.specs.Command.{Command, command_of, json_of, line_asks, lines_of}
-use Rattle.ink_model.specs.Session.{Does, Serves}
-use Rattle.ink_model.specs.State.{State}
-use Rattle.ink_model.specs.Host.{Bindings}
-use Rattle.ink_model.specs.Tree.{StoryTree}
+use Rattle.ink_model.specs.Protocol.Answer.{Reply, Refuses, answer}
+use Rattle.ink_model.specs.Text.Bytes.{has_newline, onto}
+use Rattle.ink_model.specs.Protocol.Command as command
+use Rattle.ink_model.specs.Protocol.Command.{Command, command_of, json_of, line_asks, lines_of}
+use Rattle.ink_model.specs.Protocol.Session.{Does, Serves}
+use Rattle.ink_model.specs.Protocol.State.{State}
+use Rattle.ink_model.specs.Host.Bindings.{Bindings}
+use Rattle.ink_model.specs.Story.Tree.{StoryTree}
 use Rattle.ink_model.specs.declared.host.Event.{Event}
 use Rattle.ink_model.specs.declared.fault.Refusal.TheVariants as refusal
 use Rattle.ink_protocol.specs.Buffered.{Buffered}
@@ -27,9 +27,9 @@ use Rattle.ink_player.specs.Extents.{GoesOn, running}
 use Rattle.ink_look.specs.declared.passages.Extent.{Extent}
 use Rattle.ink_look.specs.declared.passages.Extent.TheVariants as extent
 use Rattle.ink_player.specs.Serving.{Answered, Answers, IsTold, RunEnds, Runs, ServesFront, ServesLine, ServesLineBy, ServesLines}
-use Rattle.ink_player.specs.Words.{CommandStopsAtRefusal, DealtByRun, DealtOf, Scene, changed}
+use Rattle.ink_player.specs.Standing.{CommandStopsAtRefusal, DeliveredByRun, DeliveredOf, Scene, changed}
 use Rattle.ink_protocol.specs.Spelled.{IsLine, spelled, Splits, IsFirst, IsLongInput, HasRoom}
-use Rattle.ink_model.specs.Unread.{TextFails}
+use Rattle.ink_model.specs.Protocol.Unread.{TextFails}
 use Rattle.ink_model.specs.declared.limits.TheConstants.{MAX_LINE}
 use Rattle.ink_protocol.specs.declared.fault.RunFault.{RunFault}
 use Rattle.ink_protocol.specs.declared.fault.RunFault.TheVariants as fault
@@ -289,7 +289,7 @@ module _ {P F O : Type 0} (turn_log : F → List Called) (refusals : F → ℕ) 
 
   -- what a command came to, and what it did to the objects, by the line's command
   abbrev Came : StoryTree → Bindings → List Event → Option Command → Scene P F O → Reply → Scene P F O → Type 0
-  Came s host es k old reply new = (Does s host es k old.state reply new.state ⊎ ((es ≡ []) × TextFails k old.state reply new.state)) × DealtOf turn_log refusals state k old es reply new
+  Came s host es k old reply new = (Does s host es k old.state reply new.state ⊎ ((es ≡ []) × TextFails k old.state reply new.state)) × DeliveredOf turn_log refusals state k old es reply new
 
   pub came : (s : StoryTree) (host : Bindings) (es : List Event) (old : Scene P F O) (reply : Reply) (new : Scene P F O) (k j : Option LineCommand) → k ≡ j → Came s host es (option_map command_by j) old reply new
       → Came s host es (option_map command_by k) old reply new
@@ -339,17 +339,17 @@ serves_unread s host line st h = inr (refl, inl (h, (refl, refl)))
 -- a command that runs, so far as it goes
 module _ {P F O : Type 0} (turn_log : F → List Called) (refusals : F → ℕ) (state : O → Watching) where
   pub runs_by : (s : StoryTree) (host : Bindings) (x : Extent) (line : List ℕ) (es : List Event) (old : Scene P F O) (reply : Reply) (new : Scene P F O) → Some (running x) ≡ command_of line
-      → GoesOn x s host es old.state reply new.state → DealtByRun turn_log state (changed old new) old.desk es reply new.desk → CommandStopsAtRefusal refusals old.desk new.desk reply
+      → GoesOn x s host es old.state reply new.state → DeliveredByRun turn_log state (changed old new) old.desk es reply new.desk → CommandStopsAtRefusal refusals old.desk new.desk reply
       → ServesLineBy turn_log refusals state s host line old reply new
   runs_by s host extent.Line line es old reply new is goes dealt stops = record {
     events = es;
     serves = serves_by s host es line (Some command.Continue) old.state reply new.state is goes;
-    dealt = subst (λ k. DealtOf turn_log refusals state k old es reply new) is (dealt, stops);
+    dealt = subst (λ k. DeliveredOf turn_log refusals state k old es reply new) is (dealt, stops);
   }
   runs_by s host extent.Stop line es old reply new is goes dealt stops = record {
     events = es;
     serves = serves_by s host es line (Some command.Through) old.state reply new.state is goes;
-    dealt = subst (λ k. DealtOf turn_log refusals state k old es reply new) is (dealt, stops);
+    dealt = subst (λ k. DeliveredOf turn_log refusals state k old es reply new) is (dealt, stops);
   }
 
 pub none_left : (l : List ℕ) → length l ≡ 0 → l ≡ []

@@ -1,23 +1,23 @@
 -- A player stands sound and at rest after each command: by the law of ink_sound that says so of commands, and of opening.
 use Rattle.std.proofs.Common.{◌≡◌, ◌∙◌, ◌||◌, ap, refl, subst, sym, inl, inr, ℕ, List, [], ◌∷◌, ◌++◌, Bool, true, false, Option, None, Some, is_some, Result, Ok, Err, is_ok}
-use Rattle.ink_model.specs.Answer.{Reply, Acts, Refuses, reply_of_landing}
-use Rattle.ink_model.specs.Choosing.{open_choice}
-use Rattle.ink_model.specs.Command as command
-use Rattle.ink_model.specs.Command.{Command}
-use Rattle.ink_model.specs.Configuration.{ChoiceOf, Configuration, can_go_on, settled, with_globals}
-use Rattle.ink_model.specs.Events.{Made, calls, later}
-use Rattle.ink_model.specs.Flows.{Game, alone, one_flow}
-use Rattle.ink_model.specs.Host.{Bindings, Bound, nothing_bound, value_given}
-use Rattle.ink_model.specs.Opening.{opening}
-use Rattle.ink_model.specs.Run as run
+use Rattle.ink_model.specs.Protocol.Answer.{Reply, Acts, Refuses, reply_of_landing}
+use Rattle.ink_model.specs.Choices.Choosing.{open_choice}
+use Rattle.ink_model.specs.Protocol.Command as command
+use Rattle.ink_model.specs.Protocol.Command.{Command}
+use Rattle.ink_model.specs.Run.Configuration.{ChoiceOf, Configuration, can_go_on, settled, with_globals}
+use Rattle.ink_model.specs.Host.Events.{Made, calls, later}
+use Rattle.ink_model.specs.Run.Flows.{Game, alone, one_flow}
+use Rattle.ink_model.specs.Host.Bindings.{Bindings, Bound, nothing_bound, value_given}
+use Rattle.ink_model.specs.Run.Opening.{opening}
+use Rattle.ink_model.specs.Run.Moments as run
 use Rattle.ink_model.specs.Save.Reads as rules
 use Rattle.ink_model.specs.Save.Sound.{AsideFits}
-use Rattle.ink_model.specs.Session.{Does, TellsDone, left_with, settable, telling}
-use Rattle.ink_model.specs.State.{State, Ready}
-use Rattle.ink_model.specs.Store.{Values, store, stored}
-use Rattle.ink_model.specs.Told.{ToldAs, told}
-use Rattle.ink_model.specs.Tree.{StoryTree}
-use Rattle.ink_model.specs.Turns.{ChoosesBy}
+use Rattle.ink_model.specs.Protocol.Session.{Does, TellsDone, left_with, settable, telling}
+use Rattle.ink_model.specs.Protocol.State.{State, Ready}
+use Rattle.ink_model.specs.Variables.Store.{Values, store, stored}
+use Rattle.ink_model.specs.Host.Told.{ToldAs, told}
+use Rattle.ink_model.specs.Story.Tree.{StoryTree}
+use Rattle.ink_model.specs.Protocol.Turns.{ChoosesBy}
 use Rattle.ink_model.specs.declared.fault.Fault.{Fault}
 use Rattle.ink_model.specs.declared.fault.Fault.TheVariants.{OutOfMemory}
 use Rattle.ink_model.specs.declared.fault.Refusal.{Refusal}
@@ -29,7 +29,7 @@ use Rattle.ink_sound.proofs.Going.{one_fits}
 use Rattle.ink_sound.proofs.Sessions.{does_fit}
 use Rattle.ink_step.specs.Marks.{Stood, choosing_lacks, entered_by, stood_of, turn_lacks, unmarked}
 use Rattle.ink_step.specs.Steps.{Chooses}
-use Rattle.ink_step.specs.Words.{aside_in, aside_of, config_of, game_of}
+use Rattle.ink_step.specs.Standing.{aside_in, aside_of, config_of, game_of}
 use Rattle.ink_step.specs.declared.machine.Machine.{Machine}
 use Rattle.ink_commands.proofs.Jumps.{turn_free}
 use Rattle.ink_commands.proofs.Tellings.{nobody-told}
@@ -39,7 +39,7 @@ use Rattle.ink_look.specs.Extents.{EndsBy}
 use Rattle.ink_look.specs.declared.passages.Extent.{Extent}
 use Rattle.ink_look.specs.declared.passages.Extent.TheVariants as extent
 use Rattle.ink_player.specs.Extents.{GoesOn}
-use Rattle.ink_player.specs.Words.{Stands, fault_told, is_empty}
+use Rattle.ink_player.specs.Standing.{Stands, fault_told, is_empty}
 use Rattle.ink_player.proofs.Tellings.{goes-where, sets}
 
 -- names bound as they are, and nobody watches

@@ -9,20 +9,20 @@ use Rattle.ink_host.proofs.Laws.{bound-same, grew-grew, grew-none, watches-same}
 use Rattle.ink_look.specs.Ends.{EndsWith}
 use Rattle.ink_look.specs.Extents.{EndsBy, FallsShortBy, RunsBy}
 use Rattle.ink_look.specs.declared.passages.Extent.{Extent}
-use Rattle.ink_model.specs.Answer.{Reply, Acts, Breaks, Counts, Refuses, Tells, reply_of_visits}
-use Rattle.ink_model.specs.Configuration.{Configuration, can_go_on, settled, with_globals}
-use Rattle.ink_model.specs.Events.{Made, calls, later}
-use Rattle.ink_model.specs.Flows.{Aside}
-use Rattle.ink_model.specs.Host.{Bindings, value_given}
-use Rattle.ink_model.specs.Choices.{has_any}
-use Rattle.ink_model.specs.Passage.{passage, passage_asks}
-use Rattle.ink_model.specs.Run as run
-use Rattle.ink_model.specs.Session as rules
-use Rattle.ink_model.specs.Session.{BreaksBy, FailsAllocation, Keeps, RunsTo, Set, SetsIn, TellsDone, TellsOrKeeps, condition_told, reply_told, settable, telling}
-use Rattle.ink_model.specs.State.{State, Condition, Ready, Broken, globals_of}
-use Rattle.ink_model.specs.Store.{Values, store, stored}
-use Rattle.ink_model.specs.Told.{ToldAs, told}
-use Rattle.ink_model.specs.Tree.{StoryTree}
+use Rattle.ink_model.specs.Protocol.Answer.{Reply, Acts, Breaks, Counts, Refuses, Tells, reply_of_visits}
+use Rattle.ink_model.specs.Run.Configuration.{Configuration, can_go_on, settled, with_globals}
+use Rattle.ink_model.specs.Host.Events.{Made, calls, later}
+use Rattle.ink_model.specs.Run.Flows.{Aside}
+use Rattle.ink_model.specs.Host.Bindings.{Bindings, value_given}
+use Rattle.ink_model.specs.Choices.Making.{has_any}
+use Rattle.ink_model.specs.Protocol.Passage.{passage, passage_asks}
+use Rattle.ink_model.specs.Run.Moments as run
+use Rattle.ink_model.specs.Protocol.Session as rules
+use Rattle.ink_model.specs.Protocol.Session.{BreaksBy, FailsAllocation, OnlyRefuses, RunsTo, Set, SetsIn, TellsDone, TellsOrKeeps, condition_told, reply_told, settable, telling}
+use Rattle.ink_model.specs.Protocol.State.{State, Condition, Ready, Broken, globals_of}
+use Rattle.ink_model.specs.Variables.Store.{Values, store, stored}
+use Rattle.ink_model.specs.Host.Told.{ToldAs, told}
+use Rattle.ink_model.specs.Story.Tree.{StoryTree}
 use Rattle.ink_model.specs.declared.fault.Fault.{Fault}
 use Rattle.ink_model.specs.declared.fault.Fault.TheVariants.{OutOfMemory}
 use Rattle.ink_model.specs.declared.fault.Refusal.{Refusal}
@@ -33,9 +33,9 @@ use Rattle.ink_model.specs.declared.host.Given.{Given}
 use Rattle.ink_model.specs.declared.passage.Passage.{Passage}
 use Rattle.ink_model.specs.declared.value.Value.{Value}
 use Rattle.ink_player.specs.Extents.{GoesFrom, GoesOn}
-use Rattle.ink_player.specs.Words.{DealtByRun, DealtOnce, PlayerView, TellsOnce, all_told, aside_seen, bindings, desk_of, fault_told, is_empty, state_of, story_of, told_from}
+use Rattle.ink_player.specs.Standing.{DeliveredByRun, DeliveredOnce, PlayerView, TellsOnce, all_told, aside_seen, bindings, desk_of, fault_told, is_empty, state_of, story_of, told_from}
 use Rattle.ink_step.specs.declared.machine.Machine.{Machine}
-use Rattle.ink_step.specs.Words.{aside_in, aside_of, config_of}
+use Rattle.ink_step.specs.Standing.{aside_in, aside_of, config_of}
 
 -- ---- the globals of a player
 
@@ -76,7 +76,7 @@ module _ (s : StoryTree) (h : Bindings) (b : Option Fault) (c : Configuration) (
   module _ (x : Extent) (es : List Event) (reply : Reply) (new : State) where
     abbrev GoesWhere : Bool → Type 0
     GoesWhere goes = MatchBool goes ((made : List Made) × RunsTo (EndsBy x s h.functions c made) (FallsShortBy x s h.functions c made) h c made es start reply new)
-        ((es ≡ []) × Keeps (Refuses refusal.CannotContinue) start reply new)
+        ((es ≡ []) × OnlyRefuses (Refuses refusal.CannotContinue) start reply new)
 
     -- by whether flow can go on
     pub goes-where : (goes : Bool) → b ≡ None → can_go_on c ≡ goes → GoesWhere goes → GoesOn x s h es start reply new
@@ -163,7 +163,7 @@ module _ {P F O : Type 0} (turn_log : F → List Called) (state : O → Watching
   pub once-none : (a : DeskView P F O) → Untold a a
   once-none a = (grown-none a, (refl, refl))
 
-  pub run-none : (cs : List Change) (a : DeskView P F O) (r : Refusal) → DealtByRun turn_log state cs a [] (Refuses r) a
+  pub run-none : (cs : List Change) (a : DeskView P F O) (r : Refusal) → DeliveredByRun turn_log state cs a [] (Refuses r) a
   run-none cs a r = record { grew = grown-none a; made = []; saw = []; events = refl; tells = inl (refl, refl) }
 
   -- names stay bound as they are, and the same are watched
@@ -203,7 +203,7 @@ module _ {P F O : Type 0} (turn_log : F → List Called) (state : O → Watching
 
     abbrev Comes : Reply → State → DeskView P F O → Type 0
     Comes reply new d = (es : List Event) × GoesOn x tree host es (state_of p) reply new
-        × DealtByRun turn_log state (told_from (desk_of p) (state_of p) (globals_of new.condition)) (desk_of p) es reply d
+        × DeliveredByRun turn_log state (told_from (desk_of p) (state_of p) (globals_of new.condition)) (desk_of p) es reply d
 
     abbrev Ran : Result Passage Fault → Type 0
     Ran result = RunsBy passage passage_asks x tree host.functions before made after result
@@ -336,7 +336,7 @@ module _ {P F O : Type 0} (turn_log : F → List Called) (state : O → Watching
   pub told-done : (cs : List Change) (c0 done : Condition) (a : Aside) (d0 d1 d : DeskView P F O) (all : Bool) (reply : Reply) (new : State) → d0.events ≡ []
       → (saw : List Event) × (t : ToldAs d0.next cs all saw) × IsRound state d0.next cs cs t.answers d0.watchers d1.watchers × Grew turn_log (log_of state) d0 saw d1
       → reply ≡ reply_told all (Acts d1.events) d1.events → new ≡ at_stamp (condition_told all done) a d1.next → d ≡ record d1 { events = [] }
-      → (ds : List Change) → cs ≡ ds → (es : List Event) × TellsDone cs done Acts [] es (at_stamp c0 a d0.next) reply new × DealtOnce turn_log state ds d0 es reply d
+      → (ds : List Change) → cs ≡ ds → (es : List Event) × TellsDone cs done Acts [] es (at_stamp c0 a d0.next) reply new × DeliveredOnce turn_log state ds d0 es reply d
   told-done cs c0 done a d0 d1 d all reply new none t replies leaves is ds same =
       let events : d1.events ≡ t.0 = t.3.events ∙ ap (λ l. l ++ t.0) none in (
         t.0,
@@ -357,7 +357,7 @@ module _ {P F O : Type 0} (turn_log : F → List Called) (state : O → Watching
 
   -- nothing has changed, for want of memory
   pub tells-kept : {X : List Event → Type 0} (cs : List Change) (c0 : Condition) (a : Aside) (d0 d1 : DeskView P F O) → cs ≢ [] → d1 ≡ d0
-      → (es : List Event) × (X es ⊎ ((cs ≢ []) × (es ≡ []) × FailsAllocation (at_stamp c0 a d0.next) (Refuses refusal.OutOfMemory) (at_stamp c0 a d1.next))) × DealtOnce turn_log state cs d0 es (Refuses refusal.OutOfMemory) d1
+      → (es : List Event) × (X es ⊎ ((cs ≢ []) × (es ≡ []) × FailsAllocation (at_stamp c0 a d0.next) (Refuses refusal.OutOfMemory) (at_stamp c0 a d1.next))) × DeliveredOnce turn_log state cs d0 es (Refuses refusal.OutOfMemory) d1
   tells-kept cs c0 a d0 d1 some same =
       ([], inr (some, refl, (refl, ap (λ d. at_stamp c0 a d.next) same)), subst (λ x. Untold d0 x) (sym same) (once-none d0))
 
@@ -376,8 +376,8 @@ module _ (h : Bindings) (name : List ℕ) (c : Configuration) (b : Option Fault)
     Sets v = TellsOrKeeps (told h.watches c.shared.globals ((name, v) ∷ [])) (Ready (with_globals (store name v c.shared.globals) c)) es old reply new
 
     abbrev SetsWhere : Bool → Bool → Type 0
-    SetsWhere fits there = MatchBool fits (MatchBool there (Sets (value_given g)) ((es ≡ []) × Keeps (Refuses refusal.NoSuchVariable) old reply new))
-        ((es ≡ []) × Keeps (Refuses refusal.BadValue) old reply new)
+    SetsWhere fits there = MatchBool fits (MatchBool there (Sets (value_given g)) ((es ≡ []) × OnlyRefuses (Refuses refusal.NoSuchVariable) old reply new))
+        ((es ≡ []) × OnlyRefuses (Refuses refusal.BadValue) old reply new)
 
     -- by whether the value may be set, and whether there is such a global
     pub sets-where : (fits there : Bool) → b ≡ None → settable g ≡ fits → is_some (stored name c.shared.globals) ≡ there → SetsWhere fits there → Set h es name (Some g) old reply new

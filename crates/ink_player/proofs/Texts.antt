@@ -1,14 +1,14 @@
 -- Loading a text.
 use Rattle.std.proofs.Common.{◌≡◌, ◌∙◌, ap, refl, subst, sym, inl, inr, ℕ, List, [], None, Some, Result, Ok, Err, IfOk}
 use Rattle.serde_json.specs.Data.{Data}
-use Rattle.ink_model.specs.Answer.{Reply, Refuses, reply_of_events}
-use Rattle.ink_model.specs.Command.{json_of}
-use Rattle.ink_model.specs.Flows.{Game}
-use Rattle.ink_model.specs.Host.{Bindings}
+use Rattle.ink_model.specs.Protocol.Answer.{Reply, Refuses, reply_of_events}
+use Rattle.ink_model.specs.Protocol.Command.{json_of}
+use Rattle.ink_model.specs.Run.Flows.{Game}
+use Rattle.ink_model.specs.Host.Bindings.{Bindings}
 use Rattle.ink_model.specs.Save.Reads.{Reads}
-use Rattle.ink_model.specs.Session.{Load}
-use Rattle.ink_model.specs.State.{State}
-use Rattle.ink_model.specs.Tree.{StoryTree}
+use Rattle.ink_model.specs.Protocol.Session.{Load}
+use Rattle.ink_model.specs.Protocol.State.{State}
+use Rattle.ink_model.specs.Story.Tree.{StoryTree}
 use Rattle.ink_model.specs.declared.fault.Halt.{Halt}
 use Rattle.ink_model.specs.declared.fault.Refusal.{Refusal}
 use Rattle.ink_model.specs.declared.fault.Refusal.TheVariants as refusal
@@ -17,7 +17,7 @@ use Rattle.ink_player.specs.Loading.{LoadsText, TextReads, TextReadsAsState}
 use Rattle.ink_player.proofs.Saves.{load-reads, load-refused, load-stands}
 use Rattle.ink_player.specs.Saving.{FindsText, LoadsAs, ReadsAsState}
 use Rattle.ink_sound.specs.Kept.{StoryFits}
-use Rattle.ink_step.specs.Words.{game_of}
+use Rattle.ink_step.specs.Standing.{game_of}
 use Rattle.ink_step.specs.declared.machine.Machine.{Machine}
 
 module _ (s : StoryTree) (text : List ℕ) where

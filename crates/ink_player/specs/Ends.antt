@@ -2,7 +2,7 @@
 use Rattle.std.specs.Prelude.{◌≡◌, ◌≤◌, ◌⊎◌, ℕ, List, length, Bool, true, false, Option, Result, Ok, Err}
 use Rattle.std.specs.Io.KnownBytes.{Consumes, IsAtEnd}
 use Rattle.ink_host.specs.Desk.{DeskView}
-use Rattle.ink_model.specs.Bytes.{has_newline}
+use Rattle.ink_model.specs.Text.Bytes.{has_newline}
 use Rattle.ink_model.specs.declared.limits.TheConstants.{MAX_STORY}
 use Rattle.ink_player.specs.Playing.{OpenFails}
 use Rattle.ink_player.specs.declared.end.PlayEnd.{PlayEnd}

@@ -3,13 +3,13 @@ use Rattle.std.specs.Prelude.{List, Bool, true, false, Option, Some}
 use Rattle.ink_look.specs.Extents.{EndsBy, FallsShortBy}
 use Rattle.ink_look.specs.declared.passages.Extent.{Extent}
 use Rattle.ink_look.specs.declared.passages.Extent.TheVariants as extent
-use Rattle.ink_model.specs.Answer.{Reply}
-use Rattle.ink_model.specs.Command as command
-use Rattle.ink_model.specs.Command.{Command}
-use Rattle.ink_model.specs.Host.{Bindings}
-use Rattle.ink_model.specs.Session.{RunsFrom, RunsTo}
-use Rattle.ink_model.specs.State.{Condition, State}
-use Rattle.ink_model.specs.Tree.{StoryTree}
+use Rattle.ink_model.specs.Protocol.Answer.{Reply}
+use Rattle.ink_model.specs.Protocol.Command as command
+use Rattle.ink_model.specs.Protocol.Command.{Command}
+use Rattle.ink_model.specs.Host.Bindings.{Bindings}
+use Rattle.ink_model.specs.Protocol.Session.{RunsFrom, RunsTo}
+use Rattle.ink_model.specs.Protocol.State.{Condition, State}
+use Rattle.ink_model.specs.Story.Tree.{StoryTree}
 use Rattle.ink_model.specs.declared.host.Event.{Event}
 use Rattle.ink_protocol.specs.declared.command.LineCommand.{LineCommand}
 use Rattle.ink_protocol.specs.declared.command.LineCommand.TheVariants as line

@@ -1,4 +1,4 @@
-pub mod Words
+pub mod Standing
 pub mod Ends
 pub mod Serving
 pub mod Playing

@@ -1,16 +1,16 @@
 -- What comes of loading a text (docs/SAVES.md).
 use Rattle.std.specs.Prelude.{◌≡◌, ◌⊎◌, ℕ, List, [], true, Some}
 use Rattle.serde_json.specs.Data.{Data}
-use Rattle.ink_model.specs.Answer.{Reply}
-use Rattle.ink_model.specs.Bytes.{is_filled}
-use Rattle.ink_model.specs.Changed.{FailsAllocation}
-use Rattle.ink_model.specs.Command.{json_of}
-use Rattle.ink_model.specs.Flows.{Game}
-use Rattle.ink_model.specs.Host.{Bindings}
+use Rattle.ink_model.specs.Protocol.Answer.{Reply}
+use Rattle.ink_model.specs.Text.Bytes.{is_filled}
+use Rattle.ink_model.specs.Protocol.Changed.{FailsAllocation}
+use Rattle.ink_model.specs.Protocol.Command.{json_of}
+use Rattle.ink_model.specs.Run.Flows.{Game}
+use Rattle.ink_model.specs.Host.Bindings.{Bindings}
 use Rattle.ink_model.specs.Save.Reads.{Reads}
-use Rattle.ink_model.specs.Session.{Load}
-use Rattle.ink_model.specs.State.{State}
-use Rattle.ink_model.specs.Tree.{StoryTree}
+use Rattle.ink_model.specs.Protocol.Session.{Load}
+use Rattle.ink_model.specs.Protocol.State.{State}
+use Rattle.ink_model.specs.Story.Tree.{StoryTree}
 use Rattle.ink_model.specs.declared.host.Event.{Event}
 use Rattle.ink_player.specs.Saving.{ReadsAsState}
 

@@ -2,25 +2,25 @@
 use Rattle.std.specs.Prelude.{◌≡◌, ◌<◌, ◌≤◌, ◌+◌, ◌-◌, ℕ, List, [], ◌∷◌, ◌++◌, length, true, false, ◌⊎◌, Option, Result, Ok, Err}
 use Rattle.std.specs.Io.KnownBytes.{Appends, Consumes, IsAtEnd}
 use Rattle.ink_json.specs.Reading.{is_parsed}
-use Rattle.ink_model.specs.Bytes.{has_newline}
-use Rattle.ink_model.specs.Grammar.{here}
+use Rattle.ink_model.specs.Text.Bytes.{has_newline}
+use Rattle.ink_model.specs.Story.Grammar.{here}
 use Rattle.ink_model.specs.declared.limits.TheConstants.{MAX_STORY, MAX_INPUT}
-use Rattle.ink_model.specs.Configuration.{Configuration}
-use Rattle.ink_model.specs.Opening.{opening, opened}
-use Rattle.ink_model.specs.Acceptance.{accepted_story}
-use Rattle.ink_model.specs.Host.{Bindings}
+use Rattle.ink_model.specs.Run.Configuration.{Configuration}
+use Rattle.ink_model.specs.Run.Opening.{opening, opened}
+use Rattle.ink_model.specs.Story.Acceptance.{accepted_story}
+use Rattle.ink_model.specs.Host.Bindings.{Bindings}
 use Rattle.ink_host.specs.Desk.{DeskView}
 use Rattle.ink_host.specs.Telling.{Watching}
 use Rattle.ink_host.specs.declared.objects.Called.{Called}
-use Rattle.ink_model.specs.Store.{Values}
-use Rattle.ink_model.specs.Tree.{StoryTree}
+use Rattle.ink_model.specs.Variables.Store.{Values}
+use Rattle.ink_model.specs.Story.Tree.{StoryTree}
 use Rattle.ink_model.specs.declared.fault.Cause.TheVariants as cause
 use Rattle.ink_model.specs.declared.fault.Fault.{Fault}
 use Rattle.ink_model.specs.declared.fault.ReadRefusal.{ReadRefusal}
 use Rattle.ink_player.specs.Serving.{RunEnds}
 use Rattle.ink_protocol.specs.Spelled.{HasRoom}
 use Rattle.ink_step.specs.Steps.{FailsToOpen}
-use Rattle.ink_player.specs.Words.{PlayerView, Scene, anew, desk_of, state_of, story_of}
+use Rattle.ink_player.specs.Standing.{PlayerView, Scene, anew, desk_of, state_of, story_of}
 use Rattle.ink_player.specs.declared.end.PlayEnd.{PlayEnd}
 use Rattle.ink_player.specs.declared.end.PlayFault.{PlayFault}
 use Rattle.ink_player.specs.declared.end.PlayFault.TheVariants as play

@@ -1,6 +1,6 @@
 -- Why a story is not played, or not to its reader's end, as it is printed (docs/PROTOCOL.md, "The program").
 use Rattle.std.specs.Prelude.{ℕ, List, ◌++◌, codes}
-use Rattle.ink_model.specs.Answer.{fault_name, refused_story_text}
+use Rattle.ink_model.specs.Protocol.Answer.{fault_name, refused_story_text}
 use Rattle.ink_model.specs.declared.fault.Fault.{Fault}
 use Rattle.ink_player.specs.declared.end.PlayFault.{PlayFault}
 use Rattle.ink_player.specs.declared.end.PlayFault.TheVariants as play

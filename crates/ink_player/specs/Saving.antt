@@ -4,20 +4,20 @@ use Rattle.serde_json.specs.Data.{Data}
 use Rattle.serde_json.specs.View.{view}
 use Rattle.serde_json.specs.Written.{compact_text}
 use Rattle.serde_json.specs.declared.value.Value.{Value}
-use Rattle.ink_model.specs.Answer.{Reply, Acts, Breaks, Refuses}
-use Rattle.ink_model.specs.Bytes.{is_filled}
-use Rattle.ink_model.specs.Command.{json_of}
-use Rattle.ink_model.specs.Configuration.{Configuration}
-use Rattle.ink_model.specs.Flows.{Game, one_flow}
+use Rattle.ink_model.specs.Protocol.Answer.{Reply, Acts, Breaks, Refuses}
+use Rattle.ink_model.specs.Text.Bytes.{is_filled}
+use Rattle.ink_model.specs.Protocol.Command.{json_of}
+use Rattle.ink_model.specs.Run.Configuration.{Configuration}
+use Rattle.ink_model.specs.Run.Flows.{Game, one_flow}
 use Rattle.ink_model.specs.Save.Asks.{load_asks}
 use Rattle.ink_model.specs.Save.Reads.{Reads}
 use Rattle.ink_model.specs.Save.Spelling.{old_spelling, spelling}
-use Rattle.ink_model.specs.State.{State, Ready, Broken}
-use Rattle.ink_model.specs.Tree.{StoryTree}
+use Rattle.ink_model.specs.Protocol.State.{State, Ready, Broken}
+use Rattle.ink_model.specs.Story.Tree.{StoryTree}
 use Rattle.ink_model.specs.declared.fault.Fault.TheVariants as fault
 use Rattle.ink_model.specs.declared.fault.Refusal.{Refusal}
 use Rattle.ink_model.specs.declared.fault.Refusal.TheVariants as refusal
-use Rattle.ink_step.specs.Words.{game_of}
+use Rattle.ink_step.specs.Standing.{game_of}
 use Rattle.ink_step.specs.declared.machine.Machine.{Machine}
 
 -- the value that a game is spelled as; or memory was refused

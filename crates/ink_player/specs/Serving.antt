@@ -5,13 +5,13 @@ use Rattle.std.specs.Io.KnownBytes.{Appends, Consumes, IsAtEnd}
 use Rattle.ink_host.specs.Desk.{DeskView}
 use Rattle.ink_host.specs.Telling.{Watching}
 use Rattle.ink_host.specs.declared.objects.Called.{Called}
-use Rattle.ink_model.specs.Answer.{Reply, answer, answer_asks}
-use Rattle.ink_model.specs.Bytes.{has_newline}
-use Rattle.ink_model.specs.Command.{command_of, lines_of}
-use Rattle.ink_model.specs.Session.{Serves, Session}
-use Rattle.ink_model.specs.State.{State}
-use Rattle.ink_model.specs.Host.{Bindings}
-use Rattle.ink_model.specs.Tree.{StoryTree}
+use Rattle.ink_model.specs.Protocol.Answer.{Reply, answer, answer_asks}
+use Rattle.ink_model.specs.Text.Bytes.{has_newline}
+use Rattle.ink_model.specs.Protocol.Command.{command_of, lines_of}
+use Rattle.ink_model.specs.Protocol.Session.{Serves, Session}
+use Rattle.ink_model.specs.Protocol.State.{State}
+use Rattle.ink_model.specs.Host.Bindings.{Bindings}
+use Rattle.ink_model.specs.Story.Tree.{StoryTree}
 use Rattle.ink_model.specs.declared.host.Event.{Event}
 use Rattle.ink_model.specs.declared.limits.TheConstants.{MAX_LINE}
 use Rattle.ink_protocol.specs.Buffered.{Buffered}
@@ -20,7 +20,7 @@ use Rattle.ink_protocol.specs.Input.{Takes}
 use Rattle.ink_protocol.specs.Spelled.{IsLine, Splits, IsFirst, IsLongLine, IsLongInput, HasRoom}
 use Rattle.ink_protocol.specs.declared.fault.RunFault.{RunFault}
 use Rattle.ink_protocol.specs.declared.fault.RunFault.TheVariants as fault
-use Rattle.ink_player.specs.Words.{DealtOf, Scene}
+use Rattle.ink_player.specs.Standing.{DeliveredOf, Scene}
 use Rattle.ink_player.specs.declared.session.Served.{Served}
 use Rattle.ink_player.specs.declared.session.Served.TheVariants.{More, Done}
 
@@ -39,18 +39,18 @@ module _ {P F O : Type 0} (turn_log : F → List Called) (refusals : F → ℕ) 
   pub record ServesLineBy (line : List ℕ) (old : Scene P F O) (reply : Reply) (new : Scene P F O) : Type 0 where
     pub events : List Event
     pub serves : Serves s h events line old.state reply new.state
-    pub dealt : DealtOf turn_log refusals state (command_of line) old events reply new
+    pub dealt : DeliveredOf turn_log refusals state (command_of line) old events reply new
 
   -- What the lines of a session did to the objects, one after another: each by its own events and reply in that session.
-  abbrev pub AreDealt : (es : List Event) (lines : List (List ℕ)) (old : State) (written : List ℕ) (new : State) → Session s h es lines old written new → DeskView P F O → DeskView P F O → Type 0
-  AreDealt es [] old written new session before after = after ≡ before
-  AreDealt es (line ∷ lines) old written new (reply, mid, rest, first, others, joined, serves, writes, session) before after =
-      (between : DeskView P F O) × DealtOf turn_log refusals state (command_of line) (record { state = old; desk = before }) first reply (record { state = mid; desk = between })
-      × AreDealt others lines mid rest new session between after
+  abbrev pub AreDelivered : (es : List Event) (lines : List (List ℕ)) (old : State) (written : List ℕ) (new : State) → Session s h es lines old written new → DeskView P F O → DeskView P F O → Type 0
+  AreDelivered es [] old written new session before after = after ≡ before
+  AreDelivered es (line ∷ lines) old written new (reply, mid, rest, first, others, joined, serves, writes, session) before after =
+      (between : DeskView P F O) × DeliveredOf turn_log refusals state (command_of line) (record { state = old; desk = before }) first reply (record { state = mid; desk = between })
+      × AreDelivered others lines mid rest new session between after
 
   -- These lines are a session, of which the objects were dealt with so.
   abbrev pub ServesLines : List (List ℕ) → Scene P F O → List ℕ → Scene P F O → Type 0
-  ServesLines lines old written new = (es : List Event) × (session : Session s h es lines old.state written new.state) × AreDealt es lines old.state written new.state session old.desk new.desk
+  ServesLines lines old written new = (es : List Event) × (session : Session s h es lines old.state written new.state) × AreDelivered es lines old.state written new.state session old.desk new.desk
 
   -- ---- how a session ends: from the scene old, with what is left of the reader, over the input, with what was written
 

@@ -3,27 +3,27 @@
 ghost use Rattle.std.specs.Prelude.{◌≡◌, ◌⊎◌, List, [], ◌∷◌, None, Some, true, is_some, Ok, Err, IfOk, IfErr, IfSome, OnOk, OnErr};
 ghost use Rattle.ink_host.specs.Desk.{Resting, at, put, without};
 ghost use Rattle.ink_host.specs.Telling.{rests};
-ghost use Rattle.ink_model.specs.Answer.{Acts, Breaks, Tells, reply_of, reply_of_events, reply_of_halt, reply_of_landing, reply_of_value, reply_of_visits};
-ghost use Rattle.ink_model.specs.Configuration.{Configuration, with_globals};
-ghost use Rattle.ink_model.specs.Host as host;
-ghost use Rattle.ink_model.specs.Opening.{opening, opened};
-ghost use Rattle.ink_model.specs.Flows.{Game, current_name};
-ghost use Rattle.ink_model.specs.FlowCommands.{DropsFlow, GoesToFlow, TellsFlows};
+ghost use Rattle.ink_model.specs.Protocol.Answer.{Acts, Breaks, Tells, reply_of, reply_of_events, reply_of_halt, reply_of_landing, reply_of_value, reply_of_visits};
+ghost use Rattle.ink_model.specs.Run.Configuration.{Configuration, with_globals};
+ghost use Rattle.ink_model.specs.Host.Bindings as host;
+ghost use Rattle.ink_model.specs.Run.Opening.{opening, opened};
+ghost use Rattle.ink_model.specs.Run.Flows.{Game, current_name};
+ghost use Rattle.ink_model.specs.Protocol.FlowCommands.{DropsFlow, GoesToFlow, TellsFlows};
 ghost use Rattle.ink_model.specs.Save.Reads.{Stands as GameStands};
-ghost use Rattle.ink_model.specs.Session.{BeginsAnew, Continue, Through, Set, Get, Load, Restart, Save, TellsOrKeeps, reply_told, settable};
-ghost use Rattle.ink_model.specs.State.{Ready, is_running, fault_in, globals_of};
-ghost use Rattle.ink_model.specs.Store.{store, stored};
-ghost use Rattle.ink_model.specs.Told.{told};
-ghost use Rattle.ink_model.specs.Turns.{Choose, ShowsChoices};
+ghost use Rattle.ink_model.specs.Protocol.Session.{BeginsAnew, Continue, Through, Set, Get, Load, Restart, Save, TellsOrKeeps, reply_told, settable};
+ghost use Rattle.ink_model.specs.Protocol.State.{Ready, is_running, fault_in, globals_of};
+ghost use Rattle.ink_model.specs.Variables.Store.{store, stored};
+ghost use Rattle.ink_model.specs.Host.Told.{told};
+ghost use Rattle.ink_model.specs.Protocol.Turns.{Choose, ShowsChoices};
 ghost use Rattle.ink_model.specs.declared.host.Event.{Event as Happening};
 ghost use Rattle.ink_model.specs.declared.host.Given.{Given as Gift};
 ghost use Rattle.ink_sound.specs.Kept.{ConditionFits, StateFits};
 ghost use Rattle.ink_protocol.specs.Plain.{IsPlain};
 ghost use Rattle.ink_protocol.specs.Replies.{IsTextOf, reply_of_json, reply_of_text};
 ghost use Rattle.ink_player.specs.Extents.{GoesOn};
-ghost use Rattle.ink_player.specs.Words.{CommandStopsAtRefusal, DealtByRun, DealtOnce, anew, bindings, desk_of, fault_told, state_of, story_of, told_from};
+ghost use Rattle.ink_player.specs.Standing.{CommandStopsAtRefusal, DeliveredByRun, DeliveredOnce, anew, bindings, desk_of, fault_told, state_of, story_of, told_from};
 ghost use Rattle.ink_step.specs.Marks.{stood_of, unmarked};
-ghost use Rattle.ink_step.specs.Words.{config_of, game_of};
+ghost use Rattle.ink_step.specs.Standing.{config_of, game_of};
 ghost use Rattle.serde_json.specs.Data.{Data};
 ghost use Rattle.serde_json.specs.View.{view};
 ghost use Rattle.serde_json.specs.Written.{compact_text};
@@ -68,10 +68,10 @@ impl<P: Drop, F: Drop, O: Drop> Drop for Player<P, F, O> {
 
 impl<P, F, O> Model for Player<P, F, O> {
     ghost use Rattle.std.specs.Coded.{codes};
-    ghost use Rattle.ink_check.specs.Words.{story_tree};
+    ghost use Rattle.ink_check.specs.Standing.{story_tree};
     ghost use Rattle.ink_check.specs.contracts.story.Story as story_row;
     ghost use Rattle.ink_step.specs.contracts.machine.Machine as machine_row;
-    ghost use Rattle.ink_player.specs.Words.{PlayerView, Stands};
+    ghost use Rattle.ink_player.specs.Standing.{PlayerView, Stands};
 
     ghost Value = { PlayerView P F O };
 
@@ -102,10 +102,10 @@ impl<P, F, O> fmt::Display for OpenFault<P, F, O> {
 }
 
 impl<P: PureFn, F: TurnFn, O: Watcher> Player<P, F, O> {
-    ghost use Rattle.ink_check.specs.Words.{story_tree};
+    ghost use Rattle.ink_check.specs.Standing.{story_tree};
     ghost use Rattle.ink_commands.specs.Paths.{JumpsTo};
     ghost use Rattle.ink_commands.specs.Visits.{TellsVisits};
-    ghost use Rattle.ink_model.specs.Store.{Values};
+    ghost use Rattle.ink_model.specs.Variables.Store.{Values};
     ghost use Rattle.ink_step.specs.Steps.{FailsToOpen};
     ghost use Rattle.ink_model.specs.Save.Reads.{Reads};
     ghost use Rattle.ink_player.specs.Loading.{LoadsText, TextReads, TextReadsAsState};
@@ -165,7 +165,7 @@ impl<P: PureFn, F: TurnFn, O: Watcher> Player<P, F, O> {
     /// or of room for telling tells no watcher (docs/HOST.md).
     pub fn continue_line(&mut self) -> Result<Passage, Halt>
         ensures does { (es : List Happening) × Continue (story_of self.old) (bindings P.meaning (desk_of self.old)) es (state_of self.old) (reply_of result) (state_of self.new)
-            × DealtByRun F.log O.state (told_from (desk_of self.old) (state_of self.old) (globals_of (state_of self.new).condition)) (desk_of self.old) es (reply_of result) (desk_of self.new) }
+            × DeliveredByRun F.log O.state (told_from (desk_of self.old) (state_of self.old) (globals_of (state_of self.new).condition)) (desk_of self.old) es (reply_of result) (desk_of self.new) }
         ensures refusals { CommandStopsAtRefusal F.refusals (desk_of self.old) (desk_of self.new) (reply_of result) }
         ensures rest { Resting (rests O.state) (desk_of self.old).watchers → Resting (rests O.state) (desk_of self.new).watchers }
         ensures story { story_of self.new ≡ story_of self.old }
@@ -185,7 +185,7 @@ impl<P: PureFn, F: TurnFn, O: Watcher> Player<P, F, O> {
     /// or of room for telling tells no watcher (docs/HOST.md).
     pub fn through(&mut self) -> Result<Passage, Halt>
         ensures does { (es : List Happening) × Through (story_of self.old) (bindings P.meaning (desk_of self.old)) es (state_of self.old) (reply_of result) (state_of self.new)
-            × DealtByRun F.log O.state (told_from (desk_of self.old) (state_of self.old) (globals_of (state_of self.new).condition)) (desk_of self.old) es (reply_of result) (desk_of self.new) }
+            × DeliveredByRun F.log O.state (told_from (desk_of self.old) (state_of self.old) (globals_of (state_of self.new).condition)) (desk_of self.old) es (reply_of result) (desk_of self.new) }
         ensures refusals { CommandStopsAtRefusal F.refusals (desk_of self.old) (desk_of self.new) (reply_of result) }
         ensures rest { Resting (rests O.state) (desk_of self.old).watchers → Resting (rests O.state) (desk_of self.new).watchers }
         ensures story { story_of self.new ≡ story_of self.old }
@@ -196,7 +196,7 @@ impl<P: PureFn, F: TurnFn, O: Watcher> Player<P, F, O> {
     /// Goes on as far as is asked, and answers the passage.
     pub(crate) fn go_on(&mut self, extent: Extent) -> Result<Passage, Halt>
         ensures does { (es : List Happening) × GoesOn extent (story_of self.old) (bindings P.meaning (desk_of self.old)) es (state_of self.old) (reply_of result) (state_of self.new)
-            × DealtByRun F.log O.state (told_from (desk_of self.old) (state_of self.old) (globals_of (state_of self.new).condition)) (desk_of self.old) es (reply_of result) (desk_of self.new) }
+            × DeliveredByRun F.log O.state (told_from (desk_of self.old) (state_of self.old) (globals_of (state_of self.new).condition)) (desk_of self.old) es (reply_of result) (desk_of self.new) }
         ensures refusals { CommandStopsAtRefusal F.refusals (desk_of self.old) (desk_of self.new) (reply_of result) }
         ensures rest { Resting (rests O.state) (desk_of self.old).watchers → Resting (rests O.state) (desk_of self.new).watchers }
         ensures story { story_of self.new ≡ story_of self.old }
@@ -244,7 +244,7 @@ impl<P: PureFn, F: TurnFn, O: Watcher> Player<P, F, O> {
     /// the global has its value, and the player is broken by the fault `OutOfMemory`.
     pub fn set(&mut self, name: &str, value: Given) -> Result<Seq<Event>, Halt>
         ensures does { (es : List Happening) × Set (bindings P.meaning (desk_of self.old)) es name.now (Some value) (state_of self.old) (reply_of_events result) (state_of self.new)
-            × DealtOnce F.log O.state (told_from (desk_of self.old) (state_of self.old) ((name.now, host.value_given value) ∷ [])) (desk_of self.old) es (reply_of_events result) (desk_of self.new) }
+            × DeliveredOnce F.log O.state (told_from (desk_of self.old) (state_of self.old) ((name.now, host.value_given value) ∷ [])) (desk_of self.old) es (reply_of_events result) (desk_of self.new) }
         ensures functions { (desk_of self.new).functions ≡ (desk_of self.old).functions }
         ensures rest { Resting (rests O.state) (desk_of self.old).watchers → Resting (rests O.state) (desk_of self.new).watchers }
         ensures story { story_of self.new ≡ story_of self.old }
@@ -268,7 +268,7 @@ impl<P: PureFn, F: TurnFn, O: Watcher> Player<P, F, O> {
         requires given { (g : Gift) × (settable g ≡ true) × (value ≡ host.value_given g) }
         ensures does { let c = config_of (story_of self.old) self.old.machine in let h = bindings P.meaning (desk_of self.old) in
             (es : List Happening) × TellsOrKeeps (told h.watches c.shared.globals ((name.now, value) ∷ [])) (Ready (with_globals (store name.now value c.shared.globals) c)) es (state_of self.old) (reply_of_events result) (state_of self.new)
-            × DealtOnce F.log O.state (told h.watches c.shared.globals ((name.now, value) ∷ [])) (desk_of self.old) es (reply_of_events result) (desk_of self.new) }
+            × DeliveredOnce F.log O.state (told h.watches c.shared.globals ((name.now, value) ∷ [])) (desk_of self.old) es (reply_of_events result) (desk_of self.new) }
         ensures functions { (desk_of self.new).functions ≡ (desk_of self.old).functions }
         ensures rest { Resting (rests O.state) (desk_of self.old).watchers → Resting (rests O.state) (desk_of self.new).watchers }
         ensures story { story_of self.new ≡ story_of self.old }
@@ -394,7 +394,7 @@ impl<P: PureFn, F: TurnFn, O: Watcher> Player<P, F, O> {
     /// all others are told, and the player is broken by the fault `OutOfMemory`.
     pub fn load(&mut self, json: &Json) -> Result<Seq<Event>, Halt>
         ensures does { (es : List Happening) × Load (story_of self.old) (bindings P.meaning (desk_of self.old)) es (Some (view json.now)) (state_of self.old) (reply_of_events result) (state_of self.new)
-            × DealtOnce F.log O.state (told_from (desk_of self.old) (state_of self.old) (globals_of (state_of self.new).condition)) (desk_of self.old) es (reply_of_events result) (desk_of self.new) }
+            × DeliveredOnce F.log O.state (told_from (desk_of self.old) (state_of self.old) (globals_of (state_of self.new).condition)) (desk_of self.old) es (reply_of_events result) (desk_of self.new) }
         ensures functions { (desk_of self.new).functions ≡ (desk_of self.old).functions }
         ensures rest { Resting (rests O.state) (desk_of self.old).watchers → Resting (rests O.state) (desk_of self.new).watchers }
         ensures story { story_of self.new ≡ story_of self.old }
@@ -413,7 +413,7 @@ impl<P: PureFn, F: TurnFn, O: Watcher> Player<P, F, O> {
     #[inline(never)]
     pub fn load_text(&mut self, text: &str) -> Result<Seq<Event>, Halt>
         ensures does { (es : List Happening) × LoadsText (story_of self.old) (bindings P.meaning (desk_of self.old)) es text.now (state_of self.old) (reply_of_events result) (state_of self.new)
-            × DealtOnce F.log O.state (told_from (desk_of self.old) (state_of self.old) (globals_of (state_of self.new).condition)) (desk_of self.old) es (reply_of_events result) (desk_of self.new) }
+            × DeliveredOnce F.log O.state (told_from (desk_of self.old) (state_of self.old) (globals_of (state_of self.new).condition)) (desk_of self.old) es (reply_of_events result) (desk_of self.new) }
         ensures functions { (desk_of self.new).functions ≡ (desk_of self.old).functions }
         ensures rest { Resting (rests O.state) (desk_of self.old).watchers → Resting (rests O.state) (desk_of self.new).watchers }
         ensures story { story_of self.new ≡ story_of self.old }
@@ -435,7 +435,7 @@ impl<P: PureFn, F: TurnFn, O: Watcher> Player<P, F, O> {
     #[inline(never)]
     pub fn restart(&mut self) -> Result<Seq<Event>, Halt>
         ensures does { (es : List Happening) × Restart (story_of self.old) (bindings P.meaning (desk_of self.old)) es (state_of self.old) (reply_of_events result) (state_of self.new)
-            × DealtOnce F.log O.state (told_from (desk_of self.old) (state_of self.old) (globals_of (state_of self.new).condition)) (desk_of self.old) es (reply_of_events result) (desk_of self.new) }
+            × DeliveredOnce F.log O.state (told_from (desk_of self.old) (state_of self.old) (globals_of (state_of self.new).condition)) (desk_of self.old) es (reply_of_events result) (desk_of self.new) }
         ensures functions { (desk_of self.new).functions ≡ (desk_of self.old).functions }
         ensures rest { Resting (rests O.state) (desk_of self.old).watchers → Resting (rests O.state) (desk_of self.new).watchers }
         ensures story { story_of self.new ≡ story_of self.old }
@@ -452,7 +452,7 @@ impl<P: PureFn, F: TurnFn, O: Watcher> Player<P, F, O> {
         requires unmarked { stood_of machine ≡ unmarked }
         ensures does { let s = story_of self.old in let was = config_of s self.old.machine in let c = config_of s machine in let h = bindings P.meaning (desk_of self.old) in
             (es : List Happening) × BeginsAnew (told h.watches was.shared.globals c.shared.globals) (game_of s machine) es (state_of self.old) (reply_of_events result) (state_of self.new)
-            × DealtOnce F.log O.state (told_from (desk_of self.old) (state_of self.old) (globals_of (state_of self.new).condition)) (desk_of self.old) es (reply_of_events result) (desk_of self.new) }
+            × DeliveredOnce F.log O.state (told_from (desk_of self.old) (state_of self.old) (globals_of (state_of self.new).condition)) (desk_of self.old) es (reply_of_events result) (desk_of self.new) }
         ensures functions { (desk_of self.new).functions ≡ (desk_of self.old).functions }
         ensures rest { Resting (rests O.state) (desk_of self.old).watchers → Resting (rests O.state) (desk_of self.new).watchers }
         ensures story { story_of self.new ≡ story_of self.old }

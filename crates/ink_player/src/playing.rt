@@ -1,13 +1,13 @@
 //! Playing a story over bytes (docs/PROTOCOL.md, "Playing").
 
 ghost use Rattle.std.specs.Prelude.{◌≡◌, Ok, IfOk, IfErr};
-ghost use Rattle.ink_check.specs.Words.{story_tree};
+ghost use Rattle.ink_check.specs.Standing.{story_tree};
 ghost use Rattle.ink_host.specs.Desk.{Resting};
 ghost use Rattle.ink_host.specs.Telling.{rests};
-ghost use Rattle.ink_model.specs.Acceptance as rules;
+ghost use Rattle.ink_model.specs.Story.Acceptance as rules;
 ghost use Rattle.ink_player.specs.Ends.{PlayEndsOnce, play_reads_fail, play_writes_fail};
 ghost use Rattle.ink_player.specs.Playing.{IsRefused, Opens, OpensDesk, Plays, desk_left, play_fault};
-ghost use Rattle.ink_player.specs.Words.{bindings};
+ghost use Rattle.ink_player.specs.Standing.{bindings};
 ghost use Rattle.ink_protocol.specs.Ends.{Reports};
 
 use crate::end::{PlayEnd, PlayFault};

@@ -2,11 +2,11 @@
 
 ghost use Rattle.std.specs.Prelude.{◌≡◌, IfOk};
 ghost use Rattle.serde_json.specs.View.{view};
-ghost use Rattle.ink_check.specs.Words.{story_tree};
+ghost use Rattle.ink_check.specs.Standing.{story_tree};
 ghost use Rattle.ink_player.specs.Saving.{FindsSave, FindsText, IsSave, IsSaveText};
 ghost use Rattle.ink_sound.specs.Kept.{StoryFits};
 ghost use Rattle.ink_step.specs.Marks.{stood_of, unmarked};
-ghost use Rattle.ink_step.specs.Words.{game_of};
+ghost use Rattle.ink_step.specs.Standing.{game_of};
 
 use ink_check::Story;
 use ink_model::{Refusal, Text};

@@ -3,21 +3,21 @@
 ghost use Rattle.std.specs.Prelude.{◌≡◌, ℕ, List, [], ◌⊎◌, IfNone, IfSome, OnOk, Some, false, true, option_map};
 ghost use Rattle.ink_host.specs.Desk.{Resting};
 ghost use Rattle.ink_host.specs.Telling.{rests};
-ghost use Rattle.ink_model.specs.Answer.{Refuses, Reply, Tells, answer, answer_asks, reply_of_events, reply_of_halt};
-ghost use Rattle.ink_model.specs.Command as ink;
-ghost use Rattle.ink_model.specs.Command.{command_of};
-ghost use Rattle.ink_model.specs.Session.{Does, Set};
-ghost use Rattle.ink_model.specs.Host.{Bindings};
+ghost use Rattle.ink_model.specs.Protocol.Answer.{Refuses, Reply, Tells, answer, answer_asks, reply_of_events, reply_of_halt};
+ghost use Rattle.ink_model.specs.Protocol.Command as ink;
+ghost use Rattle.ink_model.specs.Protocol.Command.{command_of};
+ghost use Rattle.ink_model.specs.Protocol.Session.{Does, Set};
+ghost use Rattle.ink_model.specs.Host.Bindings.{Bindings};
 ghost use Rattle.ink_model.specs.declared.fault.Refusal.TheVariants as refusal;
 ghost use Rattle.ink_model.specs.declared.host.Event.{Event as Happening};
 ghost use Rattle.ink_protocol.specs.Commands.{command_by};
 ghost use Rattle.ink_protocol.specs.Replies.{HasTextOf, reply_by};
-ghost use Rattle.ink_player.specs.Words.{DealtBy, DealtOf, bindings, desk_of, scene_of, state_of, story_of};
+ghost use Rattle.ink_player.specs.Standing.{DeliveredBy, DeliveredOf, bindings, desk_of, scene_of, state_of, story_of};
 ghost use Rattle.ink_protocol.specs.Ends.{Reports, reads_fail, writes_fail};
 ghost use Rattle.ink_player.specs.Ends.{EndsNext, EndsOnce};
 ghost use Rattle.ink_player.specs.Extents.{is_running, running};
 ghost use Rattle.ink_player.specs.Serving.{Answers, IsTold, Runs, ServesNext};
-ghost use Rattle.ink_model.specs.Unread.{TextFails};
+ghost use Rattle.ink_model.specs.Protocol.Unread.{TextFails};
 ghost use Rattle.ink_model.specs.declared.limits.TheConstants.{MAX_INPUT};
 ghost use Rattle.serde_json.specs.Data.{Data};
 
@@ -329,7 +329,7 @@ fn perform<P: PureFn, F: TurnFn, O: Watcher>(
     ensures does { (es : List Happening) × (saved : Data) × HasTextOf saved result
         × (Does (story_of player.old) (bindings P.meaning (desk_of player.old)) es (option_map command_by command.entry) (state_of player.old) (reply_by saved result) (state_of player.new)
         ⊎ ((es ≡ []) × TextFails (option_map command_by command.entry) (state_of player.old) (reply_by saved result) (state_of player.new)))
-        × DealtOf F.log F.refusals O.state (option_map command_by command.entry) (scene_of player.old) es (reply_by saved result) (scene_of player.new) }
+        × DeliveredOf F.log F.refusals O.state (option_map command_by command.entry) (scene_of player.old) es (reply_by saved result) (scene_of player.new) }
     ensures rest { Resting (rests O.state) (desk_of player.old).watchers → Resting (rests O.state) (desk_of player.new).watchers }
     ensures story { story_of player.new ≡ story_of player.old }
 {
@@ -356,7 +356,7 @@ fn set<P: PureFn, F: TurnFn, O: Watcher>(
     value: Option<Given>,
 ) -> Result<Seq<Event>, Halt>
     ensures does { (es : List Happening) × Set (bindings P.meaning (desk_of player.old)) es name.now value (state_of player.old) (reply_of_events result) (state_of player.new)
-        × DealtBy F.log O.state (Some (ink.Set name.now value)) (scene_of player.old) es (reply_of_events result) (scene_of player.new) }
+        × DeliveredBy F.log O.state (Some (ink.Set name.now value)) (scene_of player.old) es (reply_of_events result) (scene_of player.new) }
     ensures functions { (desk_of player.new).functions ≡ (desk_of player.old).functions }
     ensures rest { Resting (rests O.state) (desk_of player.old).watchers → Resting (rests O.state) (desk_of player.new).watchers }
     ensures story { story_of player.new ≡ story_of player.old }

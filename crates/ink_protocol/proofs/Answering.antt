@@ -9,7 +9,7 @@ use Rattle.json.specs.Written.{Written}
 use Rattle.serde_json.specs.Data.{Data, array, string}
 use Rattle.serde_json.specs.Written.{comma_if, compact_text, items_text}
 use Rattle.serde_json.proofs.OnLiterals.{serde_json_on_literals}
-use Rattle.ink_model.specs.Answer.{Reply, Acts, Counts, Saves, Shows, Tells, items_of, reply_data, shown_data, answer}
+use Rattle.ink_model.specs.Protocol.Answer.{Reply, Acts, Counts, Saves, Shows, Tells, items_of, reply_data, shown_data, answer}
 use Rattle.ink_model.specs.declared.passage.Passage.{Passage}
 use Rattle.ink_model.specs.declared.passage.Shown.{Shown}
 use Rattle.ink_model.specs.declared.value.Value.TheVariants as value

@@ -6,7 +6,7 @@ use Rattle.std.proofs.lemmas.List.{drop-take, get_or-take, take_all}
 use Rattle.std.proofs.lemmas.List.Folds.{list_any-append}
 use Rattle.memchr.specs.Find.{IsFirstByte, is_byte}
 use Rattle.std.proofs.KnownBytes.{Consumes-nil, Consumes-trans}
-use Rattle.ink_model.specs.Bytes.{has_newline, is_newline}
+use Rattle.ink_model.specs.Text.Bytes.{has_newline, is_newline}
 use Rattle.ink_protocol.specs.Buffered.{Buffered}
 use Rattle.ink_protocol.specs.Input.{Takes, CutsOff, Extends, IsNewlineAt}
 use Rattle.ink_protocol.specs.Lines.{TakesLine, LacksMemory, GivesLine}

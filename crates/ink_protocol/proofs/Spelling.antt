@@ -24,9 +24,9 @@ use Rattle.serde_json.specs.Data.{Data, null, boolean, number, string, array, ob
 use Rattle.serde_json.specs.Find.{as_integer}
 use Rattle.serde_json.specs.Read.{read, max_depth, of_json}
 use Rattle.serde_json.proofs.Numbers.{number_of-decimal, number_of-negative}
-use Rattle.ink_model.specs.Bytes.{fits_text}
-use Rattle.ink_model.specs.Leaves.{is_small}
-use Rattle.ink_model.specs.ValueJson.{given_by, given_integer, given_of}
+use Rattle.ink_model.specs.Text.Bytes.{fits_text}
+use Rattle.ink_model.specs.Story.Leaves.{is_small}
+use Rattle.ink_model.specs.Protocol.ValueJson.{given_by, given_integer, given_of}
 use Rattle.ink_model.specs.declared.host.Given.{Given}
 use Rattle.ink_model.specs.declared.host.Given.TheVariants as given
 use Rattle.ink_protocol.proofs.Commands.{given_read}

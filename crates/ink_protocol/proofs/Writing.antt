@@ -1,7 +1,7 @@
 -- How far a sink has come with bytes.
 use Rattle.std.proofs.Common.{◌≡◌, ◌≢◌, ℕ, List, ◌++◌, false, ◌&&◌, ◌∙◌, ap, sym, append_assoc, take, drop, take-append-drop, Option, Ok}
 use Rattle.std.proofs.lemmas.Bool.{ne_eqb}
-use Rattle.ink_model.specs.Bytes.{is_filled}
+use Rattle.ink_model.specs.Text.Bytes.{is_filled}
 use Rattle.ink_protocol.specs.Ends.{after_call, takes_nothing}
 use Rattle.std.specs.Io.KnownBytes.{Appends}
 use Rattle.std.proofs.KnownBytes.{Appends-trans}

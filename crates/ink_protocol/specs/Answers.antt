@@ -4,9 +4,9 @@ use Rattle.json.specs.Token.{Token}
 use Rattle.json.specs.Token as token
 use Rattle.serde_json.specs.Data.{array, string}
 use Rattle.serde_json.specs.Written.{compact_text}
-use Rattle.ink_model.specs.Answer.{items_of, shown_data}
-use Rattle.ink_model.specs.Host.{value_given}
-use Rattle.ink_model.specs.ValueJson.{value_data}
+use Rattle.ink_model.specs.Protocol.Answer.{items_of, shown_data}
+use Rattle.ink_model.specs.Host.Bindings.{value_given}
+use Rattle.ink_model.specs.Protocol.ValueJson.{value_data}
 use Rattle.ink_model.specs.declared.host.Given.{Given}
 use Rattle.ink_model.specs.declared.passage.Passage.{Passage}
 use Rattle.ink_model.specs.declared.passage.Shown.{Shown}

@@ -1,6 +1,6 @@
 -- Commands as lines spell them.
-use Rattle.ink_model.specs.Command as command
-use Rattle.ink_model.specs.Command.{Command, json_of}
+use Rattle.ink_model.specs.Protocol.Command as command
+use Rattle.ink_model.specs.Protocol.Command.{Command, json_of}
 use Rattle.ink_protocol.specs.declared.command.LineCommand.{LineCommand}
 use Rattle.ink_protocol.specs.declared.command.LineCommand.TheVariants as line
 

@@ -1,7 +1,7 @@
 -- What a call of a source or a sink counts as a failure or as the end, whose failure ended a session, and what was written then.
 use Rattle.std.specs.Prelude.{◌≡◌, ◌<◌, ◌+◌, ◌%◌, ◌^◌, ℕ, List, ◌++◌, length, codes, Bool, true, false, ◌==◌, ◌&&◌, Option, Result, Ok, Err}
 use Rattle.std.specs.Io.KnownBytes.{Appends}
-use Rattle.ink_model.specs.Bytes.{is_filled}
+use Rattle.ink_model.specs.Text.Bytes.{is_filled}
 use Rattle.ink_protocol.specs.declared.fault.RunFault.{RunFault}
 use Rattle.ink_protocol.specs.declared.fault.RunFault.TheVariants as fault
 
@@ -41,9 +41,9 @@ pub record Falls (old new : Option (List ℕ)) (bytes : List ℕ) : Type 0 where
   pub appended : Appends old new part
 
 -- all was written; or, where the sink failed, a front
-abbrev pub Writes : {T E : Type 0} → Option (List ℕ) → Option (List ℕ) → List ℕ → Result T E → Type 0
-Writes old new bytes (Ok x) = Appends old new bytes
-Writes old new bytes (Err e) = Falls old new bytes
+abbrev pub WritesAll : {T E : Type 0} → Option (List ℕ) → Option (List ℕ) → List ℕ → Result T E → Type 0
+WritesAll old new bytes (Ok x) = Appends old new bytes
+WritesAll old new bytes (Err e) = Falls old new bytes
 
 -- the text of an answer is written whole, or a front of it
 abbrev pub WritesText : Option (List ℕ) → Option (List ℕ) → List ℕ → Result (Unit {0}) RunFault → Type 0

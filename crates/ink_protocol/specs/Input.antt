@@ -2,7 +2,7 @@
 use Rattle.std.specs.Prelude.{◌≡◌, ◌<◌, ◌≤◌, ◌+◌, ℕ, List, [], ◌∷◌, ◌++◌, length, take, drop, Bool, true, false, Option, Result, Ok, Err}
 use Rattle.std.specs.Io.KnownBytes.{Consumes, IsAtEnd}
 use Rattle.ink_protocol.specs.Buffered.{Buffered}
-use Rattle.ink_model.specs.Bytes.{has_newline}
+use Rattle.ink_model.specs.Text.Bytes.{has_newline}
 use Rattle.ink_protocol.specs.declared.fault.RunFault.{RunFault}
 use Rattle.ink_protocol.specs.declared.fault.RunFault.TheVariants as fault
 use Rattle.ink_protocol.specs.declared.input.Cut.{Cut}

@@ -1,7 +1,7 @@
 -- Lines taken from what a source gives.
 use Rattle.std.specs.Prelude.{◌≡◌, ◌<◌, ◌≤◌, ◌+◌, ℕ, max, List, [], ◌∷◌, ◌++◌, length, Bool, true, false, ◌⊎◌, Option, Result, Ok, Err}
 use Rattle.std.specs.Io.KnownBytes.{IsAtEnd}
-use Rattle.ink_model.specs.Bytes.{has_newline}
+use Rattle.ink_model.specs.Text.Bytes.{has_newline}
 use Rattle.ink_protocol.specs.Buffered.{Buffered}
 use Rattle.ink_protocol.specs.Input.{Takes}
 use Rattle.ink_protocol.specs.declared.lines.Line.{Line}

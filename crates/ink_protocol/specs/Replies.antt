@@ -4,7 +4,7 @@ use Rattle.serde_json.specs.Data.{Data}
 use Rattle.serde_json.specs.View.{view}
 use Rattle.serde_json.specs.Written.{compact_text}
 use Rattle.serde_json.specs.declared.value.Value.{Value}
-use Rattle.ink_model.specs.Answer.{Reply, Refuses, Saves, reply_of, reply_of_events, reply_of_landing, reply_of_value, reply_of_visits}
+use Rattle.ink_model.specs.Protocol.Answer.{Reply, Refuses, Saves, reply_of, reply_of_events, reply_of_landing, reply_of_value, reply_of_visits}
 use Rattle.ink_model.specs.declared.fault.Refusal.{Refusal}
 use Rattle.ink_protocol.specs.declared.answer.Outcome.{Outcome}
 use Rattle.ink_protocol.specs.declared.answer.Outcome.TheVariants as outcome

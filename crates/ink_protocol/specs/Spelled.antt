@@ -2,7 +2,7 @@
 use Rattle.std.specs.Prelude.{◌≡◌, ◌<◌, ◌≤◌, ◌+◌, ℕ, List, [], ◌∷◌, ◌++◌, length, false, ◌⊎◌, Option}
 use Rattle.std.specs.List.{AllByRecursion}
 use Rattle.std.specs.Io.KnownBytes.{IsAtEnd}
-use Rattle.ink_model.specs.Bytes.{has_newline, is_newline}
+use Rattle.ink_model.specs.Text.Bytes.{has_newline, is_newline}
 use Rattle.ink_model.specs.declared.limits.TheConstants.{MAX_LINE}
 
 pub record IsLine (line : List ℕ) : Type 0 where

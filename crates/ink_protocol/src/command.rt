@@ -1,8 +1,8 @@
 //! The commands that lines spell (docs/PROTOCOL.md, "Command lines").
 
 ghost use Rattle.std.specs.Prelude.{◌≡◌, ◌≢◌, ◌&&◌, codes, is_none, true, IfOk, OnErr, Some, option_map, option_and_then};
-ghost use Rattle.ink_model.specs.Command.{choose_command as choose_of, command_asks, command_of, command_word, drop_command as drop_of, flow_command as flow_of, get_command as get_of, jump_command as jump_of, line_asks, load_command as load_of, set_asks, set_command as set_of, visits_command as visits_of};
-ghost use Rattle.ink_model.specs.Bytes.{at_space as parts_at_space, is_filled};
+ghost use Rattle.ink_model.specs.Protocol.Command.{choose_command as choose_of, command_asks, command_of, command_word, drop_command as drop_of, flow_command as flow_of, get_command as get_of, jump_command as jump_of, line_asks, load_command as load_of, set_asks, set_command as set_of, visits_command as visits_of};
+ghost use Rattle.ink_model.specs.Text.Bytes.{at_space as parts_at_space, is_filled};
 ghost use Rattle.ink_protocol.specs.Commands.{command_by};
 
 use crate::given::given_of;

@@ -1,7 +1,7 @@
 //! Where lines are read from.
 
 ghost use Rattle.std.specs.Prelude.{◌≡◌, ◌<◌, ◌≤◌, ◌+◌, ◌-◌, ℕ, max, List, [], false, Option, length, take, drop, is_err, IfOk, OnOk, OnErr, MatchOption, MatchResult};
-ghost use Rattle.ink_model.specs.Bytes.{has_newline};
+ghost use Rattle.ink_model.specs.Text.Bytes.{has_newline};
 ghost use Rattle.ink_protocol.specs.Ends.{after_call, gives_nothing};
 ghost use Rattle.ink_protocol.specs.Input.{Extends, IsNewlineAt};
 ghost use Rattle.std.specs.Io.{ReadsAtMost};

@@ -4,6 +4,7 @@
 
 mod answer;
 mod command;
+mod failing_ends;
 mod fault;
 mod given;
 mod input;
@@ -11,14 +12,13 @@ mod lines;
 mod output;
 mod parse;
 mod plain;
-mod watched;
 mod word;
 
 pub use answer::{Outcome, answer_text, fixed_answer, passage_text, print_values};
 pub use command::{LineCommand, read_command};
+pub use failing_ends::{Lent, Watched};
 pub use fault::RunFault;
 pub use input::{Ahead, ReadFailed, Source};
 pub use lines::{Line, next_line};
 pub use output::{Sink, WriteFailed, write_answer};
-pub use watched::{Lent, Watched};
 pub use word::{after, choice_number};

@@ -3,7 +3,7 @@
 ghost use Rattle.std.specs.Prelude.{◌≡◌, ◌<◌, ℕ, List, Option, is_err, length};
 ghost use Rattle.std.specs.Io.{WritesAtMost};
 ghost use Rattle.std.specs.Io.KnownBytes.{WriteAppends};
-ghost use Rattle.ink_protocol.specs.Ends.{Reports, after_call, takes_nothing, writes_fail, Writes, WritesText};
+ghost use Rattle.ink_protocol.specs.Ends.{Reports, after_call, takes_nothing, writes_fail, WritesAll, WritesText};
 
 use crate::fault::RunFault;
 
@@ -47,7 +47,7 @@ pub fn write_answer<T: Sink>(sink: &mut T, text: &[u8]) -> Result<(), RunFault>
 
 // Writes all of these bytes, or a front of them.
 fn write_whole<T: Sink>(sink: &mut T, bytes: &[u8]) -> Result<(), WriteFailed>
-    ensures written { Writes (T.contents sink.old) (T.contents sink.new) bytes.now result }
+    ensures written { WritesAll (T.contents sink.old) (T.contents sink.new) bytes.now result }
     ensures cause { T.failures sink.new ≡ after_call (is_err result) (T.failures sink.old) }
     ensures name { T.name sink.new ≡ T.name sink.old }
 {

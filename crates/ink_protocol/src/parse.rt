@@ -2,7 +2,7 @@
 
 ghost use Rattle.std.specs.Prelude.{◌≡◌, IfOk, option_map};
 ghost use Rattle.serde_json.specs.View.{view};
-ghost use Rattle.ink_model.specs.Command.{json_of};
+ghost use Rattle.ink_model.specs.Protocol.Command.{json_of};
 
 use serde_json::Value;
 use std::alloc::{AllocError, Global};

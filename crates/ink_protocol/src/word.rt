@@ -2,8 +2,8 @@
 
 ghost use Rattle.std.specs.Prelude.{◌≡◌, ◌≤◌, ◌<◌, length, true, option_map};
 ghost use Rattle.std.specs.List.{list_all};
-ghost use Rattle.ink_model.specs.Bytes.{after as after_word, is_digit as digit, number_from};
-ghost use Rattle.ink_model.specs.Command as command;
+ghost use Rattle.ink_model.specs.Text.Bytes.{after as after_word, is_digit as digit, number_from};
+ghost use Rattle.ink_model.specs.Protocol.Command as command;
 
 /// The most digits of a choice's number.
 const MAX_DIGITS: usize = 9;

@@ -1,13 +1,13 @@
 -- After an answer that is no passage, the story does not go on.
 use Rattle.std.proofs.Common.{◌≡◌, ◌∙◌, List, [], Bool, true, false, MatchBool, ap, inl, inr, refl, sym, true≢false}
-use Rattle.ink_model.specs.Answer.{Reply, Refuses, Tells, reply_of_halt}
-use Rattle.ink_model.specs.Configuration.{Configuration, can_go_on, settled}
-use Rattle.ink_model.specs.Host.{Bindings}
-use Rattle.ink_model.specs.Run.{Made, RunEnd, Kept, Broke}
-use Rattle.ink_model.specs.Session.{Continue, EndsAs, Keeps, RunsFrom, RunsLine, condition_told, reply_told, telling}
-use Rattle.ink_model.specs.State.{State, Condition, Ready, Broken, is_running}
-use Rattle.ink_model.specs.Store.{Values}
-use Rattle.ink_model.specs.Tree.{StoryTree}
+use Rattle.ink_model.specs.Protocol.Answer.{Reply, Refuses, Tells, reply_of_halt}
+use Rattle.ink_model.specs.Run.Configuration.{Configuration, can_go_on, settled}
+use Rattle.ink_model.specs.Host.Bindings.{Bindings}
+use Rattle.ink_model.specs.Run.Moments.{Made, RunEnd, Kept, Broke}
+use Rattle.ink_model.specs.Protocol.Session.{Continue, EndsAs, OnlyRefuses, RunsFrom, RunsLine, condition_told, reply_told, telling}
+use Rattle.ink_model.specs.Protocol.State.{State, Condition, Ready, Broken, is_running}
+use Rattle.ink_model.specs.Variables.Store.{Values}
+use Rattle.ink_model.specs.Story.Tree.{StoryTree}
 use Rattle.ink_model.specs.declared.fault.Halt.{Halt}
 use Rattle.ink_model.specs.declared.fault.Refusal.TheVariants as refusal
 use Rattle.ink_model.specs.declared.fault.Halt.TheVariants as halt
@@ -36,7 +36,7 @@ module _ (s : StoryTree) (h : Bindings) (old : State) (new : State) (reply : Rep
   ran c made es (inr r) = ap (λ st. is_running st.condition) r.2.2
 
   went : (c : Configuration) (es : List Event) (goes : Bool) → can_go_on c ≡ goes → old.condition ≡ Ready c
-      → MatchBool goes ((made : List Made) × RunsLine s h c made es old reply new) ((es ≡ []) × Keeps (Refuses refusal.CannotContinue) old reply new) → is_running new.condition ≡ false
+      → MatchBool goes ((made : List Made) × RunsLine s h c made es old reply new) ((es ≡ []) × OnlyRefuses (Refuses refusal.CannotContinue) old reply new) → is_running new.condition ≡ false
   went c es true e k r = ran c r.0 es r.1
   went c es false e k r = ap (λ st. is_running st.condition) r.1.1 ∙ ap is_running k ∙ e
 

@@ -5,18 +5,18 @@ use Rattle.std.proofs.lemmas.List.{reverse-append}
 use Rattle.std.specs.List.{AllByRecursion as Each}
 use Rattle.serde_json.specs.Data.{Data}
 use Rattle.serde_json.specs.Find.{get}
-use Rattle.ink_model.specs.Answer.{Saves}
-use Rattle.ink_model.specs.Configuration.{Configuration, FlowOf}
-use Rattle.ink_model.specs.Events.{items_of}
-use Rattle.ink_model.specs.Flows.{Aside, all_flows, current_name, holes}
-use Rattle.ink_model.specs.Frames.{ThreadsOf}
-use Rattle.ink_model.specs.Named.{at, once}
+use Rattle.ink_model.specs.Protocol.Answer.{Saves}
+use Rattle.ink_model.specs.Run.Configuration.{Configuration, FlowOf}
+use Rattle.ink_model.specs.Host.Events.{items_of}
+use Rattle.ink_model.specs.Run.Flows.{Aside, all_flows, current_name, holes}
+use Rattle.ink_model.specs.Flow.Frames.{ThreadsOf}
+use Rattle.ink_model.specs.Variables.Named.{at, once}
 use Rattle.ink_model.specs.Save.Sound.{AnyPlace, FlowStands, ThreadsFit}
 use Rattle.ink_model.specs.Save.Spelling.{frame_data, named_flow_data, part_data, place_or_null, spelling, thread_data}
 use Rattle.ink_model.specs.Save.Unspelled.{all_of, part_of, place_of}
-use Rattle.ink_model.specs.Session.{SavesFrom}
-use Rattle.ink_model.specs.State.{Condition, Ready, Broken}
-use Rattle.ink_model.specs.Tree.{StoryTree}
+use Rattle.ink_model.specs.Protocol.Session.{SavesFrom}
+use Rattle.ink_model.specs.Protocol.State.{Condition, Ready, Broken}
+use Rattle.ink_model.specs.Story.Tree.{StoryTree}
 use Rattle.ink_model.specs.declared.place.Part.{Part}
 use Rattle.ink_model.specs.declared.place.Part.TheVariants.{Index, Name}
 use Rattle.ink_sound.specs.Kept.{ConditionFits, StoryFits}

@@ -5,14 +5,14 @@ use Rattle.std.specs.Io.KnownBytes.{Appends}
 use Rattle.ink_host.specs.Desk.{DeskView}
 use Rattle.ink_host.specs.Telling.{Watching}
 use Rattle.ink_host.specs.declared.objects.Called.{Called}
-use Rattle.ink_model.specs.Answer.{Reply, reply_of_halt}
-use Rattle.ink_model.specs.Command as command
-use Rattle.ink_model.specs.Command.{Command}
-use Rattle.ink_model.specs.Host.{Bindings}
-use Rattle.ink_model.specs.Session.{Does}
-use Rattle.ink_model.specs.State.{State, is_running}
-use Rattle.ink_model.specs.Tree.{StoryTree}
-use Rattle.ink_model.specs.Turns.{ShowsChoices}
+use Rattle.ink_model.specs.Protocol.Answer.{Reply, reply_of_halt}
+use Rattle.ink_model.specs.Protocol.Command as command
+use Rattle.ink_model.specs.Protocol.Command.{Command}
+use Rattle.ink_model.specs.Host.Bindings.{Bindings}
+use Rattle.ink_model.specs.Protocol.Session.{Does}
+use Rattle.ink_model.specs.Protocol.State.{State, is_running}
+use Rattle.ink_model.specs.Story.Tree.{StoryTree}
+use Rattle.ink_model.specs.Protocol.Turns.{ShowsChoices}
 use Rattle.ink_model.specs.declared.fault.Halt.{Halt}
 use Rattle.ink_model.specs.declared.fault.Refusal.{Refusal}
 use Rattle.ink_model.specs.declared.host.Event.{Event}
@@ -23,13 +23,13 @@ use Rattle.ink_page.specs.Showing.{said}
 use Rattle.ink_page.specs.declared.page.Look.{Look}
 use Rattle.ink_protocol.specs.Ends.{WritesText}
 use Rattle.ink_protocol.specs.declared.fault.RunFault.{RunFault}
-use Rattle.ink_player.specs.Words.{DealtBy, DealtOf, PlayerView, bindings, desk_of, scene_of, state_of, story_of}
+use Rattle.ink_player.specs.Standing.{DeliveredBy, DeliveredOf, PlayerView, bindings, desk_of, scene_of, state_of, story_of}
 use Rattle.ink_player.proofs.Dealing.{command_binds, same_refusals}
 use Rattle.ink_reader.specs.Course.{saving_told, unsaved_told}
-use Rattle.ink_reader.specs.Deeds.{AreDealt, AreDone, AreShelved, Asks, Deed, Fetches, Gave, Gives, Goes, IsShelved, Keeps, Played, Says, answer_shown, deed_shown, deeds_shown, reply_shown}
+use Rattle.ink_reader.specs.Deeds.{AreDelivered, AreDone, AreShelved, Asks, Deed, Fetches, Gave, Gives, Goes, IsShelved, Keeps, Played, Says, answer_shown, deed_shown, deeds_shown, reply_shown}
 use Rattle.ink_reader.specs.Kept as shelf
 use Rattle.ink_reader.specs.Steps.{break_told, stop_told}
-use Rattle.ink_reader.specs.Words.{Word, broke_off, word_text}
+use Rattle.ink_reader.specs.Notices.{Word, broke_off, word_text}
 use Rattle.ink_reader.specs.declared.shelf.NotKept.{NotKept}
 use Rattle.ink_reader.specs.declared.telling.Told.{Told}
 use Rattle.ink_reader.proofs.Tellings.{break-dealt, break-done, break-shelved}
@@ -73,7 +73,7 @@ last-written held held' text r h = subst (λ w. OnOk r (Appends held held' w)) (
 module _ {P F O : Type 0} (turn_log : F → List Called) (refusals : F → ℕ) (state : O → Watching) (s : StoryTree) (h : Bindings) where
   -- these deeds were done, and did this to them
   abbrev Deals : List Event → List Deed → State → State → DeskView P F O → DeskView P F O → Type 0
-  Deals es ds old new before after = (done : AreDone s h es ds old new) × AreDealt turn_log refusals state s h es ds old new done before after
+  Deals es ds old new before after = (done : AreDone s h es ds old new) × AreDelivered turn_log refusals state s h es ds old new done before after
 
   deals-append : (es fs : List Event) (ds more : List Deed) (old mid new : State) (a b c : DeskView P F O) → Deals es ds old mid a b → Deals fs more mid new b c → Deals (es ++ fs) (ds ++ more) old new a c
   deals-append es fs [] more old mid new a b c x y =
@@ -87,7 +87,7 @@ module _ {P F O : Type 0} (turn_log : F → List Called) (refusals : F → ℕ) 
 
   -- they leave bound what is bound, and watched what is watched
   deeds-bind : (meaning : P → List Value → Option Given) (es : List Event) (ds : List Deed) (old new : State) (done : AreDone s h es ds old new) (before after : DeskView P F O)
-      → AreDealt turn_log refusals state s h es ds old new done before after → bindings meaning after ≡ bindings meaning before
+      → AreDelivered turn_log refusals state s h es ds old new done before after → bindings meaning after ≡ bindings meaning before
   deeds-bind meaning es [] old new done before after x = ap (bindings meaning) x
   deeds-bind meaning es (Gives k reply ∷ ds) old new (mid, first, others, joined, does, done) before after (between, dealt, rest) =
       deeds-bind meaning others ds mid new done between after rest
@@ -97,20 +97,20 @@ module _ {P F O : Type 0} (turn_log : F → List Called) (refusals : F → ℕ) 
 module _ {P F O : Type 0} {meaning : P → List Value → Option Given} {turn_log : F → List Called} {refusals : F → ℕ} {state : O → Watching} where
   -- a command that may tell, one that leaves the functions as they were, one that leaves the desk, and one that changes nothing
   pub gave-run : {old new : PlayerView P F O} {k : Command} {reply : Reply} (es : List Event) → Does (story_of old) (bindings meaning (desk_of old)) es (Some k) (state_of old) reply (state_of new)
-      → DealtOf turn_log refusals state (Some k) (scene_of old) es reply (scene_of new) → story_of new ≡ story_of old → Gave meaning turn_log refusals state old k reply new
+      → DeliveredOf turn_log refusals state (Some k) (scene_of old) es reply (scene_of new) → story_of new ≡ story_of old → Gave meaning turn_log refusals state old k reply new
   gave-run es does dealt story = record { events = es; does = does; dealt = dealt; story = story }
 
   pub gave-once : {old new : PlayerView P F O} {k : Command} {reply : Reply} (es : List Event) → Does (story_of old) (bindings meaning (desk_of old)) es (Some k) (state_of old) reply (state_of new)
-      → DealtBy turn_log state (Some k) (scene_of old) es reply (scene_of new) → (desk_of new).functions ≡ (desk_of old).functions → story_of new ≡ story_of old
+      → DeliveredBy turn_log state (Some k) (scene_of old) es reply (scene_of new) → (desk_of new).functions ≡ (desk_of old).functions → story_of new ≡ story_of old
       → Gave meaning turn_log refusals state old k reply new
   gave-once {old} {new} {k} {reply} es does dealt functions story = gave-run es does (dealt, same_refusals refusals (desk_of old) (desk_of new) reply functions) story
 
   pub gave-kept : {old new : PlayerView P F O} {k : Command} {reply : Reply} → Does (story_of old) (bindings meaning (desk_of old)) [] (Some k) (state_of old) reply (state_of new)
-      → DealtBy turn_log state (Some k) (scene_of old) [] reply (scene_of new) → desk_of new ≡ desk_of old → story_of new ≡ story_of old → Gave meaning turn_log refusals state old k reply new
+      → DeliveredBy turn_log state (Some k) (scene_of old) [] reply (scene_of new) → desk_of new ≡ desk_of old → story_of new ≡ story_of old → Gave meaning turn_log refusals state old k reply new
   gave-kept {old} {new} {k} {reply} does dealt desk story = gave-once [] does dealt (ap (λ d. d.functions) desk) story
 
   pub gave-still : {p : PlayerView P F O} {k : Command} {reply : Reply} → Does (story_of p) (bindings meaning (desk_of p)) [] (Some k) (state_of p) reply (state_of p)
-      → DealtBy turn_log state (Some k) (scene_of p) [] reply (scene_of p) → Gave meaning turn_log refusals state p k reply p
+      → DeliveredBy turn_log state (Some k) (scene_of p) [] reply (scene_of p) → Gave meaning turn_log refusals state p k reply p
   gave-still does dealt = gave-kept does dealt refl refl
 
 module _ {P F O : Type 0} {meaning : P → List Value → Option Given} {turn_log : F → List Called} {refusals : F → ℕ} {state : O → Watching} {look : Look} where
@@ -162,14 +162,14 @@ module _ {P F O : Type 0} {meaning : P → List Value → Option Given} {turn_lo
 
   -- a save was brought to the shelf, and what is said of that
   pub played-unsaved : {T E : Type 0} {p : PlayerView P F O} {text : List ℕ} {held held' : Option (List ℕ)} {kept kept' : Option (Option (List ℕ))} (r : Result T E) (answer : Result (Unit {0}) NotKept)
-      → shelf.Keeps kept kept' text answer → OnOk r (Appends held held' (deeds_shown look (unsaved_told answer)))
+      → shelf.KeepsSave kept kept' text answer → OnOk r (Appends held held' (deeds_shown look (unsaved_told answer)))
       → Played meaning turn_log refusals state look p (Keeps text answer ∷ unsaved_told answer) p held held' kept kept' (is_ok r)
   played-unsaved {p = p} {kept' = kept'} r (Ok u) keeps h = played-still ((state_of p, [], [], refl, (refl, refl), (refl, refl)), refl) (kept', keeps, refl) (on_ok r h)
   played-unsaved {p = p} {kept' = kept'} r (Err cause) keeps h =
       played-still ((state_of p, [], [], refl, (refl, refl), (state_of p, [], [], refl, (refl, refl), (refl, refl))), refl) (kept', keeps, (kept', refl, refl)) (on_ok r h)
 
   pub played-saving : {T E : Type 0} {p : PlayerView P F O} {text : List ℕ} {held held' : Option (List ℕ)} {kept kept' : Option (Option (List ℕ))} (r : Result T E) (answer : Result (Unit {0}) NotKept)
-      → shelf.Keeps kept kept' text answer → OnOk r (Appends held held' (deeds_shown look (saving_told answer)))
+      → shelf.KeepsSave kept kept' text answer → OnOk r (Appends held held' (deeds_shown look (saving_told answer)))
       → Played meaning turn_log refusals state look p (Keeps text answer ∷ saving_told answer) p held held' kept kept' (is_ok r)
   played-saving {p = p} {kept' = kept'} r (Ok u) keeps h =
       played-still ((state_of p, [], [], refl, (refl, refl), (state_of p, [], [], refl, (refl, refl), (refl, refl))), refl) (kept', keeps, (kept', refl, refl)) (on_ok r h)

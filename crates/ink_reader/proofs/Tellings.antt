@@ -4,21 +4,21 @@ use Rattle.serde_json.specs.Data.{Data}
 use Rattle.ink_host.specs.Desk.{DeskView}
 use Rattle.ink_host.specs.Telling.{Watching}
 use Rattle.ink_host.specs.declared.objects.Called.{Called}
-use Rattle.ink_model.specs.Answer.{Reply, Acts, Breaks, Counts, Refuses, Saves, Shows, Tells, reply_of_halt}
-use Rattle.ink_model.specs.Command as command
-use Rattle.ink_model.specs.Host.{Bindings}
-use Rattle.ink_model.specs.State.{State}
-use Rattle.ink_model.specs.Tree.{StoryTree}
+use Rattle.ink_model.specs.Protocol.Answer.{Reply, Acts, Breaks, Counts, Refuses, Saves, Shows, Tells, reply_of_halt}
+use Rattle.ink_model.specs.Protocol.Command as command
+use Rattle.ink_model.specs.Host.Bindings.{Bindings}
+use Rattle.ink_model.specs.Protocol.State.{State}
+use Rattle.ink_model.specs.Story.Tree.{StoryTree}
 use Rattle.ink_model.specs.declared.fault.Halt.{Halt}
 use Rattle.ink_model.specs.declared.fault.Halt.TheVariants as halt
 use Rattle.ink_model.specs.declared.fault.Refusal.{Refusal}
 use Rattle.ink_model.specs.declared.fault.Refusal.TheVariants as refusal
 use Rattle.ink_model.specs.declared.passage.Shown.{Shown}
 use Rattle.ink_reader.specs.Course.{IsBreak, IsNoted, IsStop, IsTold, TellsPlace, end_behind, place_told}
-use Rattle.ink_reader.specs.Deeds.{AreDealt, AreDone, AreShelved, Deed, Gives, Goes, Offers, Says}
+use Rattle.ink_reader.specs.Deeds.{AreDelivered, AreDone, AreShelved, Deed, Gives, Goes, Offers, Says}
 use Rattle.ink_reader.specs.Steps.{ToldBy, are_offered, break_told, end_after, stop_told, whereabouts_told}
 use Rattle.ink_reader.specs.Whereabouts.{path_of}
-use Rattle.ink_reader.specs.Words.{PlaceLacks, Stopped}
+use Rattle.ink_reader.specs.Notices.{PlaceLacks, Stopped}
 use Rattle.ink_reader.specs.declared.telling.Told.{Told}
 use Rattle.ink_reader.specs.declared.telling.Told.TheVariants as told
 
@@ -102,7 +102,7 @@ module _ {E : Type 0} where
 
   -- nor to the objects of a host
   pub break-dealt : {P F O : Type 0} (turn_log : F → List Called) (refusals : F → ℕ) (state : O → Watching) (s : StoryTree) (h : Bindings) (st : State) (x : Halt) (path : Result (Option (List ℕ)) E) (desk : DeskView P F O)
-      → AreDealt turn_log refusals state s h [] (break_told (reply_of_halt x) path) st st (break-done s h st x path) desk desk
+      → AreDelivered turn_log refusals state s h [] (break_told (reply_of_halt x) path) st st (break-done s h st x path) desk desk
   break-dealt turn_log refusals state s h st (halt.Refused r) path desk = refl
   break-dealt turn_log refusals state s h st (halt.Fault f events) (Ok None) desk = refl
   break-dealt turn_log refusals state s h st (halt.Fault f events) (Ok (Some path)) desk = refl

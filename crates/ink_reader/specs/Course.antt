@@ -4,15 +4,15 @@ use Rattle.std.specs.Option.{option_to_list}
 use Rattle.serde_json.specs.Data.{Data}
 use Rattle.serde_json.specs.Read.{read}
 use Rattle.serde_json.specs.Written.{compact_text}
-use Rattle.ink_model.specs.Answer.{Reply, Acts, Breaks, Refuses, Saves, Tells}
-use Rattle.ink_model.specs.Command as command
-use Rattle.ink_model.specs.Command.{Command}
+use Rattle.ink_model.specs.Protocol.Answer.{Reply, Acts, Breaks, Refuses, Saves, Tells}
+use Rattle.ink_model.specs.Protocol.Command as command
+use Rattle.ink_model.specs.Protocol.Command.{Command}
 use Rattle.ink_model.specs.declared.fault.Refusal.TheVariants as refusal
 use Rattle.ink_page.specs.Typed as asks
 use Rattle.ink_page.specs.Typed.{Asked}
 use Rattle.ink_reader.specs.Deeds.{Deed, Fetches, Gives, Goes, Keeps, Offers, Says}
 use Rattle.ink_reader.specs.Whereabouts.{path_of}
-use Rattle.ink_reader.specs.Words.{Word, BadSave, Began, FirstPlace, Help, LastLacks, NoSave, NotRead, NotWritten, PlaceLacks, PlaceUntold, Refused, Saved, Stopped, Unclear}
+use Rattle.ink_reader.specs.Notices.{Word, BadSave, Began, FirstPlace, Help, LastLacks, NoSave, NotRead, NotWritten, PlaceLacks, PlaceUntold, Refused, Saved, Stopped, Unclear}
 use Rattle.ink_reader.specs.declared.past.Past.{Past}
 use Rattle.ink_reader.specs.declared.shelf.NotKept.{NotKept}
 use Rattle.ink_reader.specs.declared.telling.Told.{Told}

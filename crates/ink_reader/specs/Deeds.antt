@@ -4,14 +4,14 @@ use Rattle.std.specs.Io.KnownBytes.{Appends}
 use Rattle.ink_host.specs.Desk.{DeskView}
 use Rattle.ink_host.specs.Telling.{Watching}
 use Rattle.ink_host.specs.declared.objects.Called.{Called}
-use Rattle.ink_model.specs.Answer.{Reply, Acts, Breaks, Counts, Refuses, Saves, Shows, Tells}
-use Rattle.ink_model.specs.Command as command
-use Rattle.ink_model.specs.Command.{Command}
-use Rattle.ink_model.specs.Host.{Bindings}
-use Rattle.ink_model.specs.Session.{Does}
-use Rattle.ink_model.specs.State.{State, is_running}
-use Rattle.ink_model.specs.Tree.{StoryTree}
-use Rattle.ink_model.specs.Turns.{ShowsChoices}
+use Rattle.ink_model.specs.Protocol.Answer.{Reply, Acts, Breaks, Counts, Refuses, Saves, Shows, Tells}
+use Rattle.ink_model.specs.Protocol.Command as command
+use Rattle.ink_model.specs.Protocol.Command.{Command}
+use Rattle.ink_model.specs.Host.Bindings.{Bindings}
+use Rattle.ink_model.specs.Protocol.Session.{Does}
+use Rattle.ink_model.specs.Protocol.State.{State, is_running}
+use Rattle.ink_model.specs.Story.Tree.{StoryTree}
+use Rattle.ink_model.specs.Protocol.Turns.{ShowsChoices}
 use Rattle.ink_model.specs.declared.fault.Refusal.{Refusal}
 use Rattle.ink_model.specs.declared.host.Event.{Event}
 use Rattle.ink_model.specs.declared.host.Given.{Given}
@@ -20,9 +20,9 @@ use Rattle.ink_model.specs.declared.value.Value.{Value}
 use Rattle.ink_page.specs.Sentences.{fault_sentence, refusal_sentence}
 use Rattle.ink_page.specs.Showing.{choices_shown, events_shown, passage_shown, said, value_shown}
 use Rattle.ink_page.specs.declared.page.Look.{Look}
-use Rattle.ink_player.specs.Words.{DealtOf, PlayerView, bindings, desk_of, scene_of, state_of, story_of}
+use Rattle.ink_player.specs.Standing.{DeliveredOf, PlayerView, bindings, desk_of, scene_of, state_of, story_of}
 use Rattle.ink_reader.specs.Kept as shelf
-use Rattle.ink_reader.specs.Words.{Word, broke_before, broke_off, word_text}
+use Rattle.ink_reader.specs.Notices.{Word, broke_before, broke_off, word_text}
 use Rattle.ink_reader.specs.declared.shelf.NotKept.{NotKept}
 
 pub data Deed : Type 0 where
@@ -98,7 +98,7 @@ AreDone s h es (d ∷ ds) old new = (mid : State) × (first : List Event) × (ot
 
 -- by a shelf: it keeps what is brought to it, and hands out what it keeps, or fails
 abbrev pub IsShelved : Option (Option (List ℕ)) → Deed → Option (Option (List ℕ)) → Type 0
-IsShelved old (Keeps text answer) new = shelf.Keeps old new text answer
+IsShelved old (Keeps text answer) new = shelf.KeepsSave old new text answer
 IsShelved old (Fetches answer) new = shelf.Fetches old answer × (new ≡ old)
 IsShelved old (Goes more) new = new ≡ old
 IsShelved old (Gives k reply) new = new ≡ old
@@ -112,19 +112,19 @@ AreShelved old (d ∷ ds) new = (mid : Option (Option (List ℕ))) × IsShelved 
 
 module _ {P F O : Type 0} (turn_log : F → List Called) (refusals : F → ℕ) (state : O → Watching) (s : StoryTree) (h : Bindings) where
   -- What deeds in turn did to the objects of a host: a command did this, by its own events and reply, and nothing else did anything.
-  abbrev pub AreDealt : (es : List Event) (ds : List Deed) (old new : State) → AreDone s h es ds old new → DeskView P F O → DeskView P F O → Type 0
-  AreDealt es [] old new done before after = after ≡ before
-  AreDealt es (Gives k reply ∷ ds) old new (mid, first, others, joined, does, done) before after =
-      (between : DeskView P F O) × DealtOf turn_log refusals state (Some k) (record { state = old; desk = before }) first reply (record { state = mid; desk = between })
-      × AreDealt others ds mid new done between after
-  AreDealt es (d ∷ ds) old new (mid, first, others, joined, does, done) before after = AreDealt others ds mid new done before after
+  abbrev pub AreDelivered : (es : List Event) (ds : List Deed) (old new : State) → AreDone s h es ds old new → DeskView P F O → DeskView P F O → Type 0
+  AreDelivered es [] old new done before after = after ≡ before
+  AreDelivered es (Gives k reply ∷ ds) old new (mid, first, others, joined, does, done) before after =
+      (between : DeskView P F O) × DeliveredOf turn_log refusals state (Some k) (record { state = old; desk = before }) first reply (record { state = mid; desk = between })
+      × AreDelivered others ds mid new done between after
+  AreDelivered es (d ∷ ds) old new (mid, first, others, joined, does, done) before after = AreDelivered others ds mid new done before after
 
 module _ {P F O : Type 0} (meaning : P → List Value → Option Given) (turn_log : F → List Called) (refusals : F → ℕ) (state : O → Watching) where
   -- a player was given this command, its objects were called and told what happened at it, and it answered
   pub record Gave (old : PlayerView P F O) (k : Command) (reply : Reply) (new : PlayerView P F O) : Type 0 where
     pub events : List Event
     pub does : Does (story_of old) (bindings meaning (desk_of old)) events (Some k) (state_of old) reply (state_of new)
-    pub dealt : DealtOf turn_log refusals state (Some k) (scene_of old) events reply (scene_of new)
+    pub dealt : DeliveredOf turn_log refusals state (Some k) (scene_of old) events reply (scene_of new)
     pub story : story_of new ≡ story_of old
 
   -- Between these two moments a reading did this and nothing else: its player was given these commands, in order, and its objects
@@ -133,7 +133,7 @@ module _ {P F O : Type 0} (meaning : P → List Value → Option Given) (turn_lo
   pub record Played (look : Look) (old : PlayerView P F O) (ds : List Deed) (new : PlayerView P F O) (held held' : Option (List ℕ)) (kept kept' : Option (Option (List ℕ))) (well : Bool) : Type 0 where
     pub events : List Event
     pub done : AreDone (story_of old) (bindings meaning (desk_of old)) events ds (state_of old) (state_of new)
-    pub dealt : AreDealt turn_log refusals state (story_of old) (bindings meaning (desk_of old)) events ds (state_of old) (state_of new) done (desk_of old) (desk_of new)
+    pub dealt : AreDelivered turn_log refusals state (story_of old) (bindings meaning (desk_of old)) events ds (state_of old) (state_of new) done (desk_of old) (desk_of new)
     pub story : story_of new ≡ story_of old
     pub shelved : AreShelved kept ds kept'
     pub written : well ≡ true → Appends held held' (deeds_shown look ds)

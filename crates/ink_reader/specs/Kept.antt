@@ -4,17 +4,17 @@ use Rattle.std.specs.Global.{Global}
 use Rattle.std.specs.Option.{option_to_list}
 use Rattle.serde_json.specs.Data.{Data}
 use Rattle.serde_json.specs.Written.{compact_text}
-use Rattle.ink_model.specs.State.{State}
-use Rattle.ink_model.specs.Tree.{StoryTree}
+use Rattle.ink_model.specs.Protocol.State.{State}
+use Rattle.ink_model.specs.Story.Tree.{StoryTree}
 use Rattle.ink_page.specs.Typed as asks
 use Rattle.ink_page.specs.Typed.{Asked}
 use Rattle.ink_player.specs.Saving.{ReadsAsState}
 
 -- A save is kept in the place of the one before; or that one stands. Where it is not known what is kept, it stays unknown.
-abbrev pub Keeps : {E : Type 0} → Option (Option (List ℕ)) → Option (Option (List ℕ)) → List ℕ → Result (Unit {0}) E → Type 0
-Keeps None new save result = new ≡ None
-Keeps (Some old) new save (Ok u) = new ≡ Some (Some save)
-Keeps (Some old) new save (Err e) = new ≡ Some old
+abbrev pub KeepsSave : {E : Type 0} → Option (Option (List ℕ)) → Option (Option (List ℕ)) → List ℕ → Result (Unit {0}) E → Type 0
+KeepsSave None new save result = new ≡ None
+KeepsSave (Some old) new save (Ok u) = new ≡ Some (Some save)
+KeepsSave (Some old) new save (Err e) = new ≡ Some old
 
 -- what a shelf hands out, as text
 abbrev pub text_of : {E : Type 0} → Result (Option (String Global)) E → Result (Option (List ℕ)) E

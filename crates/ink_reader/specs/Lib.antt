@@ -1,6 +1,6 @@
 pub mod Kept
 pub mod Whereabouts
-pub mod Words
+pub mod Notices
 pub mod Deeds
 pub mod Course
 pub mod Steps

@@ -5,7 +5,7 @@ use Rattle.ink_page.specs.Typed as asks
 use Rattle.ink_page.specs.Typed.{Asked, typed}
 use Rattle.ink_reader.specs.Course.{IsBeginning, IsCourse, IsEnding, IsLoading, Places, has_loaded}
 use Rattle.ink_reader.specs.Deeds.{Deed, Asks, Fetches, Says}
-use Rattle.ink_reader.specs.Words.{Offer}
+use Rattle.ink_reader.specs.Notices.{Offer}
 
 -- ---- lines
 

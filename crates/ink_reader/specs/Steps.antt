@@ -1,11 +1,11 @@
 -- What comes of a part of a course, where the code has a function for it.
 use Rattle.std.specs.Prelude.{◌≡◌, ◌⊎◌, ℕ, List, [], ◌∷◌, ◌++◌, Bool, true, false, Option, None, Some, Result, Ok, Err}
-use Rattle.ink_model.specs.Answer.{Reply, Breaks, Tells}
+use Rattle.ink_model.specs.Protocol.Answer.{Reply, Breaks, Tells}
 use Rattle.ink_model.specs.declared.fault.Refusal.{Refusal}
 use Rattle.ink_model.specs.declared.passage.Shown.{Shown}
 use Rattle.ink_reader.specs.Course.{IsTold, IsUnread, end_behind, place_told}
 use Rattle.ink_reader.specs.Deeds.{Deed, Offers, Says}
-use Rattle.ink_reader.specs.Words.{Word, FirstPlace, NoSave, NotRead, PlaceUntold, Refused, Stopped}
+use Rattle.ink_reader.specs.Notices.{Word, FirstPlace, NoSave, NotRead, PlaceUntold, Refused, Stopped}
 use Rattle.ink_reader.specs.declared.shelf.NotKept.{NotKept}
 use Rattle.ink_reader.specs.declared.telling.Told.{Told}
 use Rattle.ink_reader.specs.declared.telling.Told.TheVariants as told

@@ -3,12 +3,12 @@ use Rattle.std.specs.Prelude.{◌≡◌, ℕ, List, Bool, false, bytes_eq, codes
 use Rattle.std.specs.Option.{option_map}
 use Rattle.serde_json.specs.Data.{Data, Items, no_items, item}
 use Rattle.serde_json.specs.Find.{as_array, as_str, get}
-use Rattle.ink_model.specs.Answer.{Saves}
-use Rattle.ink_model.specs.Path.{path_text}
+use Rattle.ink_model.specs.Protocol.Answer.{Saves}
+use Rattle.ink_model.specs.Story.Path.{path_text}
 use Rattle.ink_model.specs.Save.Unspelled.{place_of}
-use Rattle.ink_model.specs.Session.{Save}
-use Rattle.ink_model.specs.State.{State, Condition, Ready, Broken}
-use Rattle.ink_model.specs.Tree.{StoryTree}
+use Rattle.ink_model.specs.Protocol.Session.{Save}
+use Rattle.ink_model.specs.Protocol.State.{State, Condition, Ready, Broken}
+use Rattle.ink_model.specs.Story.Tree.{StoryTree}
 use Rattle.ink_model.specs.declared.place.Part.{Part}
 use Rattle.ink_sound.specs.Kept.{StateFits, StoryFits}
 

@@ -4,10 +4,10 @@ ghost use Rattle.std.specs.Prelude.{◌≡◌, Some, IfOk};
 ghost use Rattle.serde_json.specs.Data.{Data};
 ghost use Rattle.serde_json.specs.View.{view};
 ghost use Rattle.serde_json.specs.Written.{compact_text};
-ghost use Rattle.ink_model.specs.Answer.{reply_of, reply_of_events, reply_of_landing, reply_of_value};
-ghost use Rattle.ink_model.specs.Command as command;
+ghost use Rattle.ink_model.specs.Protocol.Answer.{reply_of, reply_of_events, reply_of_landing, reply_of_value};
+ghost use Rattle.ink_model.specs.Protocol.Command as command;
 ghost use Rattle.ink_player.specs.Saving.{ReadsAsState};
-ghost use Rattle.ink_player.specs.Words.{state_of, story_of};
+ghost use Rattle.ink_player.specs.Standing.{state_of, story_of};
 ghost use Rattle.ink_protocol.specs.Replies.{IsTextOf, reply_of_json, reply_of_text};
 ghost use Rattle.ink_reader.specs.Deeds.{Gave};
 

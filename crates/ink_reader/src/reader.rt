@@ -3,11 +3,11 @@
 
 ghost use Rattle.std.specs.Prelude.{◌≡◌, ◌&&◌, [], List, None, false, IfErr, IfOk, OnOk, is_ok};
 ghost use Rattle.std.specs.Io.KnownBytes.{Appends};
-ghost use Rattle.ink_model.specs.State.{is_running};
+ghost use Rattle.ink_model.specs.Protocol.State.{is_running};
 ghost use Rattle.ink_page.specs.Showing.{FailsToShow, said};
 ghost use Rattle.ink_page.specs.Typed as asks;
 ghost use Rattle.ink_page.specs.Typed.{asked_by};
-ghost use Rattle.ink_player.specs.Words.{desk_of, state_of, story_of};
+ghost use Rattle.ink_player.specs.Standing.{desk_of, state_of, story_of};
 ghost use Rattle.ink_protocol.specs.Ends.{Reports, reads_fail, writes_fail};
 ghost use Rattle.ink_reader.specs.Course.{IsBeginning, IsCourse, IsEnding, UpTo, has_loaded, places_of};
 ghost use Rattle.ink_reader.specs.Deeds.{Deed, Played};

@@ -8,9 +8,9 @@ ghost use Rattle.ink_page.specs.Showing.{FailsToShow};
 ghost use Rattle.ink_protocol.specs.Ends.{Reports, writes_fail};
 ghost use Rattle.ink_reader.specs.Course.{IsUnread, unsaved_told};
 ghost use Rattle.ink_reader.specs.Deeds.{deeds_shown};
-ghost use Rattle.ink_reader.specs.Kept.{Fetches, Keeps};
+ghost use Rattle.ink_reader.specs.Kept.{Fetches, KeepsSave};
 ghost use Rattle.ink_reader.specs.Steps.{IsMissing};
-ghost use Rattle.ink_reader.specs.Words.{BadSave, Refused, Word, word_text};
+ghost use Rattle.ink_reader.specs.Notices.{BadSave, Refused, Word, word_text};
 ghost use Rattle.ink_reader.specs.declared.shelf.NotKept.{NotKept};
 
 use crate::shelf::Shelf;
@@ -28,7 +28,7 @@ pub(crate) fn keep_save<T: Sink, S: Shelf>(
     sink: &mut T,
     shelf: &mut S,
 ) -> Result<bool, RunFault>
-    ensures answers { (answer : Result (Unit {0}) NotKept) × Keeps (S.kept shelf.old) (S.kept shelf.new) save.now answer × IfOk result (λ kept. kept ≡ is_ok answer)
+    ensures answers { (answer : Result (Unit {0}) NotKept) × KeepsSave (S.kept shelf.old) (S.kept shelf.new) save.now answer × IfOk result (λ kept. kept ≡ is_ok answer)
         × OnOk result (Appends (T.contents sink.old) (T.contents sink.new) (deeds_shown look (unsaved_told answer))) }
     ensures keeps { (S.kept shelf.new ≡ S.kept shelf.old) ⊎ (S.kept shelf.new ≡ Some (Some save.now)) }
     ensures sink { Reports (writes_fail result) (T.failures sink.old) (T.failures sink.new) (T.name sink.old) (T.name sink.new) }

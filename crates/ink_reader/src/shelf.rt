@@ -1,8 +1,8 @@
 //! Where saves are kept.
 
 ghost use Rattle.std.specs.Prelude.{◌≡◌, List, ℕ, Option};
-ghost use Rattle.ink_reader.specs.Kept.{Fetches, Keeps, text_of};
-ghost use Rattle.ink_reader.specs.Words.{unread, unwritten};
+ghost use Rattle.ink_reader.specs.Kept.{Fetches, KeepsSave, text_of};
+ghost use Rattle.ink_reader.specs.Notices.{unread, unwritten};
 
 use std::alloc::Global;
 
@@ -50,7 +50,7 @@ pub trait Shelf {
 
     /// Keeps a save in the place of the one before. Where it fails, the one before stands.
     fn keep(&mut self, save: &str) -> Result<(), NotKept>
-        ensures { Keeps (kept self.old) (kept self.new) save.now result };
+        ensures { KeepsSave (kept self.old) (kept self.new) save.now result };
 
     /// The save that is kept, if there is one.
     fn fetch(&self, alloc: Global) -> Result<Option<String>, NotKept>

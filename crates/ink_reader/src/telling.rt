@@ -2,20 +2,20 @@
 
 ghost use Rattle.std.specs.Prelude.{◌≡◌, ◌++◌, ℕ, List, [], ◌∷◌, Option, Result, false, is_ok, IfErr, IfOk, OnOk};
 ghost use Rattle.std.specs.Io.KnownBytes.{Appends};
-ghost use Rattle.ink_model.specs.Answer.{Reply, reply_of_events, reply_of_halt};
-ghost use Rattle.ink_model.specs.Command as command;
-ghost use Rattle.ink_model.specs.State.{is_running};
-ghost use Rattle.ink_model.specs.Turns.{ShowsChoices};
+ghost use Rattle.ink_model.specs.Protocol.Answer.{Reply, reply_of_events, reply_of_halt};
+ghost use Rattle.ink_model.specs.Protocol.Command as command;
+ghost use Rattle.ink_model.specs.Protocol.State.{is_running};
+ghost use Rattle.ink_model.specs.Protocol.Turns.{ShowsChoices};
 ghost use Rattle.ink_model.specs.declared.fault.Refusal.{Refusal};
 ghost use Rattle.ink_model.specs.declared.passage.Shown.{Shown};
 ghost use Rattle.ink_page.specs.Sentences.{fault_sentence};
 ghost use Rattle.ink_page.specs.Showing.{FailsToShow, events_shown, passage_shown, said};
-ghost use Rattle.ink_player.specs.Words.{state_of};
+ghost use Rattle.ink_player.specs.Standing.{state_of};
 ghost use Rattle.ink_protocol.specs.Ends.{Reports, reads_fail, writes_fail};
 ghost use Rattle.ink_reader.specs.Course.{IsBreak, acts, end_behind};
 ghost use Rattle.ink_reader.specs.Deeds.{Deed, Gives, Played, deeds_shown, reply_shown};
 ghost use Rattle.ink_reader.specs.Steps.{ToldBy, are_offered, break_told, end_after, stop_told, whereabouts_told};
-ghost use Rattle.ink_reader.specs.Words.{Began, broke_before, broke_off, end_words, word_text};
+ghost use Rattle.ink_reader.specs.Notices.{Began, broke_before, broke_off, end_words, word_text};
 
 use crate::moves::next_line;
 use crate::whereabouts::next_path;

@@ -3,18 +3,18 @@
 ghost use Rattle.std.specs.Prelude.{◌≡◌, ◌⊎◌, ◌++◌, ℕ, [], ◌∷◌, List, Option, Result, None, Some, false, IfErr, IfOk, MatchResult, OnOk, is_ok};
 ghost use Rattle.serde_json.specs.Read.{read as read_text};
 ghost use Rattle.serde_json.specs.View.{view};
-ghost use Rattle.ink_model.specs.Answer.{Reply};
-ghost use Rattle.ink_model.specs.Command as command;
-ghost use Rattle.ink_model.specs.State.{is_running};
+ghost use Rattle.ink_model.specs.Protocol.Answer.{Reply};
+ghost use Rattle.ink_model.specs.Protocol.Command as command;
+ghost use Rattle.ink_model.specs.Protocol.State.{is_running};
 ghost use Rattle.ink_page.specs.Typed as asks;
-ghost use Rattle.ink_player.specs.Words.{state_of, story_of};
+ghost use Rattle.ink_player.specs.Standing.{state_of, story_of};
 ghost use Rattle.ink_page.specs.Showing.{FailsToShow};
 ghost use Rattle.ink_protocol.specs.Ends.{Reports, reads_fail, writes_fail};
 ghost use Rattle.ink_reader.specs.Course.{GoesOn, IsBeginning, IsCourse, IsNoted, IsSaving, IsStop, SavesItself, UpTo, acts, has_loaded, places_of, saving_told};
 ghost use Rattle.ink_reader.specs.Deeds.{Deed, Gives, Keeps, Played};
 ghost use Rattle.ink_reader.specs.Kept.{IsPlace, KeptAs, Noted, Notes, StandsAt};
 ghost use Rattle.ink_reader.specs.Steps.{NoPlace};
-ghost use Rattle.ink_reader.specs.Words.{Word, word_text};
+ghost use Rattle.ink_reader.specs.Notices.{Word, word_text};
 ghost use Rattle.ink_reader.specs.declared.shelf.NotKept.{NotKept};
 
 use crate::moves::{begin_anew, load_save, save_of, take_choice, value_of};

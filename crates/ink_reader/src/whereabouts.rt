@@ -2,8 +2,8 @@
 
 ghost use Rattle.std.specs.Prelude.{◌≡◌, IfOk, option_map};
 ghost use Rattle.serde_json.specs.View.{items_view, view};
-ghost use Rattle.ink_model.specs.Answer.{Reply};
-ghost use Rattle.ink_model.specs.Command as command;
+ghost use Rattle.ink_model.specs.Protocol.Answer.{Reply};
+ghost use Rattle.ink_model.specs.Protocol.Command as command;
 ghost use Rattle.ink_reader.specs.Course.{TellsPlace};
 ghost use Rattle.ink_reader.specs.Deeds.{Gave};
 ghost use Rattle.ink_reader.specs.Steps.{whereabouts_told};

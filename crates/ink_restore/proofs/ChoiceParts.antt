@@ -1,11 +1,11 @@
 -- What choices are made of.
 use Rattle.std.proofs.Common.{◌≡◌, ◌∙◌, ap, ℕ, List, IsTrue, Some}
 use Rattle.std.specs.List.{AllByRecursion}
-use Rattle.ink_model.specs.Bytes.{fits_text}
-use Rattle.ink_model.specs.Configuration.{ChoiceOf, map_choice}
-use Rattle.ink_model.specs.Frames.{ThreadOf, map_thread}
+use Rattle.ink_model.specs.Text.Bytes.{fits_text}
+use Rattle.ink_model.specs.Run.Configuration.{ChoiceOf, map_choice}
+use Rattle.ink_model.specs.Flow.Frames.{ThreadOf, map_thread}
 use Rattle.ink_model.specs.Save.Sound.{ChoiceFits, PlaceFits, ThreadStands}
-use Rattle.ink_model.specs.Tree.{StoryTree}
+use Rattle.ink_model.specs.Story.Tree.{StoryTree}
 use Rattle.ink_model.specs.declared.place.Part.{Part}
 use Rattle.ink_restore.specs.Building.{Builds}
 use Rattle.ink_tree.specs.Nodes.{place_of}

@@ -1,7 +1,7 @@
 -- Where targets lead.
 use Rattle.std.proofs.Common.{◌≡◌, ◌∙◌, sym, ap, refl, Bool, false, List, [], Option, Some, None, is_some, option_map, IsTrue, if◌then◌else◌}
-use Rattle.ink_model.specs.Path.{path_text, read_path, target, walked}
-use Rattle.ink_model.specs.Tree.{StoryTree}
+use Rattle.ink_model.specs.Story.Path.{path_text, read_path, target, walked}
+use Rattle.ink_model.specs.Story.Tree.{StoryTree}
 use Rattle.ink_model.specs.declared.place.Part.{Part}
 use Rattle.ink_model.specs.declared.place.Path.{Path}
 use Rattle.ink_model.specs.Save.Sound.{PathFits}

@@ -6,11 +6,11 @@ use Rattle.std.specs.List.{AllByRecursion}
 use Rattle.std.specs.Ordering.{nat_cmp}
 use Rattle.std.specs.declared.cmp.Ordering.{Ordering}
 use Rattle.std.specs.declared.cmp.Ordering.TheVariants.{Less, Equal, Greater}
-use Rattle.ink_model.specs.Places.{places}
-use Rattle.ink_model.specs.Rows.{is_before, place_order, rows_rise}
+use Rattle.ink_model.specs.Story.Places.{places}
+use Rattle.ink_model.specs.Variables.Rows.{is_before, place_order, rows_rise}
 use Rattle.ink_model.specs.Save.Sound.{RowCounts, RowsCount}
-use Rattle.ink_model.specs.Path.{ends_at, is_place}
-use Rattle.ink_model.specs.Tree.{StoryTree, at}
+use Rattle.ink_model.specs.Story.Path.{ends_at, is_place}
+use Rattle.ink_model.specs.Story.Tree.{StoryTree, at}
 use Rattle.ink_model.specs.declared.limits.TheConstants.{MAX_COUNT}
 use Rattle.ink_model.specs.declared.place.Part.{Part}
 use Rattle.ink_restore.specs.Counted.{AreBelow, place_at, row_at, rows_at}

@@ -1,14 +1,14 @@
 -- Where memory is asked for to make again what a save spells: once the first part that is kept fits.
 use Rattle.std.specs.Prelude.{◌≡◌, ℕ, ◌≤◌, List, IsTrue, true}
-use Rattle.ink_model.specs.Configuration.{FlowOf, SharedOf}
-use Rattle.ink_model.specs.Counts.{CountsOf}
-use Rattle.ink_model.specs.Flags.{counts_visits, notes_turns}
-use Rattle.ink_model.specs.Flows.{is_flow_name}
-use Rattle.ink_model.specs.Named.{Rows}
+use Rattle.ink_model.specs.Run.Configuration.{FlowOf, SharedOf}
+use Rattle.ink_model.specs.Variables.Counts.{CountsOf}
+use Rattle.ink_model.specs.Story.Flags.{counts_visits, notes_turns}
+use Rattle.ink_model.specs.Run.Flows.{is_flow_name}
+use Rattle.ink_model.specs.Variables.Named.{Rows}
 use Rattle.ink_model.specs.Save.Sound.{RowCounts, RowFits, ValueFits}
 use Rattle.ink_model.specs.Save.Unspelled.{Layout}
 use Rattle.ink_model.specs.Save.Unspelled as spelled
-use Rattle.ink_model.specs.Tree.{StoryTree}
+use Rattle.ink_model.specs.Story.Tree.{StoryTree}
 use Rattle.ink_model.specs.declared.limits.TheConstants.{MAX_COUNT}
 use Rattle.ink_model.specs.declared.place.Part.{Part}
 use Rattle.ink_restore.specs.Building.{ChoiceAsks, ListAsks, ThreadsAsk}

@@ -1,10 +1,10 @@
 -- What is counted.
 use Rattle.std.specs.Prelude.{⊤, ℕ, ◌<◌, List, [], ◌∷◌, length, Bool}
-use Rattle.ink_model.specs.Counts.{CountsOf}
-use Rattle.ink_model.specs.Flags.{counts_visits, notes_turns}
-use Rattle.ink_model.specs.Places.{places}
-use Rattle.ink_model.specs.Rows.{map_keys}
-use Rattle.ink_model.specs.Tree.{StoryTree}
+use Rattle.ink_model.specs.Variables.Counts.{CountsOf}
+use Rattle.ink_model.specs.Story.Flags.{counts_visits, notes_turns}
+use Rattle.ink_model.specs.Story.Places.{places}
+use Rattle.ink_model.specs.Variables.Rows.{map_keys}
+use Rattle.ink_model.specs.Story.Tree.{StoryTree}
 use Rattle.ink_model.specs.declared.place.Part.{Part}
 use Rattle.ink_restore.specs.declared.counting.Counted.{Counted}
 use Rattle.ink_restore.specs.declared.counting.Counted.TheVariants.{Turns, Visits}

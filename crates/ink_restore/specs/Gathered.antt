@@ -2,13 +2,13 @@
 use Rattle.std.specs.Prelude.{ℕ, List, [], ◌∷◌, Bool, false, ◌&&◌, IsTrue, bytes_eq, length, nat_le, Option, Some, None}
 use Rattle.std.specs.List.{AllByRecursion}
 use Rattle.std.specs.Option.{option_map}
-use Rattle.ink_flows.specs.Words.{aside_of, flow_of, rows_of}
+use Rattle.ink_flows.specs.Standing.{aside_of, flow_of, rows_of}
 use Rattle.ink_flows.specs.declared.flow.Flow.{Flow}
-use Rattle.ink_model.specs.Configuration.{FlowOf}
-use Rattle.ink_model.specs.Flows.{Aside, AsideOf, default_flow, is_flow_name}
-use Rattle.ink_model.specs.Named.{Rows, once}
+use Rattle.ink_model.specs.Run.Configuration.{FlowOf}
+use Rattle.ink_model.specs.Run.Flows.{Aside, AsideOf, default_flow, is_flow_name}
+use Rattle.ink_model.specs.Variables.Named.{Rows, once}
 use Rattle.ink_model.specs.Save.Sound.{AsideFits, FlowSound}
-use Rattle.ink_model.specs.Tree.{StoryTree}
+use Rattle.ink_model.specs.Story.Tree.{StoryTree}
 use Rattle.ink_model.specs.declared.limits.TheConstants.{MAX_FLOWS}
 use Rattle.ink_model.specs.declared.place.Part.{Part}
 use Rattle.ink_restore.specs.declared.flowing.Gathered.{Gathered}

@@ -1,10 +1,10 @@
 -- The game of what is restored.
 use Rattle.std.specs.Prelude.{⊤, List, Option, Some, None}
-use Rattle.ink_flows.specs.Words.{aside_of, flow_of}
-use Rattle.ink_model.specs.Configuration.{SharedOf}
-use Rattle.ink_model.specs.Flows.{Game}
-use Rattle.ink_model.specs.Output.{empty_page}
-use Rattle.ink_model.specs.Tree.{StoryTree}
+use Rattle.ink_flows.specs.Standing.{aside_of, flow_of}
+use Rattle.ink_model.specs.Run.Configuration.{SharedOf}
+use Rattle.ink_model.specs.Run.Flows.{Game}
+use Rattle.ink_model.specs.Text.Output.{empty_page}
+use Rattle.ink_model.specs.Story.Tree.{StoryTree}
 use Rattle.ink_model.specs.declared.place.Part.{Part}
 use Rattle.ink_model.specs.Save.Reads.{Stands}
 use Rattle.ink_restore.specs.Building.{Builds}

@@ -1,7 +1,7 @@
 //! Stacks, lists of choices and globals that a save spells, in a story.
 
 ghost use Rattle.std.specs.Prelude.{◌≡◌, IfOk, OnErr, map};
-ghost use Rattle.ink_model.specs.Configuration.{map_choice};
+ghost use Rattle.ink_model.specs.Run.Configuration.{map_choice};
 ghost use Rattle.ink_restore.specs.Building.{Builds, ChoiceAsks, FirstAsks};
 ghost use Rattle.ink_model.specs.Save.Sound.{ChoiceFits, ChoicesFit, GlobalsFit, RowFits, StackFits, ValueFits};
 ghost use Rattle.ink_tree.specs.Nodes.{place_of, story_tree};

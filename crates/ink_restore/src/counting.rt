@@ -1,10 +1,10 @@
 //! Visits and turns that a save spells, in a story.
 
 ghost use Rattle.std.specs.Prelude.{◌≡◌, ◌≤◌, ◌<◌, ◌+◌, ◌++◌, ◌∷◌, [], IfOk, IfSome, OnErr, OnOk, length, nat_le, true};
-ghost use Rattle.ink_model.specs.Entered.{flags_at};
-ghost use Rattle.ink_model.specs.Places.{places};
+ghost use Rattle.ink_model.specs.Run.Entered.{flags_at};
+ghost use Rattle.ink_model.specs.Story.Places.{places};
 ghost use Rattle.ink_model.specs.Save.Sound.{CountsFit, RowCounts, RowsCount};
-ghost use Rattle.ink_model.specs.Tree.{at};
+ghost use Rattle.ink_model.specs.Story.Tree.{at};
 ghost use Rattle.ink_model.specs.declared.limits.TheConstants.{MAX_COUNT};
 ghost use Rattle.ink_restore.specs.Asks.{CountsAsk};
 ghost use Rattle.ink_restore.specs.Building.{Builds, FirstAsks};

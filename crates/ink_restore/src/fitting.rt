@@ -1,9 +1,9 @@
 //! Values and places that a save spells, in a story.
 
 ghost use Rattle.std.specs.Prelude.{◌≡◌, ◌↔◌, IfOk, IsTrue, option_map};
-ghost use Rattle.ink_model.specs.Bytes.{fits_text};
+ghost use Rattle.ink_model.specs.Text.Bytes.{fits_text};
 ghost use Rattle.ink_restore.specs.Building.{Builds};
-ghost use Rattle.ink_spelling.specs.Words.{ReadsSame};
+ghost use Rattle.ink_spelling.specs.Readings.{ReadsSame};
 ghost use Rattle.ink_model.specs.Save.Sound.{AnyPlace, PathFits, PlaceFits, RowFits, ValueFits};
 ghost use Rattle.ink_tree.specs.Nodes.{place_of, story_tree};
 

@@ -1,9 +1,9 @@
 //! The flows that a save spells, in a story.
 
 ghost use Rattle.std.specs.Prelude.{◌≡◌, ◌&&◌, ◌++◌, ◌∷◌, [], IfOk, None, OnErr, OnOk, Some, bytes_eq, is_none, if◌then◌else◌};
-ghost use Rattle.ink_flows.specs.Words.{flow_of, rows_of};
-ghost use Rattle.ink_model.specs.Flows as rules;
-ghost use Rattle.ink_model.specs.Named.{at};
+ghost use Rattle.ink_flows.specs.Standing.{flow_of, rows_of};
+ghost use Rattle.ink_model.specs.Run.Flows as rules;
+ghost use Rattle.ink_model.specs.Variables.Named.{at};
 ghost use Rattle.ink_model.specs.Save.Sound.{FlowSound};
 ghost use Rattle.ink_model.specs.Save.Unspelled.{aside_but};
 ghost use Rattle.ink_restore.specs.Asks.{FlowAsks, FlowsAsk};

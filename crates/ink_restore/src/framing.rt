@@ -2,7 +2,7 @@
 
 ghost use Rattle.std.specs.Prelude.{◌≡◌, is_some};
 ghost use Rattle.std.specs.List.{list_all};
-ghost use Rattle.ink_model.specs.Frames.{map_frame, map_thread};
+ghost use Rattle.ink_model.specs.Flow.Frames.{map_frame, map_thread};
 ghost use Rattle.ink_restore.specs.Building.{FrameAsks, FrameBuilds, ThreadAsks, ThreadBuilds};
 ghost use Rattle.ink_tree.specs.Nodes.{place_of};
 

@@ -1,9 +1,9 @@
 //! Choices that a save spells, in a story.
 
 ghost use Rattle.std.specs.Prelude.{◌≡◌, IfOk, IsTrue, OnErr};
-ghost use Rattle.ink_model.specs.Bytes.{fits_text};
-ghost use Rattle.ink_model.specs.Configuration.{map_choice};
-ghost use Rattle.ink_model.specs.Frames.{map_thread};
+ghost use Rattle.ink_model.specs.Text.Bytes.{fits_text};
+ghost use Rattle.ink_model.specs.Run.Configuration.{map_choice};
+ghost use Rattle.ink_model.specs.Flow.Frames.{map_thread};
 ghost use Rattle.ink_restore.specs.Building.{Builds, ChoiceAsks, ThreadAsks};
 ghost use Rattle.ink_model.specs.Save.Sound.{ChoiceFits, ThreadStands};
 ghost use Rattle.ink_tree.specs.Nodes.{place_of, story_tree};

@@ -2,10 +2,10 @@
 
 ghost use Rattle.std.specs.Prelude.{◌≡◌, ◌≤◌, IfOk, IfSome, IsTrue, OnErr, option_map, true};
 ghost use Rattle.std.specs.List.{AllByRecursion};
-ghost use Rattle.ink_flows.specs.Words.{rows_of};
-ghost use Rattle.ink_model.specs.Configuration.{unnumbered_flow};
-ghost use Rattle.ink_model.specs.Flows.{alone, begins_with_default, holes};
-ghost use Rattle.ink_model.specs.Named.{at};
+ghost use Rattle.ink_flows.specs.Standing.{rows_of};
+ghost use Rattle.ink_model.specs.Run.Configuration.{unnumbered_flow};
+ghost use Rattle.ink_model.specs.Run.Flows.{alone, begins_with_default, holes};
+ghost use Rattle.ink_model.specs.Variables.Named.{at};
 ghost use Rattle.ink_model.specs.Save.Reads.{Rests, Stands};
 ghost use Rattle.ink_model.specs.Save.Sound.{SharedSound};
 ghost use Rattle.ink_model.specs.Save.Unspelled.{aside_but, game_of, game_spelled};

@@ -2,7 +2,7 @@
 
 ghost use Rattle.std.specs.Prelude.{◌≡◌};
 ghost use Rattle.std.specs.List.{list_all};
-ghost use Rattle.ink_model.specs.Frames.{map_threads};
+ghost use Rattle.ink_model.specs.Flow.Frames.{map_threads};
 ghost use Rattle.ink_restore.specs.Building.{ThreadsAsk, flows, placed};
 ghost use Rattle.ink_model.specs.Save.Sound.{ThreadsFit};
 ghost use Rattle.ink_tree.specs.Nodes.{place_of};

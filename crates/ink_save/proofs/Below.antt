@@ -2,11 +2,11 @@
 use Rattle.std.proofs.Common.{◌≡◌, ◌∙◌, ap, refl, ℕ, zero, suc, ◌+◌, ◌<◌, ◌≤◌, length, List, [], ◌∷◌, take, true, false, nat_lt, Option, Some, None, arith}
 use Rattle.std.proofs.lemmas.Bool.Decides.{nat_tests}
 use Rattle.std.proofs.lemmas.List.{take_all}
-use Rattle.ink_model.specs.Counts.{CountsOf}
-use Rattle.ink_model.specs.Places.{places}
-use Rattle.ink_model.specs.Tree.{StoryTree}
+use Rattle.ink_model.specs.Variables.Counts.{CountsOf}
+use Rattle.ink_model.specs.Story.Places.{places}
+use Rattle.ink_model.specs.Story.Tree.{StoryTree}
 use Rattle.ink_restore.specs.Counted.{AreBelow, AreOwn, counts_at, rows_at}
-use Rattle.ink_step.specs.Words.{counts_in, rows_below}
+use Rattle.ink_step.specs.Standing.{counts_in, rows_below}
 use Rattle.ink_vars.specs.Slots.{rows_from}
 
 -- ---- of slots

@@ -1,19 +1,19 @@
 -- What a save keeps of a machine.
 use Rattle.std.proofs.Common.{◌≡◌, ◌∙◌, ap, ℕ, List, Some, Result, Ok, Err, IfOk}
 use Rattle.serde_json.specs.Written.{compact_text}
-use Rattle.ink_flows.specs.Words.{aside_of, flow_of}
-use Rattle.ink_model.specs.Command.{json_of}
-use Rattle.ink_model.specs.Flows.{Game}
-use Rattle.ink_model.specs.Output.{empty_page}
+use Rattle.ink_flows.specs.Standing.{aside_of, flow_of}
+use Rattle.ink_model.specs.Protocol.Command.{json_of}
+use Rattle.ink_model.specs.Run.Flows.{Game}
+use Rattle.ink_model.specs.Text.Output.{empty_page}
 use Rattle.ink_model.specs.Save.Reads.{Stands}
 use Rattle.ink_model.specs.Save.Spelling.{spelling}
-use Rattle.ink_model.specs.Tree.{StoryTree}
+use Rattle.ink_model.specs.Story.Tree.{StoryTree}
 use Rattle.ink_parts.specs.Parts.{kept_as}
 use Rattle.ink_parts.specs.declared.kept.Kept.{Kept}
 use Rattle.ink_sound.proofs.Orderly.{spelled_back}
 use Rattle.ink_sound.specs.Kept.{StoryFits}
 use Rattle.ink_step.specs.Parts.{config_of_parts}
-use Rattle.ink_step.specs.Words.{aside_in, config_of, game_of, shared_of}
+use Rattle.ink_step.specs.Standing.{aside_in, config_of, game_of, shared_of}
 use Rattle.ink_step.specs.declared.machine.Machine.{Machine}
 use Rattle.ink_step.specs.declared.parts.Parts.{Parts}
 

@@ -1,13 +1,13 @@
 -- What is read of a JSON value, and what is made of a game.
 use Rattle.std.proofs.Common.{◌≡◌, ◌∙◌, sym, ap, refl, subst, [], Option, Some, None, option_and_then, Result, IfOk}
 use Rattle.serde_json.specs.Data.{Data}
-use Rattle.ink_model.specs.Acceptance.{bad_places}
-use Rattle.ink_model.specs.Flows.{Game}
-use Rattle.ink_model.specs.Grammar.{IsSpelled}
+use Rattle.ink_model.specs.Story.Acceptance.{bad_places}
+use Rattle.ink_model.specs.Run.Flows.{Game}
+use Rattle.ink_model.specs.Story.Grammar.{IsSpelled}
 use Rattle.ink_model.specs.Save.Reads.{Reads, Stands}
 use Rattle.ink_model.specs.Save.Unspelled.{layout_of, unspelled}
 use Rattle.ink_model.specs.Save.Unspelled as save
-use Rattle.ink_model.specs.Tree.{StoryTree}
+use Rattle.ink_model.specs.Story.Tree.{StoryTree}
 use Rattle.ink_restore.specs.Parts.{Restores, restored_as}
 use Rattle.ink_restore.specs.declared.restoring.Restored.{Restored}
 use Rattle.ink_save.specs.Loads.{Finds}
@@ -16,7 +16,7 @@ use Rattle.ink_sound.proofs.Stories.{spelled_fits}
 use Rattle.ink_sound.specs.Kept.{StoryFits}
 use Rattle.ink_spelling.specs.Layouts.{layout_as}
 use Rattle.ink_spelling.specs.declared.layout.SavedLayout.{SavedLayout}
-use Rattle.ink_step.specs.Words.{game_of}
+use Rattle.ink_step.specs.Standing.{game_of}
 use Rattle.ink_step.specs.declared.machine.Machine.{Machine}
 
 -- ---- what is made

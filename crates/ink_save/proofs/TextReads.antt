@@ -2,9 +2,9 @@
 use Rattle.std.proofs.Common.{◌≡◌, ◌<◌, refl, inl, inr, ℕ, List, [], ◌∷◌, length, true, arith, Option, None, Some, Result, Err}
 use Rattle.serde_json.specs.Data.{Data}
 use Rattle.serde_json.specs.Read.{read}
-use Rattle.ink_model.specs.Bytes.{is_filled}
-use Rattle.ink_model.specs.Command.{json_of}
-use Rattle.ink_model.specs.Tree.{StoryTree}
+use Rattle.ink_model.specs.Text.Bytes.{is_filled}
+use Rattle.ink_model.specs.Protocol.Command.{json_of}
+use Rattle.ink_model.specs.Story.Tree.{StoryTree}
 use Rattle.ink_save.specs.Loads.{ReadsAs, ReadsText}
 use Rattle.ink_save.specs.declared.loading.SaveRefusal.{SaveRefusal}
 use Rattle.ink_save.specs.declared.loading.SaveRefusal.TheVariants as refusal

@@ -1,16 +1,16 @@
 -- What a JSON value is read as.
 use Rattle.std.specs.Prelude.{◌≡◌, ◌⊎◌, ⊤, ℕ, List, true, Result, Ok, Err, Option, Some, None}
 use Rattle.serde_json.specs.Data.{Data}
-use Rattle.ink_model.specs.Bytes.{is_filled}
-use Rattle.ink_model.specs.Command.{json_of}
-use Rattle.ink_model.specs.Flows.{Game}
+use Rattle.ink_model.specs.Text.Bytes.{is_filled}
+use Rattle.ink_model.specs.Protocol.Command.{json_of}
+use Rattle.ink_model.specs.Run.Flows.{Game}
 use Rattle.ink_model.specs.Save.Asks.{load_asks}
 use Rattle.ink_model.specs.Save.Reads.{Reads, Stands}
-use Rattle.ink_model.specs.Tree.{StoryTree}
+use Rattle.ink_model.specs.Story.Tree.{StoryTree}
 use Rattle.ink_restore.specs.Building.{Builds}
 use Rattle.ink_save.specs.declared.loading.SaveRefusal.{SaveRefusal}
 use Rattle.ink_save.specs.declared.loading.SaveRefusal.TheVariants as refusal
-use Rattle.ink_step.specs.Words.{game_of}
+use Rattle.ink_step.specs.Standing.{game_of}
 use Rattle.ink_step.specs.declared.machine.Machine.{Machine}
 
 -- a machine whose game it spells; or there is none, or memory was refused, which only a value asks for of which something is kept

@@ -1,16 +1,16 @@
 //! The machine that a JSON value spells.
 
 ghost use Rattle.std.specs.Prelude.{◌≡◌, IfOk, IfSome, OnErr, true};
-ghost use Rattle.ink_check.specs.Words.{story_tree};
+ghost use Rattle.ink_check.specs.Standing.{story_tree};
 ghost use Rattle.ink_model.specs.Save.Asks.{load_asks};
 ghost use Rattle.ink_model.specs.Save.Unspelled as save;
-ghost use Rattle.ink_model.specs.Tree.{StoryTree};
+ghost use Rattle.ink_model.specs.Story.Tree.{StoryTree};
 ghost use Rattle.ink_restore.specs.Counted.{AreOwn};
 ghost use Rattle.ink_restore.specs.Parts.{restored_as, shared_as};
 ghost use Rattle.ink_save.specs.Loads.{Finds, ReadsAs};
 ghost use Rattle.ink_spelling.specs.Layouts.{Rest, layout_as};
 ghost use Rattle.ink_step.specs.Marks.{stood_of, unmarked};
-ghost use Rattle.ink_step.specs.Words.{game_of, shared_of};
+ghost use Rattle.ink_step.specs.Standing.{game_of, shared_of};
 ghost use Rattle.ink_tree.specs.Nodes as nodes;
 
 use ink_check::Story;

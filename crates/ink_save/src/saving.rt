@@ -3,14 +3,14 @@
 ghost use Rattle.std.specs.Prelude.{◌≡◌, IfOk, Some, length};
 ghost use Rattle.serde_json.specs.View.{view};
 ghost use Rattle.serde_json.specs.Written.{compact_text};
-ghost use Rattle.ink_check.specs.Words.{story_tree};
-ghost use Rattle.ink_model.specs.Command.{json_of};
-ghost use Rattle.ink_model.specs.Output.{empty_page};
-ghost use Rattle.ink_model.specs.Places.{places};
+ghost use Rattle.ink_check.specs.Standing.{story_tree};
+ghost use Rattle.ink_model.specs.Protocol.Command.{json_of};
+ghost use Rattle.ink_model.specs.Text.Output.{empty_page};
+ghost use Rattle.ink_model.specs.Story.Places.{places};
 ghost use Rattle.ink_model.specs.Save.Reads.{Stands};
 ghost use Rattle.ink_model.specs.Save.Spelling.{spelling};
 ghost use Rattle.ink_parts.specs.Parts.{kept_as};
-ghost use Rattle.ink_step.specs.Words.{aside_of, flow_of, game_of, rows_below, shared_of};
+ghost use Rattle.ink_step.specs.Standing.{aside_of, flow_of, game_of, rows_below, shared_of};
 ghost use Rattle.ink_tree.specs.Nodes as nodes;
 ghost use Rattle.ink_vars.specs.Slots.{rows_from};
 

@@ -1,7 +1,7 @@
 //! The machine that a text of JSON spells.
 
 ghost use Rattle.std.specs.Prelude.{◌≡◌, IfOk};
-ghost use Rattle.ink_check.specs.Words.{story_tree};
+ghost use Rattle.ink_check.specs.Standing.{story_tree};
 ghost use Rattle.ink_save.specs.Loads.{ReadsText};
 ghost use Rattle.ink_step.specs.Marks.{stood_of, unmarked};
 ghost use Rattle.json_tape.specs.Spelled.{held};

@@ -1,8 +1,8 @@
 -- Flows by name, whatever a flow is: what going to one and taking one away keep.
 use Rattle.std.proofs.Common.{◌≡◌, ◌∙◌, ap, sym, refl, ℕ, suc, List, [], ◌∷◌, ◌++◌, length, Bool, true, false, true≢false, cond, if◌then◌else◌, bytes_eq, Option, Some, None, is_none, is_some, unwrap_or, inl, inr, arith}
 use Rattle.std.proofs.lemmas.Bool.{cases_Bool, cond_both}
-use Rattle.ink_model.specs.Flows.{AsideOf, FlowsOf, all_flows, begins_with_default, current_name, default_flow, dropped, filled, flow_named, goes_to, holes}
-use Rattle.ink_model.specs.Named.{Rows, at, once, put, without}
+use Rattle.ink_model.specs.Run.Flows.{AsideOf, FlowsOf, all_flows, begins_with_default, current_name, default_flow, dropped, filled, flow_named, goes_to, holes}
+use Rattle.ink_model.specs.Variables.Named.{Rows, at, once, put, without}
 use Rattle.ink_sound.specs.Beside.{with_last}
 use Rattle.ink_sound.proofs.Named.{each_of_others, its_name, same_name}
 use Rattle.ink_sound.proofs.Rows.{some_alike}

@@ -1,24 +1,24 @@
 -- What commands do to the flows that stand aside, and that those make no difference to most.
 use Rattle.std.proofs.Common.{◌≡◌, ap, refl, true, ℕ, List, [], ◌∷◌, inl, inr, Bool, false, Option, Some, None, is_some, Result, Ok, Err, MatchBool}
-use Rattle.ink_model.specs.Answer.{Reply, Refuses}
-use Rattle.ink_model.specs.Changed.{Keeps}
-use Rattle.ink_model.specs.Choosing.{chosen, jump_place, jumped, open_choice}
-use Rattle.ink_model.specs.Command as command
-use Rattle.ink_model.specs.Command.{Command}
-use Rattle.ink_model.specs.Configuration.{Configuration, can_go_on, settled, with_globals}
-use Rattle.ink_model.specs.Flows.{Aside, Game, alone}
-use Rattle.ink_model.specs.Host.{Bindings, value_given}
-use Rattle.ink_model.specs.Line.{EndsLine}
-use Rattle.ink_model.specs.Memory.{FallsShort, LineFallsShort}
-use Rattle.ink_model.specs.Opening.{Unopened, opening}
-use Rattle.ink_model.specs.Run.{Made, RunEnd, Kept, Broke, EndsThrough}
-use Rattle.ink_model.specs.Session.{BeginsAnew, BreaksBy, ContinueFrom, Does, EndsAs, FailsToRestart, GetsFrom, Load, RestartsAs, RunsFrom, RunsLine, RunsThrough, RunsTo, SavesFrom, SetsFrom, SetsIn, TellsDone, TellsOrKeeps, ThroughFrom, VisitsBy, VisitsFrom, settable}
-use Rattle.ink_model.specs.State.{State, Condition, Ready, Broken}
-use Rattle.ink_model.specs.Store.{Values, store, stored}
-use Rattle.ink_model.specs.Told.{told}
-use Rattle.ink_model.specs.Tree.{StoryTree}
-use Rattle.ink_model.specs.Turns.{ChoosesBy, ChoosesFrom, JumpsBy, JumpsFrom, LandsFor}
-use Rattle.ink_model.specs.Visits.{visits_by}
+use Rattle.ink_model.specs.Protocol.Answer.{Reply, Refuses}
+use Rattle.ink_model.specs.Protocol.Changed.{OnlyRefuses}
+use Rattle.ink_model.specs.Choices.Choosing.{chosen, jump_place, jumped, open_choice}
+use Rattle.ink_model.specs.Protocol.Command as command
+use Rattle.ink_model.specs.Protocol.Command.{Command}
+use Rattle.ink_model.specs.Run.Configuration.{Configuration, can_go_on, settled, with_globals}
+use Rattle.ink_model.specs.Run.Flows.{Aside, Game, alone}
+use Rattle.ink_model.specs.Host.Bindings.{Bindings, value_given}
+use Rattle.ink_model.specs.Run.Line.{EndsLine}
+use Rattle.ink_model.specs.Memory.Refusals.{FallsShort, LineFallsShort}
+use Rattle.ink_model.specs.Run.Opening.{Unopened, opening}
+use Rattle.ink_model.specs.Run.Moments.{Made, RunEnd, Kept, Broke, EndsThrough}
+use Rattle.ink_model.specs.Protocol.Session.{BeginsAnew, BreaksBy, ContinueFrom, Does, EndsAs, FailsToRestart, GetsFrom, Load, RestartsAs, RunsFrom, RunsLine, RunsThrough, RunsTo, SavesFrom, SetsFrom, SetsIn, TellsDone, TellsOrKeeps, ThroughFrom, VisitsBy, VisitsFrom, settable}
+use Rattle.ink_model.specs.Protocol.State.{State, Condition, Ready, Broken}
+use Rattle.ink_model.specs.Variables.Store.{Values, store, stored}
+use Rattle.ink_model.specs.Host.Told.{told}
+use Rattle.ink_model.specs.Story.Tree.{StoryTree}
+use Rattle.ink_model.specs.Protocol.Turns.{ChoosesBy, ChoosesFrom, JumpsBy, JumpsFrom, LandsFor}
+use Rattle.ink_model.specs.Run.Visits.{visits_by}
 use Rattle.ink_model.specs.declared.fault.Fault.{Fault}
 use Rattle.ink_model.specs.declared.fault.Fault.TheVariants.{OutOfMemory}
 use Rattle.ink_model.specs.declared.fault.Refusal.TheVariants as refusal
@@ -40,10 +40,10 @@ module _ (s : StoryTree) (h : Bindings) (others : Aside) where
   module _ (es : List Event) (reply : Reply) where
     -- ---- what is left
 
-    kept : (refused : Reply) (old new : State) → Keeps refused old reply new → Stays old new (Keeps refused (beside old) reply (beside new))
+    kept : (refused : Reply) (old new : State) → OnlyRefuses refused old reply new → Stays old new (OnlyRefuses refused (beside old) reply (beside new))
     kept refused old new x = (ap (λ st. st.aside) x.1, (x.0, ap beside x.1))
 
-    refused_with : (refused : Reply) (old new : State) → (es ≡ []) × Keeps refused old reply new → Stays old new ((es ≡ []) × Keeps refused (beside old) reply (beside new))
+    refused_with : (refused : Reply) (old new : State) → (es ≡ []) × OnlyRefuses refused old reply new → Stays old new ((es ≡ []) × OnlyRefuses refused (beside old) reply (beside new))
     refused_with refused old new x = ((kept refused old new x.1).0, (x.0, (kept refused old new x.1).1))
 
     broken_by : (f : Fault) (globals : Values) (before : List Event) (old new : State) → BreaksBy f globals before es old reply new
@@ -81,10 +81,10 @@ module _ (s : StoryTree) (h : Bindings) (others : Aside) where
     Sets name g c a b = TellsOrKeeps (told h.watches c.shared.globals ((name, value_given g) ∷ [])) (Ready (with_globals (store name (value_given g) c.shared.globals) c)) es a reply b
 
     abbrev NoVariable : State → State → Type 0
-    NoVariable a b = (es ≡ []) × Keeps (Refuses refusal.NoSuchVariable) a reply b
+    NoVariable a b = (es ≡ []) × OnlyRefuses (Refuses refusal.NoSuchVariable) a reply b
 
     abbrev NoValue : State → State → Type 0
-    NoValue a b = (es ≡ []) × Keeps (Refuses refusal.BadValue) a reply b
+    NoValue a b = (es ≡ []) × OnlyRefuses (Refuses refusal.BadValue) a reply b
 
     sets_in : (name : List ℕ) (g : Given) (c : Configuration) (old new : State) → SetsIn h name g c es old reply new → Stays old new (SetsIn h name g c es (beside old) reply (beside new))
     sets_in name g c old new x = by (settable g) (is_some (stored name c.shared.globals)) x
@@ -129,8 +129,8 @@ module _ (s : StoryTree) (h : Bindings) (others : Aside) where
     runs Runs (Broken f globals) old new on x = refused_with _ old new x
     runs Runs (Ready c) old new on x = by (can_go_on c) x
       where
-        by : (b : Bool) → MatchBool b ((made : List Made) × Runs c made es old reply new) ((es ≡ []) × Keeps (Refuses refusal.CannotContinue) old reply new)
-            → Stays old new (MatchBool b ((made : List Made) × Runs c made es (beside old) reply (beside new)) ((es ≡ []) × Keeps (Refuses refusal.CannotContinue) (beside old) reply (beside new)))
+        by : (b : Bool) → MatchBool b ((made : List Made) × Runs c made es old reply new) ((es ≡ []) × OnlyRefuses (Refuses refusal.CannotContinue) old reply new)
+            → Stays old new (MatchBool b ((made : List Made) × Runs c made es (beside old) reply (beside new)) ((es ≡ []) × OnlyRefuses (Refuses refusal.CannotContinue) (beside old) reply (beside new)))
         by true y = let z = on c y.0 y.1 in (z.0, (y.0, z.1))
         by false y = refused_with _ old new y
 

@@ -2,18 +2,18 @@
 use Rattle.std.proofs.Common.{◌≡◌, ap, refl, arith, lit≤, List, [], ◌∷◌, map, Option, Some, None, Result, Ok, Err}
 use Rattle.std.proofs.lemmas.List.{length-map}
 use Rattle.std.specs.List.{AllByRecursion as Each}
-use Rattle.ink_model.specs.Bases.{BaseFirst}
-use Rattle.ink_model.specs.Choosing.{chosen, jumped}
-use Rattle.ink_model.specs.Configuration.{ChoiceOf, Configuration, fresh_at, fresh_flow, settled, start, unnumbered_choice, with_globals}
-use Rattle.ink_model.specs.Frames.{FrameOf, ThreadOf, ThreadsOf, place_in, put_in, unnumbered_frame, unnumbered_thread, unnumbered_threads}
-use Rattle.ink_model.specs.Host.{nothing_bound}
-use Rattle.ink_model.specs.Opening.{Unopened, declarations, declaring, opened_by, opened_from, opening}
-use Rattle.ink_model.specs.Output.{empty_page}
-use Rattle.ink_model.specs.Place.{landed, start_place}
-use Rattle.ink_model.specs.Run.{Moment, Stopped, through}
-use Rattle.ink_model.specs.Store.{Values}
-use Rattle.ink_model.specs.Tree.{StoryTree}
-use Rattle.ink_model.specs.Visits.{entering_around}
+use Rattle.ink_model.specs.Flow.Bases.{BaseFirst}
+use Rattle.ink_model.specs.Choices.Choosing.{chosen, jumped}
+use Rattle.ink_model.specs.Run.Configuration.{ChoiceOf, Configuration, fresh_at, fresh_flow, settled, start, unnumbered_choice, with_globals}
+use Rattle.ink_model.specs.Flow.Frames.{FrameOf, ThreadOf, ThreadsOf, place_in, put_in, unnumbered_frame, unnumbered_thread, unnumbered_threads}
+use Rattle.ink_model.specs.Host.Bindings.{nothing_bound}
+use Rattle.ink_model.specs.Run.Opening.{Unopened, declarations, declaring, opened_by, opened_from, opening}
+use Rattle.ink_model.specs.Text.Output.{empty_page}
+use Rattle.ink_model.specs.Run.Place.{landed, start_place}
+use Rattle.ink_model.specs.Run.Moments.{Moment, Stopped, through}
+use Rattle.ink_model.specs.Variables.Store.{Values}
+use Rattle.ink_model.specs.Story.Tree.{StoryTree}
+use Rattle.ink_model.specs.Run.Visits.{entering_around}
 use Rattle.ink_model.specs.declared.frame.FrameKind.{FrameKind}
 use Rattle.ink_model.specs.declared.place.Part.{Part}
 use Rattle.ink_sound.specs.Kept.{Finds, MomentFits, StoryFits}

@@ -3,12 +3,12 @@ use Rattle.std.proofs.Common.{◌≡◌, arith, ℕ, ◌≤◌, lit≤, List, []
 use Rattle.std.proofs.lemmas.Bool.{cond_both}
 use Rattle.std.proofs.lemmas.Bool.Decides.{nat_tests}
 use Rattle.std.specs.List.{AllByRecursion as Each}
-use Rattle.ink_model.specs.Counts.{CountsOf, one_more, visited, visits_at}
-use Rattle.ink_model.specs.Entered.{flags_at}
-use Rattle.ink_model.specs.Flags.{counts_visits, notes_turns}
-use Rattle.ink_model.specs.Rows.{place_order, row, with_row}
-use Rattle.ink_model.specs.Tree.{StoryTree, at}
-use Rattle.ink_model.specs.Visits.{all_visited}
+use Rattle.ink_model.specs.Variables.Counts.{CountsOf, one_more, visited, visits_at}
+use Rattle.ink_model.specs.Run.Entered.{flags_at}
+use Rattle.ink_model.specs.Story.Flags.{counts_visits, notes_turns}
+use Rattle.ink_model.specs.Variables.Rows.{place_order, row, with_row}
+use Rattle.ink_model.specs.Story.Tree.{StoryTree, at}
+use Rattle.ink_model.specs.Run.Visits.{all_visited}
 use Rattle.ink_model.specs.declared.limits.TheConstants.{MAX_COUNT}
 use Rattle.ink_model.specs.declared.place.Part.{Part}
 use Rattle.ink_sound.specs.Kept.{Finds}

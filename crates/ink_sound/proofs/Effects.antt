@@ -1,8 +1,8 @@
 -- The effect of any content fits, but for that of an external function's call, which is made apart.
 use Rattle.std.proofs.Common.{arith, pos, length, ◌≡◌, ap, List, Option, Some, None, is_some}
-use Rattle.ink_model.specs.Effect.{Context, Fields}
-use Rattle.ink_model.specs.Step.{control_effect, effect, leaf_effect}
-use Rattle.ink_model.specs.Tree.{StoryTree, leaf, container, at}
+use Rattle.ink_model.specs.Run.Effect.{Context, Fields}
+use Rattle.ink_model.specs.Run.Step.{control_effect, effect, leaf_effect}
+use Rattle.ink_model.specs.Story.Tree.{StoryTree, leaf, container, at}
 use Rattle.ink_model.specs.declared.content.Control.{Control}
 use Rattle.ink_model.specs.declared.content.Control.TheVariants as control
 use Rattle.ink_model.specs.declared.content.Leaf.{Leaf}

@@ -3,12 +3,12 @@ use Rattle.std.proofs.Common.{◌≡◌, ◌≢◌, refl, subst, arith, ℕ, ◌
 use Rattle.std.proofs.lemmas.Bool.{cases_Bool, cond_both}
 use Rattle.std.proofs.lemmas.Bool.Decides.{nat_tests}
 use Rattle.std.specs.List.{AllByRecursion as Each}
-use Rattle.ink_model.specs.Flow.{Written, Reached, Reaches, Breaks, Ending, Continues, Finishes, Collapses, called, depth_of, done, done_by, doubled_in, enter_for, forked, frames_on, halt, leave_for, moved_on, number_for, on_ending, or_breaks, or_end, reach, reach_or_on, returned, thread_of, threads_on, void_for}
-use Rattle.ink_model.specs.Frames.{FrameOf, ThreadOf, ThreadsOf, base_threads, gone, is_function, place_in, put_in}
-use Rattle.ink_model.specs.Output.{is_line}
-use Rattle.ink_model.specs.Place.{next_place}
-use Rattle.ink_model.specs.Threads.{back_to, dropped_to, frame_count, popped, pushed, same_kind, thread_count}
-use Rattle.ink_model.specs.Tree.{StoryTree}
+use Rattle.ink_model.specs.Flow.Transfers.{Written, Reached, Reaches, Breaks, Ending, Continues, Finishes, Collapses, called, depth_of, done, done_by, doubled_in, enter_for, forked, frames_on, halt, leave_for, moved_on, number_for, on_ending, or_breaks, or_end, reach, reach_or_on, returned, thread_of, threads_on, void_for}
+use Rattle.ink_model.specs.Flow.Frames.{FrameOf, ThreadOf, ThreadsOf, base_threads, gone, is_function, place_in, put_in}
+use Rattle.ink_model.specs.Text.Output.{is_line}
+use Rattle.ink_model.specs.Run.Place.{next_place}
+use Rattle.ink_model.specs.Flow.Threads.{back_to, dropped_to, frame_count, frame_popped, frame_pushed, same_kind, thread_count}
+use Rattle.ink_model.specs.Story.Tree.{StoryTree}
 use Rattle.ink_model.specs.declared.fault.Fault.{Fault}
 use Rattle.ink_model.specs.declared.frame.FrameKind.{FrameKind}
 use Rattle.ink_model.specs.declared.frame.FrameKind.TheVariants.{Base, Function}
@@ -128,7 +128,7 @@ module _ (s : StoryTree) where
   numbered_fits Function w t h = assumption
   numbered_fits k w t h = h
 
-  pushed_frame : (k : FrameKind) (d : ℕ) (t : ThreadOf (List Part)) → k ≢ Base → d ≤ MAX_SECTIONS → ThreadStands s t → Gives (ThreadStands s) (pushed k d t)
+  pushed_frame : (k : FrameKind) (d : ℕ) (t : ThreadOf (List Part)) → k ≢ Base → d ≤ MAX_SECTIONS → ThreadStands s t → Gives (ThreadStands s) (frame_pushed k d t)
   pushed_frame k d t call few h = cond_both (nat_lt (frame_count t) MAX_FRAMES) _ _ (Gives (ThreadStands s)) (λ e. record {
     thread = record {
       frame = record { rise = refl; each = tt; depth = few };
@@ -142,7 +142,7 @@ module _ (s : StoryTree) where
 
   pub called_fits : (k : FrameKind) (q : List Part) (ts : ThreadsOf (List Part)) (w : Written) → k ≢ Base → PlaceFits s q → ThreadsStand ts → WrittenFits s w → ReachedFits s (called k q ts w)
   called_fits k q ts w call p h g =
-      reaches_so (ThreadStands s) (pushed k (depth_of w) ts.thread) _ (pushed_frame k (depth_of w) ts.thread call g.page.few h.thread)
+      reaches_so (ThreadStands s) (frame_pushed k (depth_of w) ts.thread) _ (pushed_frame k (depth_of w) ts.thread call g.page.few h.thread)
       (λ t x. reaches_so (WrittenFits s) (enter_for k w) _ (enter_fits s w g k)
       (λ v y. let n = numbered_fits k w t x in
       reach_stands q (record { thread = number_for k w t; below = ts.below }) v p n.thread (any_of (number_for k w t).frame.place n.place) h.below h.few y))
@@ -152,7 +152,7 @@ module _ (s : StoryTree) where
   back_fits (f ∷ fs) d t e h = cond_both (nat_eq t.frame.depth d) _ _ (Gives (ThreadStands s))
       (λ _. below_stands t.frame f fs t.previous (subst (λ l. ThreadStands s (thread_of t.frame l t.previous)) e h)) (λ _. tt)
 
-  popped_frame : (k : FrameKind) (d : ℕ) (t : ThreadOf (List Part)) → ThreadStands s t → Gives (ThreadStands s) (popped k d t)
+  popped_frame : (k : FrameKind) (d : ℕ) (t : ThreadOf (List Part)) → ThreadStands s t → Gives (ThreadStands s) (frame_popped k d t)
   popped_frame k d t h = cond_both (same_kind t.frame.kind k) _ _ (Gives (ThreadStands s)) (λ _. back_fits t.below d t refl h) (λ _. tt)
 
   reach_or_fits : (to : Option (List Part)) (ts : ThreadsOf (List Part)) (w : Written) → AnyPlace s to → ThreadsStand ts → WrittenFits s w → ReachedFits s (reach_or_on (next_place s) to ts w)
@@ -161,7 +161,7 @@ module _ (s : StoryTree) where
 
   pub returned_fits : (k : FrameKind) (to : Option (List Part)) (ts : ThreadsOf (List Part)) (w : Written) → AnyPlace s to → ThreadsStand ts → WrittenFits s w → ReachedFits s (returned (next_place s) k to ts w)
   returned_fits k to ts w p h g =
-      reaches_so (ThreadStands s) (popped k (depth_of w) ts.thread) _ (popped_frame k (depth_of w) ts.thread h.thread)
+      reaches_so (ThreadStands s) (frame_popped k (depth_of w) ts.thread) _ (popped_frame k (depth_of w) ts.thread h.thread)
       (λ t x. reaches_so (WrittenFits s) (leave_for k ts.thread.frame.enter w) _ (leave_fits s w g k ts.thread.frame.enter)
       (λ v y. reach_or_fits to (record { thread = t; below = ts.below }) v p (record { thread = x; below = h.below; few = h.few }) y))
 

@@ -3,14 +3,14 @@ use Rattle.std.proofs.Common.{◌≡◌, ◌∙◌, ap, sym, refl, ℕ, ◌≤�
 use Rattle.std.proofs.lemmas.Bool.{cond_both}
 use Rattle.std.proofs.lemmas.Bool.Decides.{nat_tests}
 use Rattle.std.specs.List.{AllByRecursion as Each}
-use Rattle.ink_model.specs.Configuration.{Configuration, FlowOf, settled, unnumbered_flow}
-use Rattle.ink_model.specs.Flows.{Aside, FlowsOf, Game, current_name, default_flow, dropped, filled, first_flow, flow_named, flows_in, goes_to, has_room, is_flow_name, one_flow, with_flows}
-use Rattle.ink_model.specs.Named.{at, put, without}
-use Rattle.ink_model.specs.Output.{empty_page}
-use Rattle.ink_model.specs.Place.{start_place}
+use Rattle.ink_model.specs.Run.Configuration.{Configuration, FlowOf, settled, unnumbered_flow}
+use Rattle.ink_model.specs.Run.Flows.{Aside, FlowsOf, Game, current_name, default_flow, dropped, filled, first_flow, flow_named, flows_in, goes_to, has_room, is_flow_name, one_flow, with_flows}
+use Rattle.ink_model.specs.Variables.Named.{at, put, without}
+use Rattle.ink_model.specs.Text.Output.{empty_page}
+use Rattle.ink_model.specs.Run.Place.{start_place}
 use Rattle.ink_model.specs.Save.Reads.{Rests, Stands}
 use Rattle.ink_model.specs.Save.Sound.{AsideFits, FlowSound, NamedFits}
-use Rattle.ink_model.specs.Tree.{StoryTree}
+use Rattle.ink_model.specs.Story.Tree.{StoryTree}
 use Rattle.ink_model.specs.declared.limits.TheConstants.{MAX_FLOWS}
 use Rattle.ink_model.specs.declared.place.Part.{Part}
 use Rattle.ink_sound.proofs.Aside.{default_there, filled_at, filled_first, filled_holes, filled_length, filled_once, going_current, put_first, put_holes, without_first, without_holes}

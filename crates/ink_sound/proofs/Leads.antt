@@ -2,16 +2,16 @@
 use Rattle.std.proofs.Common.{◌≢◌, arith, List, Bool, true, false, if◌then◌else◌, Option, Some, None, option_map, Ok, Err, ◌≡◌, ℕ, zero, suc, ◌-◌, nat_le, [], ◌∷◌, length, take, Result}
 use Rattle.std.proofs.lemmas.Bool.{cond_both}
 use Rattle.std.specs.Option.{ok_or}
-use Rattle.ink_model.specs.Acceptance.{lands}
-use Rattle.ink_model.specs.Effect.{Context, Effect, Fields, Landing, Moves, Lands, Calls, Returns}
-use Rattle.ink_model.specs.Move.{place_to}
-use Rattle.ink_model.specs.Step.Calls.{call, call_to, led_back, return_function, return_tunnel}
-use Rattle.ink_model.specs.Step.Diverts.{condition, divert, divert_to, landing_by, leaving_fields, led_by, led_to, truth_on, where_true}
-use Rattle.ink_model.specs.Stack.{popped}
-use Rattle.ink_model.specs.Store.{Values}
-use Rattle.ink_model.specs.Tree.{StoryTree}
-use Rattle.ink_model.specs.Value.{is_true}
-use Rattle.ink_model.specs.Variables.{read}
+use Rattle.ink_model.specs.Story.Acceptance.{lands}
+use Rattle.ink_model.specs.Run.Effect.{Context, Effect, Fields, Landing, Moves, Lands, Calls, Returns}
+use Rattle.ink_model.specs.Run.Move.{place_to}
+use Rattle.ink_model.specs.Run.Step.Calls.{call, call_to, return_landing, return_function, return_tunnel}
+use Rattle.ink_model.specs.Run.Step.Diverts.{condition, divert, divert_to, landing_by, leaving_fields, led_by, led_to, truth_on, where_true}
+use Rattle.ink_model.specs.Values.Stack.{popped}
+use Rattle.ink_model.specs.Variables.Store.{Values}
+use Rattle.ink_model.specs.Story.Tree.{StoryTree}
+use Rattle.ink_model.specs.Values.Value.{is_true}
+use Rattle.ink_model.specs.Variables.Access.{read}
 use Rattle.ink_model.specs.declared.content.Destination.{Destination}
 use Rattle.ink_model.specs.declared.content.Destination.TheVariants as destination
 use Rattle.ink_model.specs.declared.fault.Fault.TheVariants.{BadTarget, Unbound}
@@ -26,9 +26,9 @@ use Rattle.ink_sound.proofs.Places.{Stands, lands_fits, led_fits, knot_fits, lan
 use Rattle.ink_sound.proofs.Values.{TakenFits, or_fault_fits, popped_fits, popping_fits, or_else_fits, pushing_fits}
 use Rattle.std.proofs.lemmas.List.{length-take}
 use Rattle.std.specs.List.{AllByRecursion as Each, list_all}
-use Rattle.ink_model.specs.Host.{Binding, Bound, turn_function, pure_function, fits_given, value_given}
-use Rattle.ink_model.specs.Place.{knot}
-use Rattle.ink_model.specs.Step.Host.{CallEffect, answering, arguments_of, arguments_on, arguments_taken, call_bound, call_external, has_string, is_argument, or_fails}
+use Rattle.ink_model.specs.Host.Bindings.{Binding, Bound, turn_function, pure_function, fits_given, value_given}
+use Rattle.ink_model.specs.Run.Place.{knot}
+use Rattle.ink_model.specs.Run.Step.Host.{CallEffect, answering, arguments_of, arguments_on, arguments_taken, call_bound, call_external, has_string, is_argument, or_fails}
 use Rattle.ink_model.specs.declared.fault.Fault.{Fault}
 use Rattle.ink_model.specs.declared.host.Given.{Given}
 use Rattle.ink_model.specs.declared.host.Given.TheVariants as given
@@ -80,14 +80,14 @@ module _ (s : StoryTree) where
     call_fits k to conditional f c h = where_true_fits conditional f (call_to k s p seen to) h
         (λ left x. or_fault_fits s LandingFits (led_to s p seen to left.globals) (λ l. Calls k l left) (led_to_fits p seen to left.globals stand) (λ l y. (c, y, x)))
 
-  back_fits : (v : Value) → Gives (λ to. AnyPlace s (place_to to)) (led_back s v)
+  back_fits : (v : Value) → Gives (λ to. AnyPlace s (place_to to)) (return_landing s v)
   back_fits value.Void = tt
   back_fits (value.Target path) = (elim (landing_by s (value.Target path)) as (λ o. Finds LandingFits o → Gives (λ to. AnyPlace s (place_to to)) (ok_or (option_map (λ l. Some l) o) BadTarget))
       [ Some l ↦ λ h. h | None ↦ λ h. tt ]) (led_fits s (value.Target path))
   back_fits v = tt
 
   pub return_tunnel_fits : (f : Fields) → FieldsFit s f → EffectFits s (return_tunnel s f)
-  return_tunnel_fits f h = popping_fits s f _ h (λ v left p x. or_fault_fits s (λ to. AnyPlace s (place_to to)) (led_back s v) (λ to. Returns Tunnel to left) (back_fits v) (λ to y. (y, x)))
+  return_tunnel_fits f h = popping_fits s f _ h (λ v left p x. or_fault_fits s (λ to. AnyPlace s (place_to to)) (return_landing s v) (λ to. Returns Tunnel to left) (back_fits v) (λ to y. (y, x)))
 
   pub return_function_fits : (f : Fields) → FieldsFit s f → EffectFits s (return_function f)
   return_function_fits f h = (tt, h)

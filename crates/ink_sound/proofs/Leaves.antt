@@ -6,8 +6,8 @@ use Rattle.std.specs.List.{AllByRecursion as Each, list_all}
 use Rattle.std.specs.Option.{ok_or}
 use Rattle.serde_json.specs.Data.{Data, number, string, object}
 use Rattle.serde_json.specs.Find.{as_integer, as_str, get}
-use Rattle.ink_model.specs.Leaves.{by_head, choice_leaf, external_leaf, frame_option, integer_leaf, is_beyond, is_small, jump_leaf, jump_readings, leading_to, leaf_of, object_leaf, plain_leaf, pointer_frame, pointer_leaf, pointer_to, read_choice, read_external, read_jump, read_plain, read_pointer, read_store, read_tag, sole, store_leaf, store_readings, string_leaf, switch, tag_leaf, under_head, value_readings, whole_or}
-use Rattle.ink_model.specs.Word.{arithmetic_words, comparison_words, count_words, evaluation_words, flow_words, frame_words, logic_words, meant, number_words, operator_word, section_words, word}
+use Rattle.ink_model.specs.Story.Leaves.{by_head, choice_leaf, external_leaf, frame_option, integer_leaf, is_beyond, is_small, jump_leaf, jump_readings, leading_to, leaf_of, object_leaf, plain_leaf, pointer_frame, pointer_leaf, pointer_to, read_choice, read_external, read_jump, read_plain, read_pointer, read_store, read_tag, sole, store_leaf, store_readings, string_leaf, switch, tag_leaf, under_head, value_readings, whole_or}
+use Rattle.ink_model.specs.Story.Word.{arithmetic_words, comparison_words, count_words, evaluation_words, flow_words, frame_words, logic_words, meant, number_words, operator_word, section_words, word}
 use Rattle.ink_model.specs.declared.content.Destination.{Destination}
 use Rattle.ink_model.specs.declared.content.Leaf.{Leaf}
 use Rattle.ink_model.specs.declared.content.Leaf.TheVariants as leaves

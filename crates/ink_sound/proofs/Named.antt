@@ -3,7 +3,7 @@ use Rattle.std.proofs.Common.{◌≡◌, ◌∙◌, ap, sym, refl, ℕ, suc, ◌
 use Rattle.std.proofs.lemmas.Bool.{cases_Bool, cond_both}
 use Rattle.std.proofs.lemmas.Slice.Eq.{bytes_eq-Decides}
 use Rattle.std.specs.List.{AllByRecursion as Each}
-use Rattle.ink_model.specs.Named.{Rows, at, each, once, put, without}
+use Rattle.ink_model.specs.Variables.Named.{Rows, at, each, once, put, without}
 use Rattle.ink_sound.proofs.Rows.{both, one, turned, two}
 
 -- ---- names

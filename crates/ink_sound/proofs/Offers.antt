@@ -4,16 +4,16 @@ use Rattle.std.proofs.lemmas.Bool.{cond_both}
 use Rattle.std.proofs.lemmas.Bool.Decides.{nat_tests}
 use Rattle.std.proofs.lemmas.List.{length-reverse, reverse-append}
 use Rattle.std.specs.List.{AllByRecursion as Each}
-use Rattle.ink_model.specs.Acceptance.{lands}
-use Rattle.ink_model.specs.Bytes.{fits_text}
-use Rattle.ink_model.specs.Choices.{Operands, Words, added, after_tags, choice_of, choice_text, is_offered, make, operands, pop_any_words, pop_condition, pop_words, tags_first, then_pop}
-use Rattle.ink_model.specs.Configuration.{ChoiceOf}
-use Rattle.ink_model.specs.Effect.{Context, Fields, Offers}
-use Rattle.ink_model.specs.Flags.{has_choice_only_text, has_start_text, is_conditional}
-use Rattle.ink_model.specs.Frames.{ThreadOf}
-use Rattle.ink_model.specs.Step.Choices.{offer, offering, was_visited}
-use Rattle.ink_model.specs.Tree.{StoryTree}
-use Rattle.ink_model.specs.Value.{is_true}
+use Rattle.ink_model.specs.Story.Acceptance.{lands}
+use Rattle.ink_model.specs.Text.Bytes.{fits_text}
+use Rattle.ink_model.specs.Choices.Making.{Operands, Words, added, after_tags, choice_of, choice_text, is_offered, make, operands, pop_any_words, pop_condition, pop_words, tags_first, then_pop}
+use Rattle.ink_model.specs.Run.Configuration.{ChoiceOf}
+use Rattle.ink_model.specs.Run.Effect.{Context, Fields, Offers}
+use Rattle.ink_model.specs.Story.Flags.{has_choice_only_text, has_start_text, is_conditional}
+use Rattle.ink_model.specs.Flow.Frames.{ThreadOf}
+use Rattle.ink_model.specs.Run.Step.Choices.{offer, offering, was_visited}
+use Rattle.ink_model.specs.Story.Tree.{StoryTree}
+use Rattle.ink_model.specs.Values.Value.{is_true}
 use Rattle.ink_model.specs.declared.fault.Fault.{Fault}
 use Rattle.ink_model.specs.declared.fault.Fault.TheVariants.{BadTarget}
 use Rattle.ink_model.specs.declared.limits.TheConstants.{MAX_CHOICES, MAX_STACK}

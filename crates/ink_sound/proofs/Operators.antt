@@ -2,13 +2,13 @@
 use Rattle.std.proofs.Common.{◌≡◌, refl, arith, ℕ, zero, suc, ◌+◌, ◌≤◌, lit≤, ℤ, List, [], ◌∷◌, ◌++◌, length, length-append, Bool, true, false, Option, Some, None, option_and_then, Result, Ok, Err, IsTrue}
 use Rattle.std.proofs.lemmas.Bool.{cond_both}
 use Rattle.std.specs.List.{AllByRecursion as Each}
-use Rattle.ink_model.specs.Bytes.{fits_text}
-use Rattle.ink_model.specs.Effect.{Fields, Moves}
-use Rattle.ink_model.specs.Leaves.{is_small}
-use Rattle.ink_model.specs.Operator.{Operand, number, words, target, Operands, numbers, texts, targets, unlike, apply, both, operand, can_divide, of_numbers, of_one, of_targets, of_texts, of_two, takes, truth_number}
-use Rattle.ink_model.specs.Stack.{applied, applied_to, on_top, popped, taken}
-use Rattle.ink_model.specs.Step.Evaluation.{operate}
-use Rattle.ink_model.specs.Tree.{StoryTree}
+use Rattle.ink_model.specs.Text.Bytes.{fits_text}
+use Rattle.ink_model.specs.Run.Effect.{Fields, Moves}
+use Rattle.ink_model.specs.Story.Leaves.{is_small}
+use Rattle.ink_model.specs.Values.Operator.{Operand, number, words, target, Operands, numbers, texts, targets, unlike, apply, both, operand, can_divide, of_numbers, of_one, of_targets, of_texts, of_two, takes, truth_number}
+use Rattle.ink_model.specs.Values.Stack.{applied, applied_to, on_top, popped, taken}
+use Rattle.ink_model.specs.Run.Step.Evaluation.{operate}
+use Rattle.ink_model.specs.Story.Tree.{StoryTree}
 use Rattle.ink_model.specs.declared.fault.Fault.{Fault}
 use Rattle.ink_model.specs.declared.operator.Op.{Op}
 use Rattle.ink_model.specs.declared.operator.Op.TheVariants as op

@@ -1,11 +1,11 @@
 -- How deep a spelling nests, and that the spelling of a sound game has small integers, and names that rise: so its text is read back.
 use Rattle.std.proofs.Common.{◌≤◌, lit≤, arith, ℕ, List, [], ◌∷◌, map, reverse, Option, Some, None, ◌≡◌, ◌∙◌, ap, sym, refl, ◌<◌, ◌^◌, ℤ, pos, negsuc, ◌++◌, append_assoc, codes, cond, Bool, true, false}
 use Rattle.serde_json.specs.Data.{Data, string, depth, items_depth, members_depth, object}
-use Rattle.ink_model.specs.Configuration.{ChoiceOf, FlowOf}
-use Rattle.ink_model.specs.Events.{items_of}
-use Rattle.ink_model.specs.Flows.{Game, all_flows}
-use Rattle.ink_model.specs.Frames.{FrameOf, ThreadOf}
-use Rattle.ink_model.specs.ValueJson.{value_data}
+use Rattle.ink_model.specs.Run.Configuration.{ChoiceOf, FlowOf}
+use Rattle.ink_model.specs.Host.Events.{items_of}
+use Rattle.ink_model.specs.Run.Flows.{Game, all_flows}
+use Rattle.ink_model.specs.Flow.Frames.{FrameOf, ThreadOf}
+use Rattle.ink_model.specs.Protocol.ValueJson.{value_data}
 use Rattle.ink_model.specs.declared.frame.FrameKind.{FrameKind}
 use Rattle.ink_model.specs.declared.frame.FrameKind.TheVariants.{Base}
 use Rattle.ink_model.specs.declared.place.Part.{Part}
@@ -19,12 +19,12 @@ use Rattle.std.specs.Str.{is_utf8}
 use Rattle.serde_json.specs.Find.{of_integer}
 use Rattle.serde_json.specs.Written.{compact_text}
 use Rattle.serde_json.proofs.OnLiterals.{serde_json_on_literals}
-use Rattle.ink_model.specs.Answer.{Saves, answer}
-use Rattle.ink_model.specs.Command.{Load, command_of, command_word, json_of}
-use Rattle.ink_model.specs.Flags.{counts_visits, notes_turns}
-use Rattle.ink_model.specs.Leaves.{is_small}
-use Rattle.ink_model.specs.Rows.{is_before, name_order, rows_rise}
-use Rattle.ink_model.specs.Tree.{StoryTree}
+use Rattle.ink_model.specs.Protocol.Answer.{Saves, answer}
+use Rattle.ink_model.specs.Protocol.Command.{Load, command_of, command_word, json_of}
+use Rattle.ink_model.specs.Story.Flags.{counts_visits, notes_turns}
+use Rattle.ink_model.specs.Story.Leaves.{is_small}
+use Rattle.ink_model.specs.Variables.Rows.{is_before, name_order, rows_rise}
+use Rattle.ink_model.specs.Story.Tree.{StoryTree}
 use Rattle.ink_model.specs.Save.Reads.{Stands}
 use Rattle.ink_model.specs.Save.Sound.{AnyPlace, ChoiceFits, FlowSound, PlaceFits, RowCounts, RowFits, ValueFits}
 use Rattle.ink_sound.specs.Kept.{StoryFits}

@@ -4,13 +4,13 @@ use Rattle.std.proofs.lemmas.Bool.{cond_both}
 use Rattle.std.proofs.lemmas.Bool.Decides.{nat_tests}
 use Rattle.std.proofs.lemmas.List.{append-nil, reverse-append, reverse-reverse}
 use Rattle.std.specs.Option.{option_map}
-use Rattle.ink_model.specs.Acceptance.{lands}
-use Rattle.ink_model.specs.Choosing.{jump_place}
-use Rattle.ink_model.specs.Effect.{Landing}
-use Rattle.ink_model.specs.Path.{above, absolute_target, by_name, ends_at, ends_in_index, is_container, is_place, is_up, landing, listed_index, read_path, stepped, stepped_last, target, walked}
-use Rattle.ink_model.specs.Place.{entered, first_content, first_content_at, first_content_of, is_named, knot, landed, named_index, next_place, next_upwards, start_place}
-use Rattle.ink_model.specs.Step.Diverts.{landing_by}
-use Rattle.ink_model.specs.Tree.{StoryTree, leaf, container, Trees, no_trees, tree, Keyed, at, by_key, count, down, nth, width}
+use Rattle.ink_model.specs.Story.Acceptance.{lands}
+use Rattle.ink_model.specs.Choices.Choosing.{jump_place}
+use Rattle.ink_model.specs.Run.Effect.{Landing}
+use Rattle.ink_model.specs.Story.Path.{above, absolute_target, by_name, ends_at, ends_in_index, is_container, is_place, is_up, landing, listed_index, read_path, stepped, stepped_last, target, walked}
+use Rattle.ink_model.specs.Run.Place.{content_place, first_content, first_content_at, first_content_of, is_named, knot, landed, named_index, next_place, next_upwards, start_place}
+use Rattle.ink_model.specs.Run.Step.Diverts.{landing_by}
+use Rattle.ink_model.specs.Story.Tree.{StoryTree, leaf, container, Trees, no_trees, tree, Keyed, at, by_key, count, down, nth, width}
 use Rattle.ink_model.specs.declared.place.Part.{Part}
 use Rattle.ink_model.specs.declared.place.Part.TheVariants.{Index, Name}
 use Rattle.ink_model.specs.declared.place.Path.{Path}
@@ -113,8 +113,8 @@ abbrev mutual
   first_of_stands name flags no_trees named = refl
   first_of_stands name flags (tree t ts) named = first_stands t
 
-pub entered_fits : (s : StoryTree) (p : List Part) → PlaceFits s p → PlaceFits s (entered s p)
-unfolding entered
+pub entered_fits : (s : StoryTree) (p : List Part) → PlaceFits s p → PlaceFits s (content_place s p)
+unfolding content_place
 entered_fits s p h = (elim (at s p) as (λ o. at s p ≡ o → PlaceFits s (p ++ first_content_at o)) [
   | None ↦ λ e. subst (PlaceFits s) (sym (append-nil p)) h
   | Some t ↦ λ e. stands_fits s (p ++ first_content t)

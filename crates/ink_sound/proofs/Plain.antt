@@ -3,11 +3,11 @@ use Rattle.std.proofs.Common.{◌≡◌, refl, ℕ, ℤ, pos, negsuc, List, [], 
 use Rattle.serde_json.specs.Data.{Data, number, string}
 use Rattle.serde_json.specs.Find.{of_integer}
 use Rattle.serde_json.specs.Written.{has_float, items_have_float, members_have_float}
-use Rattle.ink_model.specs.Configuration.{ChoiceOf, FlowOf}
-use Rattle.ink_model.specs.Events.{items_of}
-use Rattle.ink_model.specs.Flows.{Game, all_flows}
-use Rattle.ink_model.specs.Frames.{FrameOf, ThreadOf}
-use Rattle.ink_model.specs.ValueJson.{value_data}
+use Rattle.ink_model.specs.Run.Configuration.{ChoiceOf, FlowOf}
+use Rattle.ink_model.specs.Host.Events.{items_of}
+use Rattle.ink_model.specs.Run.Flows.{Game, all_flows}
+use Rattle.ink_model.specs.Flow.Frames.{FrameOf, ThreadOf}
+use Rattle.ink_model.specs.Protocol.ValueJson.{value_data}
 use Rattle.ink_model.specs.declared.frame.FrameKind.{FrameKind}
 use Rattle.ink_model.specs.declared.frame.FrameKind.TheVariants.{Base}
 use Rattle.ink_model.specs.declared.place.Part.{Part}

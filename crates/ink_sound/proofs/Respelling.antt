@@ -6,19 +6,19 @@ use Rattle.std.specs.List.{AllByRecursion as Each}
 use Rattle.std.specs.Option.{option_map}
 use Rattle.serde_json.specs.Data.{Data, string}
 use Rattle.serde_json.specs.Find.{of_integer}
-use Rattle.ink_model.specs.Configuration.{Configuration, FlowOf, settled, unnumbered_choice, unnumbered_flow}
-use Rattle.ink_model.specs.Entered.{flags_at}
-use Rattle.ink_model.specs.Events.{items_of}
-use Rattle.ink_model.specs.Flags.{counts_visits, notes_turns}
-use Rattle.ink_model.specs.Flows.{Aside, Game, all_flows, alone, current_name, holes, is_flow_name}
-use Rattle.ink_model.specs.Frames.{FrameOf, ThreadOf, unnumbered_frame, unnumbered_thread}
-use Rattle.ink_model.specs.Leaves.{is_small}
-use Rattle.ink_model.specs.Named.{Rows, each, once}
-use Rattle.ink_model.specs.Named.{at as at_name}
-use Rattle.ink_model.specs.Output.{empty_page}
-use Rattle.ink_model.specs.Path.{path_text}
-use Rattle.ink_model.specs.Tree.{StoryTree, at}
-use Rattle.ink_model.specs.ValueJson.{value_data}
+use Rattle.ink_model.specs.Run.Configuration.{Configuration, FlowOf, settled, unnumbered_choice, unnumbered_flow}
+use Rattle.ink_model.specs.Run.Entered.{flags_at}
+use Rattle.ink_model.specs.Host.Events.{items_of}
+use Rattle.ink_model.specs.Story.Flags.{counts_visits, notes_turns}
+use Rattle.ink_model.specs.Run.Flows.{Aside, Game, all_flows, alone, current_name, holes, is_flow_name}
+use Rattle.ink_model.specs.Flow.Frames.{FrameOf, ThreadOf, unnumbered_frame, unnumbered_thread}
+use Rattle.ink_model.specs.Story.Leaves.{is_small}
+use Rattle.ink_model.specs.Variables.Named.{Rows, each, once}
+use Rattle.ink_model.specs.Variables.Named.{at as at_name}
+use Rattle.ink_model.specs.Text.Output.{empty_page}
+use Rattle.ink_model.specs.Story.Path.{path_text}
+use Rattle.ink_model.specs.Story.Tree.{StoryTree, at}
+use Rattle.ink_model.specs.Protocol.ValueJson.{value_data}
 use Rattle.ink_model.specs.declared.frame.FrameKind.{FrameKind}
 use Rattle.ink_model.specs.declared.frame.FrameKind.TheVariants.{Base, Function, Tunnel}
 use Rattle.ink_model.specs.declared.place.Part.{Part}

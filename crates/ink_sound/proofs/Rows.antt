@@ -8,8 +8,8 @@ use Rattle.std.specs.List.{AllByRecursion as Each}
 use Rattle.std.specs.Ordering.{is_lt, match_ordering, ordering_reverse}
 use Rattle.std.specs.declared.cmp.Ordering.{Ordering}
 use Rattle.std.specs.declared.cmp.Ordering.TheVariants.{Less, Equal, Greater}
-use Rattle.ink_model.specs.Rows.{is_before, part_order, place_order, row, rows_rise, with_row}
-use Rattle.ink_model.specs.Store.{Values, store, stored}
+use Rattle.ink_model.specs.Variables.Rows.{is_before, part_order, place_order, row, rows_rise, with_row}
+use Rattle.ink_model.specs.Variables.Store.{Values, store, stored}
 use Rattle.ink_model.specs.declared.place.Part.{Part}
 use Rattle.ink_model.specs.declared.place.Part.TheVariants.{Index, Name}
 use Rattle.ink_model.specs.declared.value.Value.{Value}

@@ -1,30 +1,30 @@
 -- Every state of a session is sound and at rest.
 use Rattle.std.proofs.Common.{◌≡◌, ap, sym, refl, subst, ℕ, List, [], ◌∷◌, inl, inr, Bool, true, false, bytes_eq, Option, Some, None, is_some, option_map, Result, Ok, Err, MatchBool}
-use Rattle.ink_model.specs.Answer.{Reply, Acts, Refuses}
-use Rattle.ink_model.specs.Told.{told}
+use Rattle.ink_model.specs.Protocol.Answer.{Reply, Acts, Refuses}
+use Rattle.ink_model.specs.Host.Told.{told}
 use Rattle.ink_model.specs.declared.fault.Fault.{Fault}
 use Rattle.ink_model.specs.declared.fault.Fault.TheVariants.{OutOfMemory}
 use Rattle.ink_model.specs.declared.fault.Refusal.TheVariants as refusal
-use Rattle.ink_model.specs.Changed.{Keeps}
-use Rattle.ink_model.specs.Choosing.{chosen, jump_place, jumped, open_choice}
-use Rattle.ink_model.specs.Command as command
-use Rattle.ink_model.specs.Command.{Command, command_of}
-use Rattle.ink_model.specs.Configuration.{Configuration, FlowOf, can_go_on, settled, unnumbered_choice, with_globals}
-use Rattle.ink_model.specs.FlowCommands.{DropsBy, DropsFrom, Goes, GoesFrom}
-use Rattle.ink_model.specs.Flows.{Game, alone, default_flow, dropped, first_flow, flows_in, goes_to, has_room, in_flow, is_flow_name, one_flow, without_flow}
-use Rattle.ink_model.specs.Host.{Bindings, value_given}
-use Rattle.ink_model.specs.Line.{EndsLine, line_end}
-use Rattle.ink_model.specs.Named.{at}
-use Rattle.ink_model.specs.Opening.{Unopened, opened, opening}
-use Rattle.ink_model.specs.Run.{Made, Moment, At, Stopped, Faulted, RunEnd, Kept, Broke, EndsThrough, answers_of, end_of, through}
-use Rattle.ink_model.specs.Memory.{FallsShort, LineFallsShort}
-use Rattle.ink_model.specs.Session.{BeginsAnew, BreaksBy, Continue, Does, EndsAs, FailsToRestart, GetsFrom, Load, LoadsBy, RestartsAs, RunsFrom, RunsLine, RunsThrough, RunsTo, SavesFrom, Serves, Session, SetsFrom, SetsIn, TellsDone, TellsOrKeeps, Through, VisitsBy, VisitsFrom, condition_told, settable}
-use Rattle.ink_model.specs.State.{State, Condition, Ready, Broken, in_game}
-use Rattle.ink_model.specs.Store.{Values, store, stored}
-use Rattle.ink_model.specs.Tree.{StoryTree}
-use Rattle.ink_model.specs.Unread.{LineFails, TextFails}
-use Rattle.ink_model.specs.Turns.{ChoosesBy, ChoosesFrom, JumpsBy, JumpsFrom, LandsFor}
-use Rattle.ink_model.specs.Visits.{entering_around, visits_by}
+use Rattle.ink_model.specs.Protocol.Changed.{OnlyRefuses}
+use Rattle.ink_model.specs.Choices.Choosing.{chosen, jump_place, jumped, open_choice}
+use Rattle.ink_model.specs.Protocol.Command as command
+use Rattle.ink_model.specs.Protocol.Command.{Command, command_of}
+use Rattle.ink_model.specs.Run.Configuration.{Configuration, FlowOf, can_go_on, settled, unnumbered_choice, with_globals}
+use Rattle.ink_model.specs.Protocol.FlowCommands.{DropsBy, DropsFrom, Goes, GoesFrom}
+use Rattle.ink_model.specs.Run.Flows.{Game, alone, default_flow, dropped, first_flow, flows_in, goes_to, has_room, in_flow, is_flow_name, one_flow, without_flow}
+use Rattle.ink_model.specs.Host.Bindings.{Bindings, value_given}
+use Rattle.ink_model.specs.Run.Line.{EndsLine, line_end}
+use Rattle.ink_model.specs.Variables.Named.{at}
+use Rattle.ink_model.specs.Run.Opening.{Unopened, opened, opening}
+use Rattle.ink_model.specs.Run.Moments.{Made, Moment, At, Stopped, Faulted, RunEnd, Kept, Broke, EndsThrough, answers_of, end_of, through}
+use Rattle.ink_model.specs.Memory.Refusals.{FallsShort, LineFallsShort}
+use Rattle.ink_model.specs.Protocol.Session.{BeginsAnew, BreaksBy, Continue, Does, EndsAs, FailsToRestart, GetsFrom, Load, LoadsBy, RestartsAs, RunsFrom, RunsLine, RunsThrough, RunsTo, SavesFrom, Serves, Session, SetsFrom, SetsIn, TellsDone, TellsOrKeeps, Through, VisitsBy, VisitsFrom, condition_told, settable}
+use Rattle.ink_model.specs.Protocol.State.{State, Condition, Ready, Broken, in_game}
+use Rattle.ink_model.specs.Variables.Store.{Values, store, stored}
+use Rattle.ink_model.specs.Story.Tree.{StoryTree}
+use Rattle.ink_model.specs.Protocol.Unread.{LineFails, TextFails}
+use Rattle.ink_model.specs.Protocol.Turns.{ChoosesBy, ChoosesFrom, JumpsBy, JumpsFrom, LandsFor}
+use Rattle.ink_model.specs.Run.Visits.{entering_around, visits_by}
 use Rattle.ink_model.specs.declared.host.Change.{Change}
 use Rattle.ink_model.specs.declared.host.Event.{Event}
 use Rattle.ink_model.specs.declared.host.Given.{Given}
@@ -46,7 +46,7 @@ module _ (s : StoryTree) where
   along : (old new : State) → new ≡ old → StateFits s old → StateFits s new
   along old new e h = subst (StateFits s) (sym e) h
 
-  kept : (refused : Reply) (old new : State) (reply : Reply) → Keeps refused old reply new → StateFits s old → StateFits s new
+  kept : (refused : Reply) (old new : State) (reply : Reply) → OnlyRefuses refused old reply new → StateFits s old → StateFits s new
   kept refused old new reply h k = along old new h.1 k
 
   told_fits : (all : Bool) (done : Condition) → ConditionFits s done → ConditionFits s (condition_told all done)
@@ -103,7 +103,7 @@ module _ (s : StoryTree) where
     where
       by : (b : Bool) → settable g ≡ b → (d : Bool)
           → MatchBool b (MatchBool d (TellsOrKeeps (told h.watches c.shared.globals ((name, value_given g) ∷ [])) (Ready (with_globals (store name (value_given g) c.shared.globals) c)) es old reply new)
-          ((es ≡ []) × Keeps (Refuses refusal.NoSuchVariable) old reply new)) ((es ≡ []) × Keeps (Refuses refusal.BadValue) old reply new)
+          ((es ≡ []) × OnlyRefuses (Refuses refusal.NoSuchVariable) old reply new)) ((es ≡ []) × OnlyRefuses (Refuses refusal.BadValue) old reply new)
           → StateFits s new
       by true e true x = tells_fits _ _ es old reply new x (
         globals_sound s (store name (value_given g) c.shared.globals) c (stored_fits s name (value_given g) c.shared.globals (settable_fits g e) sound.shared.globals) sound,
@@ -162,7 +162,7 @@ module _ (s : StoryTree) where
   goes_fit name (Ready c) old reply new h k o = by (is_flow_name name) refl (has_room name old.aside) refl h
     where
       by : (b : Bool) → is_flow_name name ≡ b → (d : Bool) → has_room name old.aside ≡ d
-          → MatchBool b (MatchBool d (Goes s name (here c old) old reply new) (Keeps (Refuses refusal.TooManyFlows) old reply new)) (Keeps (Refuses refusal.BadValue) old reply new)
+          → MatchBool b (MatchBool d (Goes s name (here c old) old reply new) (OnlyRefuses (Refuses refusal.TooManyFlows) old reply new)) (OnlyRefuses (Refuses refusal.BadValue) old reply new)
           → StateFits s new
       by true named true room (inl x) =
           let stands = here_stands c old k.0 k.1 o in
@@ -174,7 +174,7 @@ module _ (s : StoryTree) where
 
   -- by whether it is the first
   abbrev Drops : List ℕ → Configuration → State → Reply → State → Bool → Type 0
-  Drops name c old reply new first = MatchBool first (Keeps (Refuses refusal.DefaultFlow) old reply new) ((reply ≡ Acts []) × (new ≡ in_game (without_flow s name (here c old)) old))
+  Drops name c old reply new first = MatchBool first (OnlyRefuses (Refuses refusal.DefaultFlow) old reply new) ((reply ≡ Acts []) × (new ≡ in_game (without_flow s name (here c old)) old))
 
   drops_fit : (name : List ℕ) (k : Condition) (old : State) (reply : Reply) (new : State) → DropsFrom s name k old reply new → ConditionFits s k → StateFits s old → StateFits s new
   drops_fit name (Broken f globals) old reply new h k o = kept _ old new reply h o
@@ -236,7 +236,7 @@ module _ (s : StoryTree) where
     runs_from_fit Runs es (Broken f globals) old reply new does fits k o = kept _ old new reply does.1 o
     runs_from_fit Runs es (Ready c) old reply new does fits k o = by (can_go_on c) does
       where
-        by : (b : Bool) → MatchBool b ((made : List Made) × Runs c made es old reply new) ((es ≡ []) × Keeps (Refuses refusal.CannotContinue) old reply new) → StateFits s new
+        by : (b : Bool) → MatchBool b ((made : List Made) × Runs c made es old reply new) ((es ≡ []) × OnlyRefuses (Refuses refusal.CannotContinue) old reply new) → StateFits s new
         by true x = fits c x.0 k.0 x.1
         by false x = kept _ old new reply x.1 o
 

@@ -2,21 +2,21 @@
 use Rattle.std.proofs.Common.{◌≡◌, refl, subst, ℕ, zero, suc, lit≤, inl, inr, List, [], ◌∷◌, slice_get, Bool, true, if◌then◌else◌, Option, Some, None, is_some}
 use Rattle.std.proofs.lemmas.Bool.{cond_both}
 use Rattle.std.specs.List.{AllByRecursion as Each}
-use Rattle.ink_model.specs.Choices.{behind, can_take, only_invisible, taken, taken_of, visible}
-use Rattle.ink_model.specs.Choosing.{chosen, default_choice, following, jumped, open_choice, stopped_by, taken_up}
-use Rattle.ink_model.specs.Configuration.{ChoiceOf, Configuration, begun, can_go_on, current_place, ended, next_turn, put_at}
-use Rattle.ink_model.specs.Effect.{Effect, Fields, context_of, fields_of}
-use Rattle.ink_model.specs.Entered.{passed_places}
-use Rattle.ink_model.specs.Frames.{ThreadOf}
-use Rattle.ink_model.specs.Host.{Bound}
-use Rattle.ink_model.specs.Line.{Line}
-use Rattle.ink_model.specs.Move.{Outcome, Next, Stop, Faults, move}
-use Rattle.ink_model.specs.Place.{entered}
-use Rattle.ink_model.specs.Run.{Made, Moment, At, answered, came, cut_off, moment, moment_after, next, run, through}
-use Rattle.ink_model.specs.Step.{Stepped, Comes, Wants, acted, call_made, effect, gone_in, performed, step, step_at}
-use Rattle.ink_model.specs.Step.Host.{Acts, Asks, Call, CallEffect, answering, call_at, call_external}
-use Rattle.ink_model.specs.Tree.{StoryTree, at}
-use Rattle.ink_model.specs.Visits.{around, entering_around, entering_at}
+use Rattle.ink_model.specs.Choices.Making.{behind, can_take, only_invisible, choice_gone, taken_of, visible}
+use Rattle.ink_model.specs.Choices.Choosing.{chosen, default_choice, following, jumped, open_choice, stopped_by, taken_up}
+use Rattle.ink_model.specs.Run.Configuration.{ChoiceOf, Configuration, begun, can_go_on, current_place, ended, next_turn, put_at}
+use Rattle.ink_model.specs.Run.Effect.{Effect, Fields, context_of, fields_of}
+use Rattle.ink_model.specs.Run.Entered.{passed_places}
+use Rattle.ink_model.specs.Flow.Frames.{ThreadOf}
+use Rattle.ink_model.specs.Host.Bindings.{Bound}
+use Rattle.ink_model.specs.Run.Line.{Line}
+use Rattle.ink_model.specs.Run.Move.{Outcome, Next, Stop, Faults, move}
+use Rattle.ink_model.specs.Run.Place.{content_place}
+use Rattle.ink_model.specs.Run.Moments.{Made, Moment, At, answered, came, cut_off, moment, moment_after, next, run, through}
+use Rattle.ink_model.specs.Run.Step.{Stepped, Comes, Wants, acted, call_made, effect, gone_in, performed, step, step_at}
+use Rattle.ink_model.specs.Run.Step.Host.{Acts, Suspends, Call, CallEffect, answering, call_at, call_external}
+use Rattle.ink_model.specs.Story.Tree.{StoryTree, at}
+use Rattle.ink_model.specs.Run.Visits.{around, entering_around, entering_at}
 use Rattle.ink_model.specs.declared.host.Given.{Given}
 use Rattle.ink_model.specs.declared.limits.TheConstants.{MAX_STEPS}
 use Rattle.ink_model.specs.declared.place.Part.{Part}
@@ -46,7 +46,7 @@ module _ (P : ChoiceOf (List Part) → Type 0) where
   taken_finds test (c ∷ cs) (suc n) h = map_finds (λ r. P r.0) (λ r. P r.0) (taken_of test (if test c then n else suc n) cs) (behind c) (taken_finds test cs (if test c then n else suc n) h.1) (λ r k. k)
 
   pub default_finds : (cs : List (ChoiceOf (List Part))) → Each P cs → Finds P (default_choice cs)
-  default_finds cs h = cond_both (only_invisible cs) _ _ (Finds P) (λ _. map_finds (λ r. P r.0) P (taken 0 cs) (λ r. r.0) (taken_finds (can_take cs) cs 0 h) (λ r k. k)) (λ _. tt)
+  default_finds cs h = cond_both (only_invisible cs) _ _ (Finds P) (λ _. map_finds (λ r. P r.0) P (choice_gone 0 cs) (λ r. r.0) (taken_finds (can_take cs) cs 0 h) (λ r k. k)) (λ _. tt)
 
   pub visible_each : (cs : List (ChoiceOf (List Part))) → Each P cs → Each P (visible cs)
   visible_each [] h = tt
@@ -80,11 +80,11 @@ module _ (s : StoryTree) where
   gone_in_runs : (p : List Part) (c : Configuration) → current_place c ≡ Some p → Sound s c → Runs s (gone_in s p c)
   gone_in_runs p c is h = by (entering_at s p c) (entering_runs s (passed_places s p) c h) is
     where
-      here : PlaceFits s (entered s p)
+      here : PlaceFits s (content_place s p)
       here = entered_fits s p (subst (λ o. FlowStands s o c.flow.threads.below) is h.flow.threads.flow)
 
-      by : (d : Configuration) → Sound s d → current_place d ≡ Some p → Runs s (put_at (Some (entered s p)) d)
-      by d k at_place = let top = placed (entered s p) d.flow.threads.thread here k.flow.threads.thread in assumption here
+      by : (d : Configuration) → Sound s d → current_place d ≡ Some p → Runs s (put_at (Some (content_place s p)) d)
+      by d k at_place = let top = placed (content_place s p) d.flow.threads.thread here k.flow.threads.thread in assumption here
 
   module _ (story : StoryFits s) (b : Bound) where
     acted_fits : (e : Effect) (c : Configuration) → EffectFits s e → Runs s c → OutcomeFits s (acted s e c)
@@ -92,7 +92,7 @@ module _ (s : StoryTree) where
 
     made_fits : (k : CallEffect) (c : Configuration) → CallFits s k → Runs s c → SteppedFits s (call_made s k c)
     made_fits (Acts e) c k h = acted_fits e c k h
-    made_fits (Asks name arguments f) c k h = (k, h)
+    made_fits (Suspends name arguments f) c k h = (k, h)
 
     performed_fits : (p : List Part) (call : Option Call) (c : Configuration) → Runs s c → SteppedFits s (performed s b p (at s p) call c)
     performed_fits p None c h =
@@ -103,7 +103,7 @@ module _ (s : StoryTree) where
     pub step_fits : (c : Configuration) → Sound s c → SteppedFits s (step s b c)
     unfolding step
     step_fits c h = (elim (current_place c) as (λ o. current_place c ≡ o → SteppedFits s (step_at s b o c))
-        [ None ↦ λ is. h | Some p ↦ λ is. performed_fits (entered s p) (call_at (at s (entered s p))) (gone_in s p c) (gone_in_runs p c is h) ]) refl
+        [ None ↦ λ is. h | Some p ↦ λ is. performed_fits (content_place s p) (call_at (at s (content_place s p))) (gone_in s p c) (gone_in_runs p c is h) ]) refl
 
     -- ---- answers and runs
 

@@ -11,13 +11,13 @@ use Rattle.std.specs.Ordering.{nat_cmp}
 use Rattle.std.specs.Result.{result_unwrap_or}
 use Rattle.serde_json.specs.Data.{Data, null, boolean, number, string, array, object, Items, no_items, item, Members, no_members, member}
 use Rattle.serde_json.specs.Find.{as_array, get}
-use Rattle.ink_model.specs.Acceptance.{accepted, accepted_story, and_then, bad_path, bad_places, good_content, good_leaf, has_bad_path, is_absolute, leads}
-use Rattle.ink_model.specs.Grammar.{IsSpelled, content, content_of, faults, first, is_blank_object, is_empty, is_object, is_own, json, keyed_by, keyed_in, keyed_last, of_json, of_value, of_version, root_of, story, tree_of, unmarked, version_of}
-use Rattle.ink_model.specs.Leaves.{leaf_of}
-use Rattle.ink_model.specs.Path.{read_path, target}
-use Rattle.ink_model.specs.Places.{places, places_by_key, places_from}
-use Rattle.ink_model.specs.Step.Diverts.{path_of}
-use Rattle.ink_model.specs.Tree.{StoryTree, leaf, container, Trees, no_trees, tree, Keyed, no_keys, key, at, by_key, down, nth}
+use Rattle.ink_model.specs.Story.Acceptance.{accepted, accepted_story, and_then, bad_path, bad_places, good_content, good_leaf, has_bad_path, is_absolute, leads}
+use Rattle.ink_model.specs.Story.Grammar.{IsSpelled, content, content_of, faults, first, is_blank_object, is_empty, is_object, is_own, json, keyed_by, keyed_in, keyed_last, of_json, of_value, of_version, root_of, story, tree_of, unmarked, version_of}
+use Rattle.ink_model.specs.Story.Leaves.{leaf_of}
+use Rattle.ink_model.specs.Story.Path.{read_path, target}
+use Rattle.ink_model.specs.Story.Places.{places, places_by_key, places_from}
+use Rattle.ink_model.specs.Run.Step.Diverts.{path_of}
+use Rattle.ink_model.specs.Story.Tree.{StoryTree, leaf, container, Trees, no_trees, tree, Keyed, no_keys, key, at, by_key, down, nth}
 use Rattle.ink_model.specs.declared.content.Leaf.{Leaf}
 use Rattle.ink_model.specs.declared.content.Leaf.TheVariants as leaves
 use Rattle.ink_model.specs.declared.fault.Cause.{Cause}
@@ -29,7 +29,7 @@ use Rattle.ink_model.specs.declared.place.Path.{Path}
 use Rattle.ink_model.specs.declared.version.InkVersion.{InkVersion}
 use Rattle.ink_json.proofs.Narrow.{width_at}
 use Rattle.ink_json.proofs.Width.{story_narrow}
-use Rattle.ink_model.specs.Narrow.{is_narrow}
+use Rattle.ink_model.specs.Story.Narrow.{is_narrow}
 use Rattle.ink_sound.specs.Kept.{Finds, KeyedFit, LeafFits, StoryFits, TextsFit, TreeFits, TreesFit, Yields}
 use Rattle.ink_model.specs.Save.Sound.{PathFits}
 use Rattle.ink_path.proofs.Back.{reads_back}

@@ -7,15 +7,15 @@ use Rattle.std.proofs.lemmas.Slice.Eq.{bytes_eq-Decides}
 use Rattle.std.specs.Option.{option_map, option_or}
 use Rattle.serde_json.specs.Data.{Num, unsigned, negative, Data, null, boolean, number, string, array, object, Items, no_items, item, Members, no_members, member}
 use Rattle.serde_json.specs.Find.{of_integer}
-use Rattle.ink_model.specs.Configuration.{ChoiceOf, Configuration, FlowOf}
-use Rattle.ink_model.specs.Events.{items_of}
-use Rattle.ink_model.specs.Flows.{Game, all_flows, alone, current_name, holes}
-use Rattle.ink_model.specs.Frames.{FrameOf, ThreadOf, ThreadsOf}
-use Rattle.ink_model.specs.Leaves.{is_small}
-use Rattle.ink_model.specs.Named.{Rows, at}
-use Rattle.ink_model.specs.Output.{empty_page}
-use Rattle.ink_model.specs.Path.{path_text, read_path}
-use Rattle.ink_model.specs.ValueJson.{value_data}
+use Rattle.ink_model.specs.Run.Configuration.{ChoiceOf, Configuration, FlowOf}
+use Rattle.ink_model.specs.Host.Events.{items_of}
+use Rattle.ink_model.specs.Run.Flows.{Game, all_flows, alone, current_name, holes}
+use Rattle.ink_model.specs.Flow.Frames.{FrameOf, ThreadOf, ThreadsOf}
+use Rattle.ink_model.specs.Story.Leaves.{is_small}
+use Rattle.ink_model.specs.Variables.Named.{Rows, at}
+use Rattle.ink_model.specs.Text.Output.{empty_page}
+use Rattle.ink_model.specs.Story.Path.{path_text, read_path}
+use Rattle.ink_model.specs.Protocol.ValueJson.{value_data}
 use Rattle.ink_model.specs.declared.frame.FrameKind.TheVariants.{Base, Function, Tunnel}
 use Rattle.ink_model.specs.declared.place.Part.{Part}
 use Rattle.ink_model.specs.declared.place.Part.TheVariants.{Index, Name}

@@ -4,9 +4,9 @@ use Rattle.std.proofs.lemmas.Bool.{cond_both}
 use Rattle.std.proofs.lemmas.Bool.Decides.{nat_tests}
 use Rattle.std.specs.List.{AllByRecursion as Each}
 use Rattle.std.specs.Option.{option_map, option_or}
-use Rattle.ink_model.specs.Effect.{Effect, Fields, Moves, or_else, or_fault, popping, pushing}
-use Rattle.ink_model.specs.Stack.{popped, pushed}
-use Rattle.ink_model.specs.Tree.{StoryTree}
+use Rattle.ink_model.specs.Run.Effect.{Effect, Fields, Moves, or_else, or_fault, popping, pushing}
+use Rattle.ink_model.specs.Values.Stack.{popped, pushed}
+use Rattle.ink_model.specs.Story.Tree.{StoryTree}
 use Rattle.ink_model.specs.declared.fault.Fault.{Fault}
 use Rattle.ink_model.specs.declared.fault.Fault.TheVariants.{StackEmpty}
 use Rattle.ink_model.specs.declared.limits.TheConstants.{MAX_STACK}

@@ -3,17 +3,17 @@ use Rattle.std.proofs.Common.{◌≡◌, ap, refl, arith, ℕ, zero, suc, ◌+�
 use Rattle.std.proofs.lemmas.Bool.{cond_both}
 use Rattle.std.proofs.lemmas.Cmp.{nat_list_cmp_total}
 use Rattle.std.specs.List.{AllByRecursion as Each}
-use Rattle.ink_model.specs.Bases.{BaseFirst}
-use Rattle.ink_model.specs.Effect.{Context, Fields}
-use Rattle.ink_model.specs.Frames.{FrameOf, ThreadOf, frame_numbered}
-use Rattle.ink_model.specs.Leaves.{is_small}
-use Rattle.ink_model.specs.Rows.{name_order, row}
-use Rattle.ink_model.specs.Step.Evaluation.{push_value}
-use Rattle.ink_model.specs.Step.Variables as step
-use Rattle.ink_model.specs.Store.{Values, store, stored}
-use Rattle.ink_model.specs.Threads.{changed, frame_count, with_row_in, with_temp}
-use Rattle.ink_model.specs.Tree.{StoryTree}
-use Rattle.ink_model.specs.Variables.{assign, assign_at, chain_end, declare, declared, held, kept, kept_pointer, last_pointer, named, on_pointer, point, read, stands, value_at, with_declared, with_held, with_named}
+use Rattle.ink_model.specs.Flow.Bases.{BaseFirst}
+use Rattle.ink_model.specs.Run.Effect.{Context, Fields}
+use Rattle.ink_model.specs.Flow.Frames.{FrameOf, ThreadOf, frame_numbered}
+use Rattle.ink_model.specs.Story.Leaves.{is_small}
+use Rattle.ink_model.specs.Variables.Rows.{name_order, row}
+use Rattle.ink_model.specs.Run.Step.Evaluation.{push_value}
+use Rattle.ink_model.specs.Run.Step.Variables as step
+use Rattle.ink_model.specs.Variables.Store.{Values, store, stored}
+use Rattle.ink_model.specs.Flow.Threads.{changed, frame_count, with_row_in, with_temp}
+use Rattle.ink_model.specs.Story.Tree.{StoryTree}
+use Rattle.ink_model.specs.Variables.Access.{assign, assign_at, chain_end, declare, declared, held, kept, kept_pointer, last_pointer, named, on_pointer, point, read, stands, value_at, with_declared, with_held, with_named}
 use Rattle.ink_model.specs.declared.fault.Fault.{Fault}
 use Rattle.ink_model.specs.declared.frame.FrameKind.{FrameKind}
 use Rattle.ink_model.specs.declared.limits.TheConstants.{MAX_FRAMES}

@@ -1,8 +1,8 @@
 -- Which commands leave the flows that stand aside as they were, and which do not look at them.
 use Rattle.std.specs.Prelude.{ℕ, List, [], ◌∷◌, ◌++◌, Bool, true, false, is_some, if◌then◌else◌, Option, Some}
-use Rattle.ink_model.specs.Command as command
-use Rattle.ink_model.specs.Command.{Command}
-use Rattle.ink_model.specs.Named.{Rows, at}
+use Rattle.ink_model.specs.Protocol.Command as command
+use Rattle.ink_model.specs.Protocol.Command.{Command}
+use Rattle.ink_model.specs.Variables.Named.{Rows, at}
 
 -- it goes to no flow, drops none and does not begin anew; a line that is no command does nothing
 abbrev pub keeps_flows : Option Command → Bool

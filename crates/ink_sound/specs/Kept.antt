@@ -1,21 +1,21 @@
 -- What holds of stories, effects and moments where configurations are sound: the parts of the proof that each step keeps them so.
 use Rattle.std.specs.Prelude.{◌≡◌, ◌≢◌, ◌<◌, ◌≤◌, ◌^◌, List, length, IsTrue, Option, Some, None, Result, Ok, Err}
 use Rattle.std.specs.List.{AllByRecursion as Each}
-use Rattle.ink_model.specs.Bytes.{fits_text}
-use Rattle.ink_model.specs.Configuration.{Configuration, FlowOf}
-use Rattle.ink_model.specs.Effect.{Context, Effect, Fields, Moves, Stores, Offers, Lands, Calls, Returns, Forks, Done, Ends, Fails}
-use Rattle.ink_model.specs.Flow.{Written, Reached, Reaches, Halts, Breaks, Ending, Continues, Finishes, Collapses}
-use Rattle.ink_model.specs.Flows.{Aside, begins_with_default, holes, is_flow_name}
-use Rattle.ink_model.specs.Frames.{place_in}
-use Rattle.ink_model.specs.Leaves.{is_small}
-use Rattle.ink_model.specs.Move.{Outcome, Next, Stop, Faults, place_to}
-use Rattle.ink_model.specs.Named.{once}
-use Rattle.ink_model.specs.Run.{Moment, At, Stopped, Faulted, Waits}
-use Rattle.ink_model.specs.State.{State, Condition, Ready, Broken}
-use Rattle.ink_model.specs.Step.{Stepped, Comes, Wants}
-use Rattle.ink_model.specs.Step.Diverts.{path_of}
-use Rattle.ink_model.specs.Step.Host.{CallEffect, Acts, Asks}
-use Rattle.ink_model.specs.Tree.{StoryTree, leaf, container, Trees, no_trees, tree, Keyed, no_keys, key, at, width}
+use Rattle.ink_model.specs.Text.Bytes.{fits_text}
+use Rattle.ink_model.specs.Run.Configuration.{Configuration, FlowOf}
+use Rattle.ink_model.specs.Run.Effect.{Context, Effect, Fields, Moves, Stores, Offers, Lands, Calls, Returns, Forks, Done, Ends, Fails}
+use Rattle.ink_model.specs.Flow.Transfers.{Written, Reached, Reaches, Halts, Breaks, Ending, Continues, Finishes, Collapses}
+use Rattle.ink_model.specs.Run.Flows.{Aside, begins_with_default, holes, is_flow_name}
+use Rattle.ink_model.specs.Flow.Frames.{place_in}
+use Rattle.ink_model.specs.Story.Leaves.{is_small}
+use Rattle.ink_model.specs.Run.Move.{Outcome, Next, Stop, Faults, place_to}
+use Rattle.ink_model.specs.Variables.Named.{once}
+use Rattle.ink_model.specs.Run.Moments.{Moment, At, Stopped, Faulted, Waits}
+use Rattle.ink_model.specs.Protocol.State.{State, Condition, Ready, Broken}
+use Rattle.ink_model.specs.Run.Step.{Stepped, Comes, Wants}
+use Rattle.ink_model.specs.Run.Step.Diverts.{path_of}
+use Rattle.ink_model.specs.Run.Step.Host.{CallEffect, Acts, Suspends}
+use Rattle.ink_model.specs.Story.Tree.{StoryTree, leaf, container, Trees, no_trees, tree, Keyed, no_keys, key, at, width}
 use Rattle.ink_model.specs.declared.content.Leaf.{Leaf}
 use Rattle.ink_model.specs.declared.content.Leaf.TheVariants as leaves
 use Rattle.ink_model.specs.declared.fault.Fault.{Fault}
@@ -81,7 +81,7 @@ EffectFits s (Fails fault) = Unit {0}
 -- what a call of an external function comes to
 abbrev pub CallFits : StoryTree → CallEffect → Type 0
 CallFits s (Acts e) = EffectFits s e
-CallFits s (Asks name arguments f) = FieldsFit s f
+CallFits s (Suspends name arguments f) = FieldsFit s f
 
 -- ---- flow
 

@@ -1,21 +1,21 @@
 -- The laws: a story that is opened is sound, each step and each command keeps that, and a spelling is read as what it spells.
 use Rattle.std.specs.Prelude.{◌≡◌, ℕ, ◌≤◌, List, [], ◌++◌, codes, true, false, Ok, Option, Some}
 use Rattle.std.specs.Str.{is_utf8}
-use Rattle.ink_model.specs.Acceptance.{accepted_story, bad_places}
-use Rattle.ink_model.specs.Answer.{Reply, Saves, answer}
-use Rattle.ink_model.specs.Configuration.{Configuration, FlowOf, can_go_on, settled}
-use Rattle.ink_model.specs.Flows.{Aside, FlowsOf, Game, all_flows, begins_with_default, current_name, dropped, goes_to, holes}
-use Rattle.ink_model.specs.Grammar.{IsSpelled}
-use Rattle.ink_model.specs.Host.{Bindings, Bound}
-use Rattle.ink_model.specs.Line.{Line}
-use Rattle.ink_model.specs.Named.{without}
-use Rattle.ink_model.specs.Opening.{opened, opening}
-use Rattle.ink_model.specs.Run.{Made, At, moment}
-use Rattle.ink_model.specs.Session.{Does, Session}
-use Rattle.ink_model.specs.State.{Ready, State}
-use Rattle.ink_model.specs.Step.{step}
-use Rattle.ink_model.specs.Tree.{StoryTree}
-use Rattle.ink_model.specs.Command.{Command, Load, command_of, json_of}
+use Rattle.ink_model.specs.Story.Acceptance.{accepted_story, bad_places}
+use Rattle.ink_model.specs.Protocol.Answer.{Reply, Saves, answer}
+use Rattle.ink_model.specs.Run.Configuration.{Configuration, FlowOf, can_go_on, settled}
+use Rattle.ink_model.specs.Run.Flows.{Aside, FlowsOf, Game, all_flows, begins_with_default, current_name, dropped, goes_to, holes}
+use Rattle.ink_model.specs.Story.Grammar.{IsSpelled}
+use Rattle.ink_model.specs.Host.Bindings.{Bindings, Bound}
+use Rattle.ink_model.specs.Run.Line.{Line}
+use Rattle.ink_model.specs.Variables.Named.{without}
+use Rattle.ink_model.specs.Run.Opening.{opened, opening}
+use Rattle.ink_model.specs.Run.Moments.{Made, At, moment}
+use Rattle.ink_model.specs.Protocol.Session.{Does, Session}
+use Rattle.ink_model.specs.Protocol.State.{Ready, State}
+use Rattle.ink_model.specs.Run.Step.{step}
+use Rattle.ink_model.specs.Story.Tree.{StoryTree}
+use Rattle.ink_model.specs.Protocol.Command.{Command, Load, command_of, json_of}
 use Rattle.ink_model.specs.declared.host.Event.{Event}
 use Rattle.ink_model.specs.declared.host.Given.{Given}
 use Rattle.ink_model.specs.declared.place.Part.{Part}

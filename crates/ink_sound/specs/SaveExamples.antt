@@ -6,24 +6,24 @@ use Rattle.serde_json.proofs.OnLiterals.{serde_json_on_literals}
 use Rattle.serde_json.specs.Data.{Data, null, boolean, number, string, array, object, no_items, item, Members, no_members, member, unsigned, negative, float}
 use Rattle.serde_json.specs.Read.{read}
 use Rattle.serde_json.specs.Written.{compact_text}
-use Rattle.ink_model.specs.Bases.{BaseFirst}
-use Rattle.ink_model.specs.CallStories.{does, now, says, stack_in, story}
-use Rattle.ink_model.specs.Configuration.{ChoiceOf, Configuration, fresh_at, settled, start}
-use Rattle.ink_model.specs.Entered.{entered_places, passed_places}
-use Rattle.ink_model.specs.Flows.{Game, alone, begins_with_default, default_flow, is_flow_name, one_flow}
-use Rattle.ink_model.specs.Frames.{FrameOf, ThreadOf, base_frame}
-use Rattle.ink_model.specs.Answer.{Acts}
-use Rattle.ink_model.specs.Host.{no_objects, nothing_bound}
-use Rattle.ink_model.specs.Output.{empty_page}
-use Rattle.ink_model.specs.Path.{is_place, read_path}
-use Rattle.ink_model.specs.Place.{entered, next_place}
-use Rattle.ink_model.specs.Rows.{place_order, rows_rise}
-use Rattle.ink_model.specs.Run.{moment, run}
-use Rattle.ink_model.specs.Session.{Load}
-use Rattle.ink_model.specs.State.{Broken, Ready}
-use Rattle.ink_model.specs.Step.{step}
-use Rattle.ink_model.specs.Tree.{StoryTree, leaf}
-use Rattle.ink_model.specs.ValueJson.{value_data}
+use Rattle.ink_model.specs.Flow.Bases.{BaseFirst}
+use Rattle.ink_model.specs.Examples.CallStories.{does, now, says, stack_in, story}
+use Rattle.ink_model.specs.Run.Configuration.{ChoiceOf, Configuration, fresh_at, settled, start}
+use Rattle.ink_model.specs.Run.Entered.{entered_places, passed_places}
+use Rattle.ink_model.specs.Run.Flows.{Game, alone, begins_with_default, default_flow, is_flow_name, one_flow}
+use Rattle.ink_model.specs.Flow.Frames.{FrameOf, ThreadOf, base_frame}
+use Rattle.ink_model.specs.Protocol.Answer.{Acts}
+use Rattle.ink_model.specs.Host.Bindings.{no_objects, nothing_bound}
+use Rattle.ink_model.specs.Text.Output.{empty_page}
+use Rattle.ink_model.specs.Story.Path.{is_place, read_path}
+use Rattle.ink_model.specs.Run.Place.{content_place, next_place}
+use Rattle.ink_model.specs.Variables.Rows.{place_order, rows_rise}
+use Rattle.ink_model.specs.Run.Moments.{moment, run}
+use Rattle.ink_model.specs.Protocol.Session.{Load}
+use Rattle.ink_model.specs.Protocol.State.{Broken, Ready}
+use Rattle.ink_model.specs.Run.Step.{step}
+use Rattle.ink_model.specs.Story.Tree.{StoryTree, leaf}
+use Rattle.ink_model.specs.Protocol.ValueJson.{value_data}
 use Rattle.ink_model.specs.declared.content.Control.TheVariants as control
 use Rattle.ink_model.specs.declared.content.Leaf.TheVariants as leaves
 use Rattle.ink_model.specs.declared.fault.Fault.TheVariants as fault
@@ -240,7 +240,7 @@ evaluating t = story (does control.BeginEval ∷ t ∷ []) [] []
 
 a_relative_target : stack_in (now (moment (evaluating (leaf (leaves.Target (codes ".^")))) nothing_bound (start (evaluating (leaf (leaves.Target (codes ".^")))) []) [] 2))
     ≡ value.Target (record { relative = true; parts = Name (codes "^") ∷ [] }) ∷ []
-unfolding run step start fresh_at entered next_place passed_places entered_places read_path
+unfolding run step start fresh_at content_place next_place passed_places entered_places read_path
 a_relative_target = refl
 
 -- ---- places, frames and rows

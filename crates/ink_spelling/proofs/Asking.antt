@@ -2,14 +2,14 @@
 use Rattle.std.proofs.Common.{◌≡◌, ◌∙◌, ◌⊎◌, inl, inr, refl, sym, subst, ℕ, List, [], ◌∷◌, reverse, codes, Bool, true, false, ◌||◌, is_some, Option, Some, None, option_and_then, Result, Ok, Err, OnErr}
 use Rattle.std.specs.Option.{option_map, option_or}
 use Rattle.serde_json.specs.Data.{Data, array, object, string, Items, no_items, item, Members, member}
-use Rattle.ink_model.specs.Configuration.{ChoiceOf, Configuration}
-use Rattle.ink_model.specs.Frames.{ThreadOf, ThreadsOf}
+use Rattle.ink_model.specs.Run.Configuration.{ChoiceOf, Configuration}
+use Rattle.ink_model.specs.Flow.Frames.{ThreadOf, ThreadsOf}
 use Rattle.ink_model.specs.declared.place.Part.{Part}
 use Rattle.ink_model.specs.declared.value.Value.{Value as Spelled}
 use Rattle.ink_model.specs.Save.Asks.{both_ask, choice_asks, counts_ask, items_ask, list_asks, load_asks, members_ask, none_asks, pair_asks, rows_ask, spelled_asks, take_asks, text_asks, thread_asks, threads_ask, turn_asks, value_asks}
 use Rattle.ink_spelling.proofs.Lists.{member_is}
 use Rattle.json_tape.specs.Shape.{first_member}
-use Rattle.ink_spelling.specs.Words.{two_ask, two_in}
+use Rattle.ink_spelling.specs.Readings.{two_ask, two_in}
 use Rattle.ink_model.specs.Save.Unspelled.{Layout, First, Second, Spelled as Game, all_of, choice_of, count_of, format_of, from_threads, from_turn, layout_of, list_of, next_named, pair_of, place_of, spelled_by, take, text_of, thread_in, threads_with, truth_of, unspelled_by, value_of}
 
 or_true : (b : Bool) → b || true ≡ true

@@ -3,7 +3,7 @@ use Rattle.std.proofs.Common.{◌≡◌, ◌∙◌, sym, ap, refl, subst, ℕ, s
 use Rattle.serde_json.specs.Data.{Data, array, Items, no_items, item, Members, no_members, member}
 use Rattle.ink_model.specs.declared.value.Value.{Value}
 use Rattle.json_tape.specs.Shape.{first_item, first_member}
-use Rattle.ink_spelling.specs.Words.{pair_by, two_in}
+use Rattle.ink_spelling.specs.Readings.{pair_by, two_in}
 use Rattle.ink_model.specs.Save.Unspelled.{all_of, pair_of, rows_of, value_of}
 
 pub count : Items → ℕ

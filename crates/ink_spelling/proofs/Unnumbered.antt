@@ -4,9 +4,9 @@ use Rattle.std.proofs.lemmas.List.{map-append, reverse-append}
 use Rattle.std.specs.List.{AllByRecursion as Each}
 use Rattle.std.specs.Option.{option_map, option_or}
 use Rattle.serde_json.specs.Data.{Data, array, object, Items, no_items, item, Members, no_members, member}
-use Rattle.ink_model.specs.Configuration.{ChoiceOf, Configuration, FlowOf, settled, unnumbered_choice, unnumbered_flow}
-use Rattle.ink_model.specs.Frames.{FrameOf, ThreadOf, ThreadsOf, unnumbered_frame, unnumbered_thread, unnumbered_threads}
-use Rattle.ink_model.specs.Output.{empty_page}
+use Rattle.ink_model.specs.Run.Configuration.{ChoiceOf, Configuration, FlowOf, settled, unnumbered_choice, unnumbered_flow}
+use Rattle.ink_model.specs.Flow.Frames.{FrameOf, ThreadOf, ThreadsOf, unnumbered_frame, unnumbered_thread, unnumbered_threads}
+use Rattle.ink_model.specs.Text.Output.{empty_page}
 use Rattle.ink_model.specs.declared.place.Part.{Part}
 use Rattle.ink_model.specs.declared.value.Value.{Value}
 use Rattle.ink_model.specs.Save.Reads.{Rests}

@@ -1,7 +1,7 @@
 -- What is read of a save, in either layout.
 use Rattle.std.specs.Prelude.{◌≡◌}
 use Rattle.std.specs.List.{AllByRecursion as Each}
-use Rattle.ink_model.specs.Configuration.{unnumbered_flow}
+use Rattle.ink_model.specs.Run.Configuration.{unnumbered_flow}
 use Rattle.ink_model.specs.Save.Reads.{Rests}
 use Rattle.ink_model.specs.Save.Unspelled.{Layout}
 use Rattle.ink_model.specs.Save.Unspelled as spelled

@@ -24,7 +24,7 @@ pub struct SavedChoice {
 
 impl Model for SavedChoice {
     ghost use Rattle.std.specs.Prelude.{List};
-    ghost use Rattle.ink_model.specs.Configuration.{ChoiceOf};
+    ghost use Rattle.ink_model.specs.Run.Configuration.{ChoiceOf};
     ghost use Rattle.ink_model.specs.declared.place.Part.{Part};
 
     ghost Value = { ChoiceOf (List Part) };

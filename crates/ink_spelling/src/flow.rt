@@ -2,7 +2,7 @@
 
 ghost use Rattle.std.specs.Prelude.{◌≡◌, IfOk, OnErr, true};
 ghost use Rattle.ink_model.specs.Save.Unspelled.{named_flow_by, named_flow_of};
-ghost use Rattle.ink_spelling.specs.Words.{flow_from_safe, named_flow_asks, named_flow_asks_by, safe_asks};
+ghost use Rattle.ink_spelling.specs.Readings.{flow_from_safe, named_flow_asks, named_flow_asks_by, safe_asks};
 
 use crate::choice::SavedChoice;
 use crate::members::{alone, next_spelled};
@@ -25,7 +25,7 @@ pub struct SavedFlow {
 
 impl Model for SavedFlow {
     ghost use Rattle.std.specs.Prelude.{List};
-    ghost use Rattle.ink_model.specs.Configuration.{FlowOf};
+    ghost use Rattle.ink_model.specs.Run.Configuration.{FlowOf};
     ghost use Rattle.ink_model.specs.declared.place.Part.{Part};
 
     ghost Value = { FlowOf (List Part) };
@@ -42,7 +42,7 @@ pub struct NamedFlow {
 
 impl Model for NamedFlow {
     ghost use Rattle.std.specs.Prelude.{ℕ, List};
-    ghost use Rattle.ink_model.specs.Configuration.{FlowOf};
+    ghost use Rattle.ink_model.specs.Run.Configuration.{FlowOf};
     ghost use Rattle.ink_model.specs.declared.place.Part.{Part};
 
     ghost Value = { List ℕ × FlowOf (List Part) };

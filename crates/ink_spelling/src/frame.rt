@@ -25,7 +25,7 @@ pub struct SavedFrame {
 
 impl Model for SavedFrame {
     ghost use Rattle.std.specs.Prelude.{List, None};
-    ghost use Rattle.ink_model.specs.Frames.{FrameOf};
+    ghost use Rattle.ink_model.specs.Flow.Frames.{FrameOf};
     ghost use Rattle.ink_model.specs.declared.place.Part.{Part};
 
     ghost Value = { FrameOf (List Part) };

@@ -3,7 +3,7 @@
 ghost use Rattle.std.specs.Prelude.{◌≡◌, IfOk, OnErr, true};
 ghost use Rattle.ink_model.specs.Save.Asks.{spelled_asks};
 ghost use Rattle.ink_model.specs.Save.Unspelled.{spelled_by};
-ghost use Rattle.ink_spelling.specs.Words.{spelled_from_flows, spelled_from_globals};
+ghost use Rattle.ink_spelling.specs.Readings.{spelled_from_flows, spelled_from_globals};
 
 use crate::flow::NamedFlow;
 use crate::members::{alone, next_named, next_spelled};

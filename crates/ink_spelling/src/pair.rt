@@ -2,7 +2,7 @@
 
 ghost use Rattle.std.specs.Prelude.{◌≡◌, IfOk, OnErr, option_map, true};
 ghost use Rattle.serde_json.specs.Data.{array};
-ghost use Rattle.ink_spelling.specs.Words.{pair_by, two_ask, two_in};
+ghost use Rattle.ink_spelling.specs.Readings.{pair_by, two_ask, two_in};
 ghost use Rattle.ink_model.specs.Save.Asks.{pair_asks};
 ghost use Rattle.ink_model.specs.Save.Unspelled.{pair_of};
 

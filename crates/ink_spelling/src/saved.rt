@@ -27,7 +27,7 @@ pub struct SavedShared {
 
 impl Model for SavedShared {
     ghost use Rattle.std.specs.Prelude.{List};
-    ghost use Rattle.ink_model.specs.Configuration.{SharedOf};
+    ghost use Rattle.ink_model.specs.Run.Configuration.{SharedOf};
     ghost use Rattle.ink_model.specs.declared.place.Part.{Part};
 
     ghost Value = { SharedOf (List Part) };
@@ -43,8 +43,8 @@ pub struct Saved {
 }
 
 impl Model for Saved {
-    ghost use Rattle.ink_model.specs.Configuration.{Configuration};
-    ghost use Rattle.ink_model.specs.Output.{empty_page};
+    ghost use Rattle.ink_model.specs.Run.Configuration.{Configuration};
+    ghost use Rattle.ink_model.specs.Text.Output.{empty_page};
 
     ghost Value = { Configuration };
 

@@ -19,7 +19,7 @@ pub struct SavedTemps {
 }
 
 impl Model for SavedTemps {
-    ghost use Rattle.ink_model.specs.Store.{Values};
+    ghost use Rattle.ink_model.specs.Variables.Store.{Values};
 
     ghost Value = { Values };
 

@@ -22,7 +22,7 @@ pub struct SavedThread {
 
 impl Model for SavedThread {
     ghost use Rattle.std.specs.Prelude.{List, reverse};
-    ghost use Rattle.ink_model.specs.Frames.{ThreadOf};
+    ghost use Rattle.ink_model.specs.Flow.Frames.{ThreadOf};
     ghost use Rattle.ink_model.specs.declared.place.Part.{Part};
 
     ghost Value = { ThreadOf (List Part) };
@@ -90,7 +90,7 @@ pub struct SavedThreads {
 
 impl Model for SavedThreads {
     ghost use Rattle.std.specs.Prelude.{List, reverse};
-    ghost use Rattle.ink_model.specs.Frames.{ThreadsOf};
+    ghost use Rattle.ink_model.specs.Flow.Frames.{ThreadsOf};
     ghost use Rattle.ink_model.specs.declared.place.Part.{Part};
 
     ghost Value = { ThreadsOf (List Part) };

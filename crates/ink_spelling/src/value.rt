@@ -2,11 +2,11 @@
 
 ghost use Rattle.json_tape.specs.Number.{num};
 ghost use Rattle.std.specs.Prelude.{◌≡◌, IfOk, IfSome, OnErr, is_some, option_map, true};
-ghost use Rattle.ink_model.specs.Path as rules;
+ghost use Rattle.ink_model.specs.Story.Path as rules;
 ghost use Rattle.ink_model.specs.Save.Asks.{object_asks, path_asks, pointer_asks, tag_asks, target_asks, value_asks};
 ghost use Rattle.ink_model.specs.Save.Unspelled.{number_integer, path_in, pointer_in, tag_in, target_in, value_of};
 ghost use Rattle.ink_model.specs.declared.value.Value.TheVariants.{Int};
-ghost use Rattle.ink_spelling.specs.Words.{IsRead, ReadsSame, path_of, value_by};
+ghost use Rattle.ink_spelling.specs.Readings.{IsRead, ReadsSame, path_of, value_by};
 
 use crate::members::{alone, next_named, next_spelled};
 use crate::plain::{shared_text, small_integer};
@@ -25,7 +25,7 @@ pub struct SavedValue {
 
 impl Model for SavedValue {
     ghost use Rattle.ink_model.specs.declared.value.Value as model;
-    ghost use Rattle.ink_spelling.specs.Words.{IsRead};
+    ghost use Rattle.ink_spelling.specs.Readings.{IsRead};
 
     ghost Value = { model.Value };
 

@@ -2,8 +2,8 @@
 use Rattle.std.proofs.Common.{◌≡◌, ◌∙◌, ◌≤◌, ◌<◌, ◌+◌, ◌-◌, MatchOption, arith, drop, get_or, length, option_to_list, ℕ, List, [], ◌∷◌, ◌++◌, Bool, true, false, Option, Some, None, Result, Ok, Err, ap, append_assoc, if◌then◌else◌, is_some, nat_eq, nat_lt, refl, reverse, subst, suc, sym}
 use Rattle.std.proofs.Math.Seq.{get_or-append_seam}
 use Rattle.std.proofs.lemmas.List.{length-append, length-reverse, reverse-append, reverse-reverse}
-use Rattle.ink_model.specs.Frames.{FrameOf, ThreadOf, ThreadsOf, gone, mode_in, on_top, put_in}
-use Rattle.ink_model.specs.Threads.{back_to, doubled, frame_count, new_frame, number_in, popped, pushed, same_kind, thread_count}
+use Rattle.ink_model.specs.Flow.Frames.{FrameOf, ThreadOf, ThreadsOf, gone, mode_in, on_top, put_in}
+use Rattle.ink_model.specs.Flow.Threads.{back_to, doubled, frame_count, new_frame, number_in, frame_popped, frame_pushed, same_kind, thread_count}
 use Rattle.ink_model.specs.declared.fault.Fault.{Fault}
 use Rattle.ink_model.specs.declared.fault.Fault.TheVariants.{BadMode, BadPop, OutOfMemory, TooDeep}
 use Rattle.ink_model.specs.declared.frame.FrameKind.{FrameKind}
@@ -14,7 +14,7 @@ use Rattle.ink_stack.specs.Cells.{number_back, ungone, unpopped, unpushed}
 use Rattle.ink_stack.specs.Running.{RunningView, threads_in}
 use Rattle.ink_stack.specs.Threads.{ThreadsView}
 use Rattle.ink_stack.specs.Undo.{HasGone, HasMode, threads_back, threads_spare, threads_stood}
-use Rattle.ink_stack.specs.Words.{Changes, Grows}
+use Rattle.ink_stack.specs.Outcomes.{Changes, Grows}
 use Rattle.ink_stack.specs.declared.undo.ThreadsPair.{ThreadsPair}
 use Rattle.ink_stack.specs.declared.undo.ThreadsPair.TheVariants.{Placed, Gone, Evaluating, Numbered, ThreadPushed, ThreadPopped}
 
@@ -86,15 +86,15 @@ module _ {P : Type 0} where
 
   -- ---- frames
 
-  pub unpushed-grown : (k : FrameKind) (d : ℕ) (t new : ThreadOf P) {U : Type 0} (x : Result U Fault) (u : U) → x ≡ Ok u → Grows (pushed k d t) t new x → unpushed new ≡ t
-  unpushed-grown k d t new x u is h = by (nat_lt (frame_count t) MAX_FRAMES) (subst (λ y. Grows (pushed k d t) t new y) is h)
+  pub unpushed-grown : (k : FrameKind) (d : ℕ) (t new : ThreadOf P) {U : Type 0} (x : Result U Fault) (u : U) → x ≡ Ok u → Grows (frame_pushed k d t) t new x → unpushed new ≡ t
+  unpushed-grown k d t new x u is h = by (nat_lt (frame_count t) MAX_FRAMES) (subst (λ y. Grows (frame_pushed k d t) t new y) is h)
     where
       by : (b : Bool) → Grows (if b then Ok (record t { frame = new_frame k t.frame.place d; below = t.frame ∷ t.below }) else Err TooDeep) t new (Ok u) → unpushed new ≡ t
       by true is = ap unpushed is
       by false is = absurd is
 
-  pub unpopped-changed : (k : FrameKind) (d : ℕ) (t new : ThreadOf P) {U : Type 0} (x : Result U Fault) (u : U) → x ≡ Ok u → Changes (popped k d t) t new x → unpopped t.frame new ≡ t
-  unpopped-changed k d t new x u is h = by (same_kind t.frame.kind k) (subst (λ y. Changes (popped k d t) t new y) is h)
+  pub unpopped-changed : (k : FrameKind) (d : ℕ) (t new : ThreadOf P) {U : Type 0} (x : Result U Fault) (u : U) → x ≡ Ok u → Changes (frame_popped k d t) t new x → unpopped t.frame new ≡ t
+  unpopped-changed k d t new x u is h = by (same_kind t.frame.kind k) (subst (λ y. Changes (frame_popped k d t) t new y) is h)
     where
       to : (f : FrameOf P) (fs : List (FrameOf P)) → f ∷ fs ≡ t.below → (b : Bool) → Changes (if b then Ok (record t { frame = f; below = fs }) else Err BadMode) t new (Ok u) → unpopped t.frame new ≡ t
       to f fs is true h = ap (unpopped t.frame) h ∙ ap (λ gs. record t { below = gs }) is

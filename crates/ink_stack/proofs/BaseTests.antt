@@ -4,8 +4,8 @@ use Rattle.std.proofs.Math.Bool.{and_comm, and-true}
 use Rattle.std.proofs.lemmas.List.{reverse-append}
 use Rattle.std.proofs.lemmas.List.Folds.{list_all-append}
 use Rattle.std.specs.List.{list_all}
-use Rattle.ink_model.specs.Bases.{BaseFirst}
-use Rattle.ink_model.specs.Frames.{FrameOf}
+use Rattle.ink_model.specs.Flow.Bases.{BaseFirst}
+use Rattle.ink_model.specs.Flow.Frames.{FrameOf}
 use Rattle.ink_model.specs.declared.frame.FrameKind.{FrameKind}
 use Rattle.ink_model.specs.declared.frame.FrameKind.TheVariants.{Base, Function, Tunnel}
 use Rattle.ink_stack.specs.Saving.{base_first, is_call}

@@ -3,8 +3,8 @@ use Rattle.std.proofs.Common.{◌≡◌, ◌≢◌, ◌∙◌, ◌<◌, ◌≤�
 use Rattle.std.proofs.lemmas.Bool.{cases_lt}
 use Rattle.std.proofs.lemmas.Bool.Decides.{nat_tests}
 use Rattle.std.proofs.lemmas.List.{get_or-set_same, get_or_default, get_or_past, length-append, length-replicate, length-reverse, reverse-append, set-get_or}
-use Rattle.ink_model.specs.Frames.{FrameOf, unnumbered_frame}
-use Rattle.ink_model.specs.Store.{Values}
+use Rattle.ink_model.specs.Flow.Frames.{FrameOf, unnumbered_frame}
+use Rattle.ink_model.specs.Variables.Store.{Values}
 use Rattle.ink_model.specs.declared.value.Value.{Value}
 use Rattle.ink_stack.specs.Cells.{temp_back, temps_back}
 use Rattle.ink_stack.specs.Frames.{FitsIn, Room, frame_with, framed, is_bare, unnumbered, with_temps}

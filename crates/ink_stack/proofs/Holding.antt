@@ -1,8 +1,8 @@
 -- There is room for what is put back of frames and threads.
 use Rattle.std.proofs.Common.{◌≡◌, ◌∙◌, ◌≤◌, ◌<◌, ℕ, List, [], ◌∷◌, ◌++◌, Bool, false, Option, Some, None, ap, arith, is_some, length, refl, subst, sym}
 use Rattle.std.proofs.lemmas.List.{length-append, length-reverse}
-use Rattle.ink_model.specs.Bases.{BaseFirst}
-use Rattle.ink_model.specs.Frames.{ThreadOf, ThreadsOf, gone, mode_in, on_top}
+use Rattle.ink_model.specs.Flow.Bases.{BaseFirst}
+use Rattle.ink_model.specs.Flow.Frames.{ThreadOf, ThreadsOf, gone, mode_in, on_top}
 use Rattle.ink_trail.proofs.Staying.{stays-more, stays-now, stays-with}
 use Rattle.ink_trail.specs.Undo.{Undo, trail_of, with_count, with_pair}
 use Rattle.ink_stack.proofs.Backs.{gone-is, mode-is}

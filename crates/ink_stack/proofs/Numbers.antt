@@ -3,9 +3,9 @@ use Rattle.std.proofs.Common.{◌≡◌, ◌≢◌, ◌∙◌, ◌<◌, ◌≤�
 use Rattle.std.proofs.lemmas.Bool.Decides.{nat_tests}
 use Rattle.std.proofs.lemmas.List.{drop_more, get_or-set_same, length-reverse, length-take-le, reverse-append, set-get_or, set_split, take-append-drop}
 use Rattle.std.proofs.lemmas.Result.{on_err_weaker, on_ok_weaker}
-use Rattle.ink_model.specs.Frames.{FrameOf, ThreadOf, frame_numbered, is_function}
-use Rattle.ink_model.specs.Rows.{name_order, row}
-use Rattle.ink_model.specs.Threads.{changed, frame_count, temp_in, with_row_in, with_temp}
+use Rattle.ink_model.specs.Flow.Frames.{FrameOf, ThreadOf, frame_numbered, is_function}
+use Rattle.ink_model.specs.Variables.Rows.{name_order, row}
+use Rattle.ink_model.specs.Flow.Threads.{changed, frame_count, temp_in, with_row_in, with_temp}
 use Rattle.ink_model.specs.declared.value.Value.{Value}
 use Rattle.ink_stack.specs.Quiet.{IsQuiet}
 

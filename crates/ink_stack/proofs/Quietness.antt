@@ -2,8 +2,8 @@
 use Rattle.std.proofs.Common.{◌≡◌, ◌∙◌, ℕ, ◌+◌, ◌≤◌, ◌<◌, List, [], ◌∷◌, ◌++◌, Bool, true, false, Option, Some, None, IfSome, ap, append_assoc, arith, drop, get_or, length, map, nat_eq, refl, reverse, set, subst, sym, take}
 use Rattle.std.proofs.lemmas.Bool.Decides.{nat_tests}
 use Rattle.std.proofs.lemmas.List.{append-nil, drop-set, reverse-append, take-append-drop, take_more}
-use Rattle.ink_model.specs.Frames.{FrameOf, is_function, unnumbered_frame}
-use Rattle.ink_model.specs.Threads.{stale, stale_run}
+use Rattle.ink_model.specs.Flow.Frames.{FrameOf, is_function, unnumbered_frame}
+use Rattle.ink_model.specs.Flow.Threads.{stale, stale_run}
 use Rattle.ink_stack.proofs.Runs.{first_stale, first_stays}
 use Rattle.ink_stack.specs.Quiet.{Covers, IsQuiet}
 

@@ -4,8 +4,8 @@ use Rattle.std.proofs.lemmas.Bool.{and_from}
 use Rattle.std.proofs.lemmas.Cmp.{nat_list_cmp_total}
 use Rattle.std.proofs.lemmas.Map.Lookups.{exact_bytes}
 use Rattle.std.specs.Ordering.{match_ordering, ordering_reverse}
-use Rattle.ink_model.specs.Rows.{is_before, name_order, rows_rise, with_row}
-use Rattle.ink_model.specs.Store.{Values}
+use Rattle.ink_model.specs.Variables.Rows.{is_before, name_order, rows_rise, with_row}
+use Rattle.ink_model.specs.Variables.Store.{Values}
 use Rattle.ink_model.specs.declared.value.Value.{Value}
 
 pub both : (x y : Bool) → (x && y) ≡ true → (x ≡ true) × (y ≡ true)

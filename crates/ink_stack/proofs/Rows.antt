@@ -3,8 +3,8 @@ use Rattle.std.proofs.Common.{◌≡◌, ◌∙◌, ◌<◌, ◌+◌, add-one, �
 use Rattle.std.proofs.lemmas.List.{drop_more, get_or_default, set_split, take_more}
 use Rattle.std.proofs.lemmas.Map.Lookups.{exact_bytes}
 use Rattle.std.specs.declared.cmp.Ordering.TheVariants.{Equal, Greater}
-use Rattle.ink_model.specs.Rows.{name_order, row, with_row}
-use Rattle.ink_model.specs.Store.{Values}
+use Rattle.ink_model.specs.Variables.Rows.{name_order, row, with_row}
+use Rattle.ink_model.specs.Variables.Store.{Values}
 use Rattle.ink_model.specs.declared.value.Value.{Value}
 use Rattle.ink_stack.specs.Rows.{FindsName}
 

@@ -9,8 +9,8 @@ use Rattle.std.proofs.lemmas.Slice.Eq.{bytes_eq-Decides}
 use Rattle.std.specs.Cmp.{Equal-is}
 use Rattle.std.specs.List.Sorted.{IsBinarySearchResult, IsNonDecreasingBy, IsSearchInRange}
 use Rattle.std.specs.Ordering.{match_ordering, ordering_index, ordering_reverse}
-use Rattle.ink_model.specs.Rows.{is_before, name_order, row, rows_rise, with_row}
-use Rattle.ink_model.specs.Store.{Values}
+use Rattle.ink_model.specs.Variables.Rows.{is_before, name_order, row, rows_rise, with_row}
+use Rattle.ink_model.specs.Variables.Store.{Values}
 use Rattle.ink_model.specs.declared.value.Value.{Value}
 use Rattle.ink_model.specs.declared.value.Value.TheVariants.{Void}
 use Rattle.ink_stack.proofs.Rises.{both, is_less}

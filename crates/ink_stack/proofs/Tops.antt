@@ -3,15 +3,15 @@ use Rattle.std.proofs.Common.{◌≡◌, ◌∙◌, ◌<◌, ◌≤◌, ◌+◌,
 use Rattle.std.proofs.lemmas.Bool.Decides.{nat_tests}
 use Rattle.std.proofs.lemmas.List.{reverse-append}
 use Rattle.std.proofs.lemmas.Result.{IfOk-weaker, on_err_weaker, on_ok_weaker}
-use Rattle.ink_model.specs.Frames.{FrameOf, ThreadOf, ThreadsOf}
-use Rattle.ink_model.specs.Rows.{name_order, row}
-use Rattle.ink_model.specs.Threads.{back_to, doubled, dropped, dropped_to, frame_count, popped, same_kind, temp_in, thread_count, with_row_in, with_temp}
+use Rattle.ink_model.specs.Flow.Frames.{FrameOf, ThreadOf, ThreadsOf}
+use Rattle.ink_model.specs.Variables.Rows.{name_order, row}
+use Rattle.ink_model.specs.Flow.Threads.{back_to, doubled, dropped, dropped_to, frame_count, frame_popped, same_kind, temp_in, thread_count, with_row_in, with_temp}
 use Rattle.ink_model.specs.declared.fault.Fault.TheVariants.{OutOfMemory, TooDeep}
 use Rattle.ink_model.specs.declared.frame.FrameKind.{FrameKind}
 use Rattle.ink_model.specs.declared.limits.TheConstants.{MAX_THREADS}
 use Rattle.ink_model.specs.declared.value.Value.{Value}
 use Rattle.ink_stack.specs.Cells.{temp_back, with_frame}
-use Rattle.ink_stack.specs.Words.{Changes, Grows}
+use Rattle.ink_stack.specs.Outcomes.{Changes, Grows}
 use Rattle.ink_stack.proofs.Framing.{framed_top}
 use Rattle.ink_stack.proofs.Numbers.{same_number}
 
@@ -28,7 +28,7 @@ module _ {P : Type 0} where
   popped_to d t f g h fs depth top = rw (depth, same_number d) (ap (λ e. record t { frame = e; below = fs }) top)
 
   pub popped_made : {U : Type 0} (k : FrameKind) (d : ℕ) (t : ThreadOf P) (f g : FrameOf P) (h : U) (fs : List (FrameOf P)) → same_kind t.frame.kind k ≡ true → t.frame.depth ≡ d → t.below ≡ f ∷ fs → g ≡ f
-      → Changes (popped k d t) t (record t { frame = g; below = fs }) (Ok h)
+      → Changes (frame_popped k d t) t (record t { frame = g; below = fs }) (Ok h)
   popped_made k d t f g h fs kind depth under top =
       rw kind (subst (λ gs. Changes (back_to gs d t) t (record t { frame = g; below = fs }) (Ok h)) (sym under) (popped_to d t f g h fs depth top))
 

@@ -1,9 +1,9 @@
 -- What cells of a thread held, put back.
 use Rattle.std.specs.Prelude.{◌<◌, ℕ, zero, suc, List, [], ◌∷◌, length, remove, nat_eq, Bool, false, if◌then◌else◌, Option, Some, None}
-use Rattle.ink_model.specs.Bases.{BaseFirst}
-use Rattle.ink_model.specs.Frames.{FrameOf, ThreadOf}
-use Rattle.ink_model.specs.Store.{Values}
-use Rattle.ink_model.specs.Threads.{changed, frame_count}
+use Rattle.ink_model.specs.Flow.Bases.{BaseFirst}
+use Rattle.ink_model.specs.Flow.Frames.{FrameOf, ThreadOf}
+use Rattle.ink_model.specs.Variables.Store.{Values}
+use Rattle.ink_model.specs.Flow.Threads.{changed, frame_count}
 use Rattle.ink_model.specs.declared.limits.TheConstants.{MAX_FRAMES}
 use Rattle.ink_model.specs.declared.value.Value.{Value}
 use Rattle.ink_stack.specs.Frames.{FitsIn, Room}

@@ -1,8 +1,8 @@
 -- Frames as they are kept: headers, and the temporaries of the lowest ones. In a list of headers the bottom one is the first, and so
 -- it is in `framed`; in `with_temps` and `FitsIn` the top frame is.
 use Rattle.std.specs.Prelude.{◌≤◌, ℕ, suc, zero, List, [], ◌∷◌, length, Bool, true, false, if◌then◌else◌, None}
-use Rattle.ink_model.specs.Frames.{FrameOf}
-use Rattle.ink_model.specs.Store.{Values}
+use Rattle.ink_model.specs.Flow.Frames.{FrameOf}
+use Rattle.ink_model.specs.Variables.Store.{Values}
 use Rattle.ink_stack.specs.declared.frame.Header.{Header}
 
 -- how many frames fit without memory, and how many of these with temporaries, from the bottom on

@@ -1,6 +1,6 @@
 pub mod Running
 pub mod Threads
-pub mod Words
+pub mod Outcomes
 pub mod Calls
 pub mod Quiet
 pub mod Rows

@@ -1,6 +1,6 @@
 -- What a thread keeps in mind of the frames below its top one.
 use Rattle.std.specs.Prelude.{◌≡◌, ◌≤◌, ◌<◌, ⊤, ℕ, List, [], ◌∷◌, Bool, true, not, ◌&&◌, is_some, Option, IfSome, IsSomeAnd}
-use Rattle.ink_model.specs.Frames.{FrameOf, is_function}
+use Rattle.ink_model.specs.Flow.Frames.{FrameOf, is_function}
 
 -- of the function frames that come first each fresh one was pushed where fewer sections were open
 abbrev pub IsQuiet : {P : Type 0} → ℕ → List (FrameOf P) → Type 0

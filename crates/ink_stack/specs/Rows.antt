@@ -1,7 +1,7 @@
 -- Where a name stands among the rows of a frame.
 use Rattle.std.specs.Prelude.{◌≡◌, ◌<◌, ◌≤◌, ℕ, List, ◌∷◌, ◌++◌, length, get_or, set, take, drop, Some, None, Result, Ok, Err}
-use Rattle.ink_model.specs.Rows.{name_order, row, with_row}
-use Rattle.ink_model.specs.Store.{Values}
+use Rattle.ink_model.specs.Variables.Rows.{name_order, row, with_row}
+use Rattle.ink_model.specs.Variables.Store.{Values}
 use Rattle.ink_model.specs.declared.value.Value.{Value}
 
 -- Found, a name's value is read and written at its row; else the name has no value, and a new row would stand there.

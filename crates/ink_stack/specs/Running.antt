@@ -1,6 +1,6 @@
 -- The thread that runs, as contracts see it.
 use Rattle.std.specs.Prelude.{List, reverse}
-use Rattle.ink_model.specs.Frames.{ThreadOf, ThreadsOf}
+use Rattle.ink_model.specs.Flow.Frames.{ThreadOf, ThreadsOf}
 use Rattle.ink_stack.specs.Frames.{Room}
 
 -- its frames and its previous place, and the room for frames below the top one

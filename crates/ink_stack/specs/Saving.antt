@@ -2,10 +2,10 @@
 use Rattle.std.specs.Prelude.{ℕ, List, [], ◌∷◌, length, reverse, Bool, true, false, not, ◌&&◌, nat_le, if◌then◌else◌, Option, Some, None}
 use Rattle.std.specs.List.{list_all}
 use Rattle.std.specs.Ordering.{is_lt}
-use Rattle.ink_model.specs.Frames.{FrameOf, ThreadOf, ThreadsOf}
-use Rattle.ink_model.specs.Rows.{name_order}
-use Rattle.ink_model.specs.Store.{Values}
-use Rattle.ink_model.specs.Threads.{same_kind}
+use Rattle.ink_model.specs.Flow.Frames.{FrameOf, ThreadOf, ThreadsOf}
+use Rattle.ink_model.specs.Variables.Rows.{name_order}
+use Rattle.ink_model.specs.Variables.Store.{Values}
+use Rattle.ink_model.specs.Flow.Threads.{same_kind}
 use Rattle.ink_model.specs.declared.frame.FrameKind.{FrameKind}
 use Rattle.ink_model.specs.declared.frame.FrameKind.TheVariants.{Base}
 use Rattle.ink_model.specs.declared.limits.TheConstants.{MAX_FRAMES, MAX_THREADS}

@@ -1,5 +1,5 @@
 -- Threads, as contracts see them.
-use Rattle.ink_model.specs.Frames.{ThreadsOf}
+use Rattle.ink_model.specs.Flow.Frames.{ThreadsOf}
 use Rattle.ink_trail.specs.Undo.{TrailView}
 use Rattle.ink_stack.specs.declared.undo.ThreadsPair.{ThreadsPair}
 

@@ -1,6 +1,6 @@
 -- How changes of frames and threads are put back.
 use Rattle.std.specs.Prelude.{⊤, ◌≤◌, ◌<◌, ℕ, List, ◌∷◌, length, drop, true, vec_capacity, Option}
-use Rattle.ink_model.specs.Frames.{ThreadsOf, mode_in, on_top, put_in}
+use Rattle.ink_model.specs.Flow.Frames.{ThreadsOf, mode_in, on_top, put_in}
 use Rattle.ink_model.specs.declared.limits.TheConstants.{MAX_THREADS}
 use Rattle.ink_trail.specs.Stays.{Stays}
 use Rattle.ink_trail.specs.Undo.{spare, stood_at}

@@ -2,15 +2,15 @@
 
 ghost use Rattle.std.specs.Prelude.{◌≡◌, ◌≢◌, ◌<◌, ◌≤◌, [], None, true, option_map, IfOk, IfSome, IsSomeAnd, OnOk, OnErr};
 ghost use Rattle.std.specs.Bool.{OnTrue, OnFalse};
-ghost use Rattle.ink_model.specs.Frames.{fresh_depth, is_function};
-ghost use Rattle.ink_model.specs.Rows.{name_order, row};
-ghost use Rattle.ink_model.specs.Threads.{new_frame, same_kind, stale, with_row_in};
+ghost use Rattle.ink_model.specs.Flow.Frames.{fresh_depth, is_function};
+ghost use Rattle.ink_model.specs.Variables.Rows.{name_order, row};
+ghost use Rattle.ink_model.specs.Flow.Threads.{new_frame, same_kind, stale, with_row_in};
 ghost use Rattle.ink_stack.specs.Calls.{frame_kind};
 ghost use Rattle.ink_stack.specs.Cells.{temp_back, with_fresh};
 ghost use Rattle.ink_stack.specs.Frames.{frame_with, is_bare};
 ghost use Rattle.ink_stack.specs.Quiet.{Covers};
 ghost use Rattle.ink_stack.specs.Temps.{text_of};
-ghost use Rattle.ink_model.specs.Store.{Values};
+ghost use Rattle.ink_model.specs.Variables.Store.{Values};
 
 use crate::temps::{TempName, Temps};
 use ink_model::{FrameKind, Value};
@@ -110,7 +110,7 @@ impl<P: Drop> Drop for Frame<P> {
 }
 
 impl<P> Model for Frame<P> {
-    ghost use Rattle.ink_model.specs.Frames.{FrameOf};
+    ghost use Rattle.ink_model.specs.Flow.Frames.{FrameOf};
 
     ghost Value = { FrameOf P };
 

@@ -2,9 +2,9 @@
 
 ghost use Rattle.std.specs.Prelude.{◌≡◌, ◌≢◌, [], ◌∷◌, ◌++◌, ◌<◌, ◌≤◌, ◌+◌, ◌-◌, None, true, get_or, length, map, option_map, replicate, reverse, set, vec_capacity, IfOk, OnOk, OnErr, MatchOption};
 ghost use Rattle.std.specs.Bool.{OnTrue, OnFalse};
-ghost use Rattle.ink_model.specs.Frames.{FrameOf, is_function, unnumbered_frame};
-ghost use Rattle.ink_model.specs.Rows.{name_order, row};
-ghost use Rattle.ink_model.specs.Threads.{stale, with_row_in};
+ghost use Rattle.ink_model.specs.Flow.Frames.{FrameOf, is_function, unnumbered_frame};
+ghost use Rattle.ink_model.specs.Variables.Rows.{name_order, row};
+ghost use Rattle.ink_model.specs.Flow.Threads.{stale, with_row_in};
 ghost use Rattle.ink_stack.specs.Cells.{temp_back, with_fresh};
 ghost use Rattle.ink_stack.specs.Frames.{FitsIn, MoreRoom, unnumbered};
 ghost use Rattle.ink_stack.specs.Quiet.{Covers};

@@ -1,7 +1,7 @@
 //! The frames below the top one of a thread as a list.
 
 ghost use Rattle.std.specs.Prelude.{◌≡◌, ◌≢◌, [], ◌<◌, get_or, length, IfOk, OnErr};
-ghost use Rattle.ink_model.specs.Frames.{FrameOf};
+ghost use Rattle.ink_model.specs.Flow.Frames.{FrameOf};
 
 use crate::frame::Frame;
 use crate::frames::Frames;

@@ -2,16 +2,16 @@
 
 ghost use Rattle.std.specs.Prelude.{◌≡◌, ◌≢◌, ◌⊎◌, [], ◌∷◌, ◌<◌, ◌≤◌, None, Some, true, option_map, reverse, IfOk, IfSome, OnOk, OnErr};
 ghost use Rattle.std.specs.Bool.{OnTrue, OnFalse};
-ghost use Rattle.ink_model.specs.Bases.{BaseFirst};
-ghost use Rattle.ink_model.specs.Frames.{base_frame, fresh_depth, frame_numbered, gone, is_function, mode_in, put_in, unnumbered_thread};
+ghost use Rattle.ink_model.specs.Flow.Bases.{BaseFirst};
+ghost use Rattle.ink_model.specs.Flow.Frames.{base_frame, fresh_depth, frame_numbered, gone, is_function, mode_in, put_in, unnumbered_thread};
 ghost use Rattle.ink_model.specs.declared.limits.TheConstants.{MAX_FRAMES};
-ghost use Rattle.ink_model.specs.Threads.{frame_count, number_in, popped, pushed, stale, stale_run, staled, temp_in, with_temp};
+ghost use Rattle.ink_model.specs.Flow.Threads.{frame_count, number_in, frame_popped, frame_pushed, stale, stale_run, staled, temp_in, with_temp};
 ghost use Rattle.ink_stack.specs.Calls.{frame_kind};
 ghost use Rattle.ink_stack.specs.Cells.{Within, holds_of, number_back, temp_back, ungone, unpopped, unpushed, with_frame, with_fresh};
 ghost use Rattle.ink_stack.specs.Frames.{MoreRoom};
 ghost use Rattle.ink_stack.specs.Quiet.{IsQuiet};
 ghost use Rattle.ink_stack.specs.Temps.{text_of};
-ghost use Rattle.ink_stack.specs.Words.{Changes, Grows};
+ghost use Rattle.ink_stack.specs.Outcomes.{Changes, Grows};
 
 use crate::frame::{CallKind, Frame, Header};
 use crate::frames::Frames;
@@ -52,7 +52,7 @@ impl<P: Drop> Drop for Running<P> {
 
 impl<P> Model for Running<P> {
     ghost use Rattle.std.specs.Prelude.{◌≡◌, reverse, ◌<◌, length, false, true, IfSome};
-    ghost use Rattle.ink_model.specs.Bases.{BaseFirst};
+    ghost use Rattle.ink_model.specs.Flow.Bases.{BaseFirst};
     ghost use Rattle.ink_model.specs.declared.limits.TheConstants.{MAX_FRAMES};
     ghost use Rattle.ink_stack.specs.Quiet.{IsQuiet, is_unnumbered};
     ghost use Rattle.ink_stack.specs.Running.{RunningView};
@@ -227,7 +227,7 @@ impl<P: Copy> Running<P> {
     }
 
     pub(crate) fn push(&mut self, kind: CallKind, depth: usize) -> Result<(), Fault>
-        ensures thread { Grows (pushed (frame_kind kind) depth self.old.thread) self.old.thread self.new.thread result }
+        ensures thread { Grows (frame_pushed (frame_kind kind) depth self.old.thread) self.old.thread self.new.thread result }
         ensures room { MoreRoom self.old.room self.new.room }
     {
         if self.frames() >= MAX_FRAMES {
@@ -245,7 +245,7 @@ impl<P: Copy> Running<P> {
 
     // Pops a frame, and hands it out.
     pub(crate) fn pop(&mut self, kind: FrameKind, depth: usize) -> Result<Frame<P>, Fault>
-        ensures thread { Changes (popped kind depth self.old.thread) self.old.thread self.new.thread result }
+        ensures thread { Changes (frame_popped kind depth self.old.thread) self.old.thread self.new.thread result }
         ensures frame { IfOk result (λ frame. frame ≡ self.old.thread.frame) }
         ensures room { self.new.room ≡ self.old.room }
     {
@@ -266,7 +266,7 @@ impl<P: Copy> Running<P> {
 
     // The same, and the frame goes. Its temporaries may keep their memory for those that come next.
     pub(crate) fn pop_away(&mut self, kind: FrameKind, depth: usize) -> Result<(), Fault>
-        ensures thread { Changes (popped kind depth self.old.thread) self.old.thread self.new.thread result }
+        ensures thread { Changes (frame_popped kind depth self.old.thread) self.old.thread self.new.thread result }
         ensures room { self.new.room ≡ self.old.room }
     {
         if self.below.len() == 0 || !self.frame.is(kind) {

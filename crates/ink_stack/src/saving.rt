@@ -2,7 +2,7 @@
 
 ghost use Rattle.std.specs.Prelude.{◌≡◌, ◌≢◌, ◌<◌, ◌≤◌, [], true, length, option_map, reverse, IfOk, IfSome, OnErr, Some, None, if◌then◌else◌};
 ghost use Rattle.std.specs.List.{list_all};
-ghost use Rattle.ink_model.specs.Rows.{name_order, rows_rise};
+ghost use Rattle.ink_model.specs.Variables.Rows.{name_order, rows_rise};
 ghost use Rattle.ink_model.specs.declared.limits.TheConstants.{MAX_FRAMES, MAX_THREADS};
 ghost use Rattle.ink_stack.specs.Saving.{base_first, is_after, is_call, rise_after, thread_from, thread_with, threads_from, threads_with};
 ghost use Rattle.ink_stack.specs.Undo.{threads_stood};

@@ -2,7 +2,7 @@
 
 ghost use Rattle.std.specs.Prelude.{◌≡◌, ◌≢◌, [], None, true, option_map, remove, IfOk, OnOk, OnErr};
 ghost use Rattle.std.specs.Bool.{OnTrue, OnFalse};
-ghost use Rattle.ink_model.specs.Rows.{name_order, row, rows_rise, with_row};
+ghost use Rattle.ink_model.specs.Variables.Rows.{name_order, row, rows_rise, with_row};
 ghost use Rattle.ink_stack.specs.Cells.{temps_back, value_at};
 ghost use Rattle.ink_stack.specs.Rows.{FindsName};
 ghost use Rattle.ink_stack.specs.Temps.{text_of};
@@ -56,8 +56,8 @@ impl Drop for Temps {
 
 impl Model for Temps {
     ghost use Rattle.std.specs.Prelude.{◌≡◌, true};
-    ghost use Rattle.ink_model.specs.Rows.{name_order, rows_rise};
-    ghost use Rattle.ink_model.specs.Store.{Values};
+    ghost use Rattle.ink_model.specs.Variables.Rows.{name_order, rows_rise};
+    ghost use Rattle.ink_model.specs.Variables.Store.{Values};
 
     ghost Value = { Values };
 

@@ -1,7 +1,7 @@
 //! Threads that do not run.
 
 ghost use Rattle.std.specs.Prelude.{◌≡◌, ◌≢◌, ◌⊎◌, [], IfOk, OnErr};
-ghost use Rattle.ink_model.specs.Frames.{unnumbered_thread};
+ghost use Rattle.ink_model.specs.Flow.Frames.{unnumbered_thread};
 ghost use Rattle.ink_stack.specs.Cells.{Within};
 
 use crate::running::Running;
@@ -15,7 +15,7 @@ pub struct Thread<P> {
 }
 
 impl<P> Model for Thread<P> {
-    ghost use Rattle.ink_model.specs.Frames.{ThreadOf};
+    ghost use Rattle.ink_model.specs.Flow.Frames.{ThreadOf};
 
     ghost Value = { ThreadOf P };
 

@@ -1,15 +1,15 @@
 //! The threads of a running story.
 
 ghost use Rattle.std.specs.Prelude.{◌≡◌, ◌≢◌, ◌⊎◌, ◌<◌, ◌≤◌, ◌+◌, [], None, Some, is_some, length, map, option_map, true, unwrap_or, vec_capacity, IfOk, IfErr, OnOk, OnErr};
-ghost use Rattle.ink_model.specs.Flow.{is_last};
-ghost use Rattle.ink_model.specs.Frames.{base_threads, fresh_depth, gone, mode_in, on_top, place_in, put_in, unnumbered_thread, unnumbered_threads};
-ghost use Rattle.ink_model.specs.Threads.{alone, doubled, dropped, frame_count, number_in, popped, pushed, staled, temp_in, thread_count, top_result, with_temp};
+ghost use Rattle.ink_model.specs.Flow.Transfers.{is_last};
+ghost use Rattle.ink_model.specs.Flow.Frames.{base_threads, fresh_depth, gone, mode_in, on_top, place_in, put_in, unnumbered_thread, unnumbered_threads};
+ghost use Rattle.ink_model.specs.Flow.Threads.{alone, doubled, dropped, frame_count, number_in, frame_popped, frame_pushed, staled, temp_in, thread_count, top_result, with_temp};
 ghost use Rattle.ink_model.specs.declared.limits.TheConstants.{MAX_THREADS};
 ghost use Rattle.ink_stack.specs.Calls.{frame_kind};
 ghost use Rattle.ink_stack.specs.Running.{threads_in};
 ghost use Rattle.ink_stack.specs.Temps.{text_of};
 ghost use Rattle.ink_stack.specs.Undo.{HasGone, HasMode, threads_back, threads_spare, threads_stood};
-ghost use Rattle.ink_stack.specs.Words.{Changes, Grows};
+ghost use Rattle.ink_stack.specs.Outcomes.{Changes, Grows};
 ghost use Rattle.ink_trail.specs.Undo.{KeepsTrail, Notes, Trails, TrailsOrKeeps, trail_of};
 
 use crate::frame::{CallKind, Header};
@@ -289,7 +289,7 @@ impl<P: Copy> Threads<P> {
     /// `depth` says how many sections are open. `TooDeep` where the thread has 1,000 frames; `OutOfMemory` for a refused
     /// request for memory. On an error nothing has changed (docs/FRAMES.md, "Frames").
     pub fn push_frame(&mut self, kind: CallKind, depth: usize) -> Result<(), Fault>
-        ensures threads { Grows (top_result (pushed (frame_kind kind) depth self.old.threads.thread) self.old.threads) self.old.threads self.new.threads result }
+        ensures threads { Grows (top_result (frame_pushed (frame_kind kind) depth self.old.threads.thread) self.old.threads) self.old.threads self.new.threads result }
         ensures trail { TrailsOrKeeps threads_back 1 self.old.threads self.old.trail self.new.threads self.new.trail result }
         ensures stood { threads_stood self.new ≡ threads_stood self.old }
         ensures spare { threads_spare self.old ≤ threads_spare self.new + 1 }
@@ -306,7 +306,7 @@ impl<P: Copy> Threads<P> {
     #[cold]
     #[inline(never)]
     fn push_frame_marked(&mut self, kind: CallKind, depth: usize) -> Result<(), Fault>
-        ensures threads { Grows (top_result (pushed (frame_kind kind) depth self.old.threads.thread) self.old.threads) self.old.threads self.new.threads result }
+        ensures threads { Grows (top_result (frame_pushed (frame_kind kind) depth self.old.threads.thread) self.old.threads) self.old.threads self.new.threads result }
         ensures trail { TrailsOrKeeps threads_back 1 self.old.threads self.old.trail self.new.threads self.new.trail result }
         ensures stood { threads_stood self.new ≡ threads_stood self.old }
         ensures spare { threads_spare self.old ≤ threads_spare self.new + 1 }
@@ -328,7 +328,7 @@ impl<P: Copy> Threads<P> {
     /// (docs/FRAMES.md, "Frames").
     pub fn pop_frame(&mut self, kind: FrameKind, depth: usize) -> Result<(), Fault>
         requires room { 1 ≤ threads_spare self.old }
-        ensures threads { Changes (top_result (popped kind depth self.old.threads.thread) self.old.threads) self.old.threads self.new.threads result }
+        ensures threads { Changes (top_result (frame_popped kind depth self.old.threads.thread) self.old.threads) self.old.threads self.new.threads result }
         ensures trail { TrailsOrKeeps threads_back 1 self.old.threads self.old.trail self.new.threads self.new.trail result }
         ensures stood { threads_stood self.new ≡ threads_stood self.old }
         ensures spare { threads_spare self.old ≤ threads_spare self.new + 1 }
@@ -346,7 +346,7 @@ impl<P: Copy> Threads<P> {
     #[inline(never)]
     fn pop_frame_marked(&mut self, kind: FrameKind, depth: usize) -> Result<(), Fault>
         requires room { 1 ≤ threads_spare self.old }
-        ensures threads { Changes (top_result (popped kind depth self.old.threads.thread) self.old.threads) self.old.threads self.new.threads result }
+        ensures threads { Changes (top_result (frame_popped kind depth self.old.threads.thread) self.old.threads) self.old.threads self.new.threads result }
         ensures trail { TrailsOrKeeps threads_back 1 self.old.threads self.old.trail self.new.threads self.new.trail result }
         ensures stood { threads_stood self.new ≡ threads_stood self.old }
         ensures spare { threads_spare self.old ≤ threads_spare self.new + 1 }

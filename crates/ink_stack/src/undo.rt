@@ -1,8 +1,8 @@
 //! How changes of frames and threads are put back.
 
 ghost use Rattle.std.specs.Prelude.{◌≡◌, ◌≤◌, ◌<◌, ◌+◌, is_some, length, refl, reverse, true, vec_capacity};
-ghost use Rattle.ink_model.specs.Frames.{ThreadsOf};
-ghost use Rattle.ink_model.specs.Threads.{frame_count, stale, stale_run, staled};
+ghost use Rattle.ink_model.specs.Flow.Frames.{ThreadsOf};
+ghost use Rattle.ink_model.specs.Flow.Threads.{frame_count, stale, stale_run, staled};
 ghost use Rattle.ink_stack.specs.Cells.{with_frame};
 ghost use Rattle.ink_stack.specs.Running.{threads_in};
 ghost use Rattle.ink_stack.specs.Undo.{HasGone, HasMode, Held, More, StaysHeld, rooms_of, threads_back, threads_spare, threads_stood};

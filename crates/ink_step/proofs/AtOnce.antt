@@ -1,21 +1,21 @@
 -- A value is stored at once, and flow goes on.
 use Rattle.std.proofs.Common.{◌≡◌, ◌∙◌, ap, subst, sym, refl, true, false, if◌then◌else◌, is_some, Bool, ℕ, ℤ, List, Option, Some, None, Result, Ok, option_map}
 use Rattle.std.specs.Option.{option_or}
-use Rattle.ink_model.specs.Choosing.{following}
-use Rattle.ink_model.specs.Configuration.{Configuration}
-use Rattle.ink_model.specs.Effect.{Effect, context_of, fields_of, or_else}
-use Rattle.ink_model.specs.Flow.{moved_on}
-use Rattle.ink_model.specs.Frames.{ThreadOf}
-use Rattle.ink_model.specs.Move.{Next, Outcome, going}
-use Rattle.ink_model.specs.Place.{next_place}
-use Rattle.ink_model.specs.Stack.{popped}
-use Rattle.ink_model.specs.Step.{acted}
-use Rattle.ink_model.specs.Step.Variables.{assign, declare, storing}
-use Rattle.ink_model.specs.Store.{Values, store, stored}
-use Rattle.ink_model.specs.Tree.{StoryTree}
-use Rattle.ink_model.specs.VariableMemory.{is_pointer}
-use Rattle.ink_model.specs.Variables as variables
-use Rattle.ink_model.specs.Variables.{on_pointer}
+use Rattle.ink_model.specs.Choices.Choosing.{following}
+use Rattle.ink_model.specs.Run.Configuration.{Configuration}
+use Rattle.ink_model.specs.Run.Effect.{Effect, context_of, fields_of, or_else}
+use Rattle.ink_model.specs.Flow.Transfers.{moved_on}
+use Rattle.ink_model.specs.Flow.Frames.{ThreadOf}
+use Rattle.ink_model.specs.Run.Move.{Next, Outcome, going}
+use Rattle.ink_model.specs.Run.Place.{next_place}
+use Rattle.ink_model.specs.Values.Stack.{popped}
+use Rattle.ink_model.specs.Run.Step.{acted}
+use Rattle.ink_model.specs.Run.Step.Variables.{assign, declare, storing}
+use Rattle.ink_model.specs.Variables.Store.{Values, store, stored}
+use Rattle.ink_model.specs.Story.Tree.{StoryTree}
+use Rattle.ink_model.specs.Memory.Variables.{is_pointer}
+use Rattle.ink_model.specs.Variables.Access as variables
+use Rattle.ink_model.specs.Variables.Access.{on_pointer}
 use Rattle.ink_model.specs.declared.fault.Fault.{Fault}
 use Rattle.ink_model.specs.declared.fault.Fault.TheVariants.{StackEmpty}
 use Rattle.ink_model.specs.declared.scope.Scope.TheVariants.{Global}

@@ -1,14 +1,14 @@
 -- Choices over spots and over places; where they lead.
 use Rattle.std.proofs.Common.{◌≡◌, ◌∙◌, ◌⊎◌, inl, inr, ap, sym, refl, subst, ℕ, zero, suc, List, [], ◌∷◌, map, Bool, true, false, ◌&&◌, ◌||◌, if◌then◌else◌, slice_get, Option, Some, None, option_map, Ok, Err}
 use Rattle.ink_choice.proofs.Nth.{taken_visible}
-use Rattle.ink_choice.specs.Words.{Takes}
-use Rattle.ink_model.specs.Choices.{none_visible, only_invisible, taken, visible}
-use Rattle.ink_model.specs.Choosing.{chosen, default_asks, default_choice, jumped, open_choice, stopped_by, taken_up}
-use Rattle.ink_model.specs.Configuration.{ChoiceOf, Configuration, can_go_on, map_choice}
-use Rattle.ink_model.specs.Counts.{CountsOf, one_more}
-use Rattle.ink_model.specs.Entered.{entered_places}
-use Rattle.ink_model.specs.Tree.{StoryTree}
-use Rattle.ink_model.specs.Visits.{all_visited, entering_around, entering_asks}
+use Rattle.ink_choice.specs.Outcomes.{Takes}
+use Rattle.ink_model.specs.Choices.Making.{none_visible, only_invisible, choice_gone, visible}
+use Rattle.ink_model.specs.Choices.Choosing.{chosen, default_asks, default_choice, jumped, open_choice, stopped_by, taken_up}
+use Rattle.ink_model.specs.Run.Configuration.{ChoiceOf, Configuration, can_go_on, map_choice}
+use Rattle.ink_model.specs.Variables.Counts.{CountsOf, one_more}
+use Rattle.ink_model.specs.Run.Entered.{entered_places}
+use Rattle.ink_model.specs.Story.Tree.{StoryTree}
+use Rattle.ink_model.specs.Run.Visits.{all_visited, entering_around, entering_asks}
 use Rattle.ink_model.specs.declared.fault.Fault.{Fault}
 use Rattle.ink_model.specs.declared.fault.Fault.TheVariants.{OutOfMemory}
 use Rattle.ink_model.specs.declared.fault.Refusal.TheVariants as refusal
@@ -30,14 +30,14 @@ module _ {P : Type 0} where
   takes_some (Some r) old new x h t = t
 
   -- where there is an n-th visible one, it is taken
-  pub takes_visible : (n : ℕ) (cs new : List (ChoiceOf P)) (x y : ChoiceOf P) → Some x ≡ slice_get (visible cs) n → Takes (taken n cs) cs new (Ok (Some y)) → Some y ≡ slice_get (visible cs) n
-  takes_visible n cs new x y h t = sym (takes_first (taken n cs) cs new y t) ∙ taken_visible n cs x (sym h) ∙ h
+  pub takes_visible : (n : ℕ) (cs new : List (ChoiceOf P)) (x y : ChoiceOf P) → Some x ≡ slice_get (visible cs) n → Takes (choice_gone n cs) cs new (Ok (Some y)) → Some y ≡ slice_get (visible cs) n
+  takes_visible n cs new x y h t = sym (takes_first (choice_gone n cs) cs new y t) ∙ taken_visible n cs x (sym h) ∙ h
 
-  pub takes_any : (n : ℕ) (cs new : List (ChoiceOf P)) (x : ChoiceOf P) → Some x ≡ slice_get (visible cs) n → Takes (taken n cs) cs new (Ok None) → ⊥
-  takes_any n cs new x h = takes_some (taken n cs) cs new x (taken_visible n cs x (sym h))
+  pub takes_any : (n : ℕ) (cs new : List (ChoiceOf P)) (x : ChoiceOf P) → Some x ≡ slice_get (visible cs) n → Takes (choice_gone n cs) cs new (Ok None) → ⊥
+  takes_any n cs new x h = takes_some (choice_gone n cs) cs new x (taken_visible n cs x (sym h))
 
   -- where none is visible, the first is
-  first_taken : (cs : List (ChoiceOf P)) → none_visible cs ≡ true → option_map (λ r. r.0) (taken 0 cs) ≡ slice_get cs 0
+  first_taken : (cs : List (ChoiceOf P)) → none_visible cs ≡ true → option_map (λ r. r.0) (choice_gone 0 cs) ≡ slice_get cs 0
   first_taken [] h = refl
   first_taken (c ∷ cs) h = rw h refl
 
@@ -74,12 +74,12 @@ module _ {P Q : Type 0} (f : P → Q) where
   open_alike cs n o h = ap (λ xs. slice_get xs n) (visible_alike cs) ∙ nth_alike (map_choice f) (visible cs) n ∙ ap (option_map (map_choice f)) (sym h)
 
   pub no_default : (cs : List (ChoiceOf P)) → only_invisible cs ≡ false → default_choice (map (map_choice f) cs) ≡ None
-  no_default cs h = ap (λ b. if b then option_map (λ r. r.0) (taken 0 (map (map_choice f) cs)) else None) (only_alike cs ∙ h)
+  no_default cs h = ap (λ b. if b then option_map (λ r. r.0) (choice_gone 0 (map (map_choice f) cs)) else None) (only_alike cs ∙ h)
 
-  pub is_default : (cs new : List (ChoiceOf P)) (x : ChoiceOf P) → only_invisible cs ≡ true → Takes (taken 0 cs) cs new (Ok (Some x)) → default_choice (map (map_choice f) cs) ≡ Some (map_choice f x)
+  pub is_default : (cs new : List (ChoiceOf P)) (x : ChoiceOf P) → only_invisible cs ≡ true → Takes (choice_gone 0 cs) cs new (Ok (Some x)) → default_choice (map (map_choice f) cs) ≡ Some (map_choice f x)
   is_default cs new x h t =
-      let first : slice_get cs 0 ≡ Some x = sym (first_taken cs (none_of cs h)) ∙ takes_first (taken 0 cs) cs new x t in
-      ap (λ b. if b then option_map (λ r. r.0) (taken 0 (map (map_choice f) cs)) else None) (only_alike cs ∙ h)
+      let first : slice_get cs 0 ≡ Some x = sym (first_taken cs (none_of cs h)) ∙ takes_first (choice_gone 0 cs) cs new x t in
+      ap (λ b. if b then option_map (λ r. r.0) (choice_gone 0 (map (map_choice f) cs)) else None) (only_alike cs ∙ h)
       ∙ first_taken (map (map_choice f) cs) (none_alike cs ∙ none_of cs h)
       ∙ nth_alike (map_choice f) cs 0 ∙ ap (option_map (map_choice f)) first
 

@@ -1,25 +1,25 @@
 -- A step at content that holds no other and calls nothing.
 use Rattle.std.proofs.Common.{◌≡◌, ◌∙◌, ◌||◌, ap, option_map, refl, subst, sym, false, is_some, Bool, List, Option, Some, None, Result, Ok}
-use Rattle.ink_model.specs.Asks.{acting_asks, asks, content_asks, going_in_asks}
-use Rattle.ink_model.specs.Choosing.{following, following_asks}
-use Rattle.ink_model.specs.Configuration.{Configuration, current_place}
-use Rattle.ink_model.specs.Effect.{Effect, context_of, fields_of}
-use Rattle.ink_model.specs.Flow.{moved_on}
-use Rattle.ink_model.specs.Host.{Bound}
-use Rattle.ink_model.specs.Move.{Outcome, Next, going, move, written_in}
-use Rattle.ink_model.specs.MoveMemory.{move_asks, moved_asks}
-use Rattle.ink_model.specs.Place.{next_place}
-use Rattle.ink_model.specs.Step.{Stepped, Comes, Wants, acted, effect, step}
-use Rattle.ink_model.specs.Step.Host.{Call, call_at}
-use Rattle.ink_model.specs.Store.{Values}
-use Rattle.ink_model.specs.Tree.{StoryTree, leaf, container, at}
+use Rattle.ink_model.specs.Memory.Asks.{acting_asks, asks, content_asks, going_in_asks}
+use Rattle.ink_model.specs.Choices.Choosing.{following, following_asks}
+use Rattle.ink_model.specs.Run.Configuration.{Configuration, current_place}
+use Rattle.ink_model.specs.Run.Effect.{Effect, context_of, fields_of}
+use Rattle.ink_model.specs.Flow.Transfers.{moved_on}
+use Rattle.ink_model.specs.Host.Bindings.{Bound}
+use Rattle.ink_model.specs.Run.Move.{Outcome, Next, going, move, written_in}
+use Rattle.ink_model.specs.Memory.Moves.{move_asks, moved_asks}
+use Rattle.ink_model.specs.Run.Place.{next_place}
+use Rattle.ink_model.specs.Run.Step.{Stepped, Comes, Wants, acted, effect, step}
+use Rattle.ink_model.specs.Run.Step.Host.{Call, call_at}
+use Rattle.ink_model.specs.Variables.Store.{Values}
+use Rattle.ink_model.specs.Story.Tree.{StoryTree, leaf, container, at}
 use Rattle.ink_model.specs.declared.content.Leaf.{Leaf}
 use Rattle.ink_model.specs.declared.fault.Fault.{Fault}
 use Rattle.ink_model.specs.declared.place.Part.{Part}
 use Rattle.ink_step.specs.Marks.{takes_first, takes_there}
-use Rattle.ink_effects.specs.Performs.{Keeps, KeepsChoices, Performs, storing_in, unstored}
+use Rattle.ink_effects.specs.Performs.{KeepsThreads, KeepsChoices, Performs, storing_in, unstored}
 use Rattle.ink_step.specs.Steps.{EndsPlainly, StepEnds}
-use Rattle.ink_step.specs.Words.{config_of}
+use Rattle.ink_step.specs.Standing.{config_of}
 use Rattle.ink_moves.specs.declared.flow.StepEnd.{StepEnd}
 use Rattle.ink_moves.specs.declared.flow.StepEnd.TheVariants as ends
 use Rattle.ink_step.specs.declared.machine.Machine.{Machine}
@@ -43,7 +43,7 @@ follows_none s asking o globals d h = absurd h
 
 module _ (s : StoryTree) (old mid new : Machine) (safely : mid.flow.safe ≡ old.flow.safe) (counted : mid.shared.counts.rows ≡ old.shared.counts.rows) (turned : mid.shared.turn ≡ old.shared.turn) (same : mid.shared.globals.rows ≡ old.shared.globals.rows)
     (kept : new.shared.globals.rows ≡ mid.shared.globals.rows) where
-  pub finished : (asking : Bool) (e : Effect) → Performs s asking e (fields_of (config_of s mid)) (Ok transfer.Next) → Keeps s e old.flow.threads.threads mid.flow.threads.threads → KeepsChoices s e old.flow.choices.items mid.flow.choices.items
+  pub finished : (asking : Bool) (e : Effect) → Performs s asking e (fields_of (config_of s mid)) (Ok transfer.Next) → KeepsThreads s e old.flow.threads.threads mid.flow.threads.threads → KeepsChoices s e old.flow.choices.items mid.flow.choices.items
       → StepEnds (moved_asks (next_place s) (config_of s mid).flow.threads (written_in (config_of s mid))) (going (moved_on (next_place s)) (config_of s mid)) mid.shared.globals.rows (config_of s new) (Ok ends.Went)
       → StepEnds ((asking || move_asks s e (config_of s old)) || following_asks s (move s e (config_of s old))) (following s (move s e (config_of s old))) old.shared.globals.rows (config_of s new) (Ok ends.Went)
   finished asking e performs keeps offers went =

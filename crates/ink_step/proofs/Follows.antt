@@ -1,27 +1,27 @@
 -- Where flow goes after a content, and so how a step ends.
 use Rattle.std.proofs.Common.{◌≡◌, ◌∙◌, ◌||◌, ap, sym, refl, subst, inl, inr, ℕ, List, [], ◌∷◌, map, Bool, true, false, Option, Some, None, Result, Ok, Err}
-use Rattle.ink_model.specs.Choosing.{following, following_asks}
-use Rattle.ink_model.specs.Configuration.{ChoiceOf, Configuration, current_place, ended, map_choice, with_choices, with_threads}
-use Rattle.ink_model.specs.Counts.{CountsOf}
-use Rattle.ink_model.specs.Effect.{Fields, Effect, Moves, Stores, Offers, Lands, Calls, Returns, Forks, Done, Ends, Fails, fields_of, with_fields, with_thread}
-use Rattle.ink_model.specs.Flow.{Written, Reached, Reaches, Halts, Breaks, called, depth_of, forked, halt, is_last, moved_on, reach, returned}
-use Rattle.ink_model.specs.Frames.{ThreadOf, ThreadsOf, base_threads, map_thread, map_threads, mode_in, on_top}
-use Rattle.ink_model.specs.Move.{Outcome, Next, Stop, Faults, end_all, finish, going, landing, may_enter, move, place_to, reached_in, with_flow, written_in}
-use Rattle.ink_model.specs.MoveMemory.{dropped_asks, flow_asks, forked_asks, move_asks, moved_asks}
-use Rattle.ink_model.specs.Place.{next_place}
-use Rattle.ink_model.specs.Host.{Bound}
-use Rattle.ink_model.specs.Step.{Comes, step, step_at}
-use Rattle.ink_model.specs.Store.{Values}
-use Rattle.ink_model.specs.Threads.{dropped, staled}
-use Rattle.ink_model.specs.Tree.{StoryTree}
+use Rattle.ink_model.specs.Choices.Choosing.{following, following_asks}
+use Rattle.ink_model.specs.Run.Configuration.{ChoiceOf, Configuration, current_place, ended, map_choice, with_choices, with_threads}
+use Rattle.ink_model.specs.Variables.Counts.{CountsOf}
+use Rattle.ink_model.specs.Run.Effect.{Fields, Effect, Moves, Stores, Offers, Lands, Calls, Returns, Forks, Done, Ends, Fails, fields_of, with_fields, with_thread}
+use Rattle.ink_model.specs.Flow.Transfers.{Written, Reached, Reaches, Halts, Breaks, called, depth_of, forked, halt, is_last, moved_on, reach, returned}
+use Rattle.ink_model.specs.Flow.Frames.{ThreadOf, ThreadsOf, base_threads, map_thread, map_threads, mode_in, on_top}
+use Rattle.ink_model.specs.Run.Move.{Outcome, Next, Stop, Faults, end_all, finish, going, landing_outcome, may_enter, move, place_to, reached_in, with_flow, written_in}
+use Rattle.ink_model.specs.Memory.Moves.{dropped_asks, flow_asks, forked_asks, move_asks, moved_asks}
+use Rattle.ink_model.specs.Run.Place.{next_place}
+use Rattle.ink_model.specs.Host.Bindings.{Bound}
+use Rattle.ink_model.specs.Run.Step.{Comes, step, step_at}
+use Rattle.ink_model.specs.Variables.Store.{Values}
+use Rattle.ink_model.specs.Flow.Threads.{dropped, staled}
+use Rattle.ink_model.specs.Story.Tree.{StoryTree}
 use Rattle.ink_model.specs.declared.fault.Fault.{Fault}
 use Rattle.ink_model.specs.declared.fault.Fault.TheVariants.{OutOfMemory}
 use Rattle.ink_model.specs.declared.place.Part.{Part}
 use Rattle.ink_effects.proofs.Bools.{or_first, or_more}
-use Rattle.ink_effects.specs.Performs.{Keeps, KeepsChoices, Performs, offered_by, stored_by, unstored}
+use Rattle.ink_effects.specs.Performs.{KeepsThreads, KeepsChoices, Performs, offered_by, stored_by, unstored}
 use Rattle.ink_moves.specs.Reaches.{ReachesAs}
 use Rattle.ink_step.specs.Steps.{StepEnds}
-use Rattle.ink_step.specs.Words.{config_of, counts_in}
+use Rattle.ink_step.specs.Standing.{config_of, counts_in}
 use Rattle.ink_moves.specs.declared.flow.StepEnd.{StepEnd}
 use Rattle.ink_moves.specs.declared.flow.StepEnd.TheVariants as ends
 use Rattle.ink_step.specs.declared.machine.Machine.{Machine}
@@ -190,7 +190,7 @@ module _ (s : StoryTree) (old mid : Machine) (safely : mid.flow.safe ≡ old.flo
   abbrev kept : Effect → Configuration
   kept e = over (threads_by e) (choices_by e) old.flow.safe old.shared.counts.rows old.shared.turn
 
-  is_kept : (e : Effect) → Keeps s e old.flow.threads.threads mid.flow.threads.threads → KeepsChoices s e old.flow.choices.items mid.flow.choices.items → config_of s mid ≡ kept e
+  is_kept : (e : Effect) → KeepsThreads s e old.flow.threads.threads mid.flow.threads.threads → KeepsChoices s e old.flow.choices.items mid.flow.choices.items → config_of s mid ≡ kept e
   is_kept e keeps offers =
       ap (λ ts. over ts (map (map_choice (place_of s)) mid.flow.choices.items) mid.flow.safe mid.shared.counts.rows mid.shared.turn) keeps
       ∙ ap (λ cs. over (threads_by e) cs mid.flow.safe mid.shared.counts.rows mid.shared.turn) offers
@@ -217,9 +217,9 @@ module _ (s : StoryTree) (old mid : Machine) (safely : mid.flow.safe ≡ old.flo
   goes_alike (Moves f) = ap (going (moved_on (next_place s))) (moving_alike f f f.wrote)
   goes_alike (Stores t f) = ap (going (moved_on (next_place s))) (storing_alike t f f f.wrote)
   goes_alike (Offers cs f) = ap (going (moved_on (next_place s))) (offering_alike cs f f f.wrote)
-  goes_alike (Lands to f) = ap (landing s to.enters (reach to.place)) (moving_alike f f f.wrote)
-  goes_alike (Calls k to f) = ap (landing s to.enters (called k to.place)) (moving_alike f f f.wrote)
-  goes_alike (Returns k to f) = ap (landing s (may_enter to) (returned (next_place s) k (place_to to))) (moving_alike f f f.wrote)
+  goes_alike (Lands to f) = ap (landing_outcome s to.enters (reach to.place)) (moving_alike f f f.wrote)
+  goes_alike (Calls k to f) = ap (landing_outcome s to.enters (called k to.place)) (moving_alike f f f.wrote)
+  goes_alike (Returns k to f) = ap (landing_outcome s (may_enter to) (returned (next_place s) k (place_to to))) (moving_alike f f f.wrote)
   goes_alike (Forks f) = ap (going (forked (next_place s))) (moving_alike f f f.wrote)
   goes_alike (Done f) = ap (finish s) (moving_alike f f f.wrote)
   goes_alike (Ends f) = ap end_all (moving_alike f f f.wrote)
@@ -243,7 +243,7 @@ module _ (s : StoryTree) (old mid : Machine) (safely : mid.flow.safe ≡ old.flo
   abbrev Steps : Bool → Effect → Configuration → Values → Configuration → Result StepEnd Fault → Type 0
   Steps asking e c globals d r = StepEnds ((asking || move_asks s e c) || following_asks s (move s e c)) (following s (move s e c)) globals d r
 
-  pub ends_after : (asking : Bool) (e : Effect) (globals : Values) (d : Configuration) (r : Result StepEnd Fault) → Keeps s e old.flow.threads.threads mid.flow.threads.threads → KeepsChoices s e old.flow.choices.items mid.flow.choices.items
+  pub ends_after : (asking : Bool) (e : Effect) (globals : Values) (d : Configuration) (r : Result StepEnd Fault) → KeepsThreads s e old.flow.threads.threads mid.flow.threads.threads → KeepsChoices s e old.flow.choices.items mid.flow.choices.items
       → Steps asking e (config_of s mid) globals d r → Steps asking e (config_of s old) globals d r
   ends_after asking e globals d r keeps offers h =
       let alike = subst (λ c. Steps asking e c globals d r) (is_kept e keeps offers) h in
@@ -251,7 +251,7 @@ module _ (s : StoryTree) (old mid : Machine) (safely : mid.flow.safe ≡ old.flo
       subst (λ b. StepEnds ((asking || b) || following_asks s (move s e (config_of s old))) (following s (move s e (config_of s old))) globals d r) (asks_alike e) moved
 
 -- after performing, the thread has the temporaries that the effect stores
-pub kept_stays : (s : StoryTree) (e : Effect) (old new : ThreadsOf Spot) → Keeps s e old new → Keeps s e new new
+pub kept_stays : (s : StoryTree) (e : Effect) (old new : ThreadsOf Spot) → KeepsThreads s e old new → KeepsThreads s e new new
 kept_stays s (Stores t f) old new keeps = keeps ∙ ap (λ u. record { thread = mode_in new.thread.frame.evaluating t; below = u.below }) (sym keeps)
 kept_stays s e old new keeps = refl
 

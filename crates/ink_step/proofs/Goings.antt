@@ -1,17 +1,17 @@
 -- A step goes in: what a machine stands for then.
 use Rattle.std.proofs.Common.{◌≡◌, ◌∙◌, ap, refl, sym, ℕ, List, [], ◌++◌, Option, Some, None}
 use Rattle.std.proofs.lemmas.List.{append-nil}
-use Rattle.ink_model.specs.Configuration.{put_at, with_counts}
-use Rattle.ink_model.specs.Counts.{CountsOf}
-use Rattle.ink_model.specs.Entered.{passed_at, passed_places}
-use Rattle.ink_model.specs.Frames.{ThreadsOf, on_top, put_in}
-use Rattle.ink_model.specs.Place.{entered, first_content_at}
-use Rattle.ink_model.specs.Step.{gone_in}
-use Rattle.ink_model.specs.Tree.{StoryTree, leaf, container, at}
-use Rattle.ink_model.specs.Visits.{all_visited}
+use Rattle.ink_model.specs.Run.Configuration.{put_at, with_counts}
+use Rattle.ink_model.specs.Variables.Counts.{CountsOf}
+use Rattle.ink_model.specs.Run.Entered.{passed_at, passed_places}
+use Rattle.ink_model.specs.Flow.Frames.{ThreadsOf, on_top, put_in}
+use Rattle.ink_model.specs.Run.Place.{content_place, first_content_at}
+use Rattle.ink_model.specs.Run.Step.{gone_in}
+use Rattle.ink_model.specs.Story.Tree.{StoryTree, leaf, container, at}
+use Rattle.ink_model.specs.Run.Visits.{all_visited}
 use Rattle.ink_model.specs.declared.content.Leaf.{Leaf}
 use Rattle.ink_model.specs.declared.place.Part.{Part}
-use Rattle.ink_step.specs.Words.{config_of, counts_in}
+use Rattle.ink_step.specs.Standing.{config_of, counts_in}
 use Rattle.ink_step.specs.declared.machine.Machine.{Machine}
 use Rattle.ink_tree.specs.Kept.{leaf_in}
 use Rattle.ink_tree.specs.Nodes.{place_of}
@@ -19,18 +19,18 @@ use Rattle.ink_tree.specs.declared.spot.Spot.{Spot}
 
 module _ (s : StoryTree) (p : List Part) (m : Machine) (here : Spot) (ts : ThreadsOf Spot) (is : ts ≡ on_top (put_in (Some here)) m.flow.threads.threads) where
   -- the containers on the way were entered, and flow is put at the first content
-  pub went_in : (counts : CountsOf ℕ) → place_of s here ≡ entered s p → counts_in s counts ≡ all_visited s m.shared.turn (passed_places s p) (counts_in s m.shared.counts.rows)
+  pub went_in : (counts : CountsOf ℕ) → place_of s here ≡ content_place s p → counts_in s counts ≡ all_visited s m.shared.turn (passed_places s p) (counts_in s m.shared.counts.rows)
       → config_of s (record m { flow = record m.flow { threads = record m.flow.threads { threads = ts } }; shared = record m.shared { counts = record m.shared.counts { rows = counts } } }) ≡ gone_in s p (config_of s m)
   went_in counts at_place entering =
       ap (λ t. config_of s (record m { flow = record m.flow { threads = record m.flow.threads { threads = t } }; shared = record m.shared { counts = record m.shared.counts { rows = counts } } })) is
       ∙ ap (λ q. put_at (Some q) (config_of s (record m { shared = record m.shared { counts = record m.shared.counts { rows = counts } } }))) at_place
-      ∙ ap (λ cs. put_at (Some (entered s p)) (with_counts cs (config_of s m))) entering
+      ∙ ap (λ cs. put_at (Some (content_place s p)) (with_counts cs (config_of s m))) entering
 
 -- ---- where nothing stands
 
 module _ (s : StoryTree) (p : List Part) (nothing : at s p ≡ None) where
-  pub goes_nowhere_in : p ≡ entered s p
-  unfolding entered
+  pub goes_nowhere_in : p ≡ content_place s p
+  unfolding content_place
   goes_nowhere_in = sym (append-nil p) ∙ ap (λ o. p ++ first_content_at o) (sym nothing)
 
   pub passes_none : passed_places s p ≡ []
@@ -45,8 +45,8 @@ stands_alone (Some (leaf k)) l h = (refl, λ p. refl)
 stands_alone (Some (container name flags content named)) l h = absurd cc
 
 module _ (s : StoryTree) (p : List Part) (l : Leaf) (stands : leaf_in (at s p) ≡ Some l) where
-  pub stays_in : p ≡ entered s p
-  unfolding entered
+  pub stays_in : p ≡ content_place s p
+  unfolding content_place
   stays_in = sym (append-nil p) ∙ ap (λ ps. p ++ ps) (sym (stands_alone (at s p) l stands).0)
 
   pub passes_no_container : passed_places s p ≡ []

@@ -1,21 +1,21 @@
 -- Flow lands, and the containers around are entered; a step goes in before it performs.
 use Rattle.std.proofs.Common.{◌≡◌, ◌∙◌, ◌||◌, ◌&&◌, ap, sym, refl, subst, inl, inr, List, Bool, true, false, cond, nat_lt, Option, Some, None, option_map, Result, Ok, Err}
-use Rattle.ink_model.specs.Asks.{going_in_asks, performing_asks}
-use Rattle.ink_model.specs.Configuration.{Configuration, current_place, with_choices, with_threads}
-use Rattle.ink_model.specs.Effect.{Effect, Landing as Goal, Moves, Stores, Offers, Lands, Calls, Returns, fields_of}
-use Rattle.ink_model.specs.Flow.{Written, moved_on, Reached, Reaches, Halts, Breaks, called, depth_of, enter_for, leave_for, number_for, or_breaks, reach, reach_or_on, returned}
-use Rattle.ink_model.specs.Frames.{ThreadOf, ThreadsOf, mode_in, on_top}
-use Rattle.ink_model.specs.Memory.{asks, asks_at}
-use Rattle.ink_model.specs.Move.{going, landed_in, landing, may_enter, move, place_to, with_flow, written_in}
-use Rattle.ink_model.specs.MoveMemory.{landed_asks, move_asks, moved_asks, returned_asks}
-use Rattle.ink_model.specs.Place.{entered, next_place}
-use Rattle.ink_model.specs.Host.{Bound}
-use Rattle.ink_model.specs.Step.{Stepped, gone_in, performed, step, step_at}
-use Rattle.ink_model.specs.Step.Host.{Call, call_at}
-use Rattle.ink_model.specs.Store.{Values}
-use Rattle.ink_model.specs.Threads.{frame_count, popped, pushed}
-use Rattle.ink_model.specs.Tree.{StoryTree, at, container, leaf}
-use Rattle.ink_model.specs.Visits.{adds_rows, around, entering_around}
+use Rattle.ink_model.specs.Memory.Asks.{going_in_asks, performing_asks}
+use Rattle.ink_model.specs.Run.Configuration.{Configuration, current_place, with_choices, with_threads}
+use Rattle.ink_model.specs.Run.Effect.{Effect, Landing as Goal, Moves, Stores, Offers, Lands, Calls, Returns, fields_of}
+use Rattle.ink_model.specs.Flow.Transfers.{Written, moved_on, Reached, Reaches, Halts, Breaks, called, depth_of, enter_for, leave_for, number_for, or_breaks, reach, reach_or_on, returned}
+use Rattle.ink_model.specs.Flow.Frames.{ThreadOf, ThreadsOf, mode_in, on_top}
+use Rattle.ink_model.specs.Memory.Refusals.{asks, asks_at}
+use Rattle.ink_model.specs.Run.Move.{going, landed_in, landing_outcome, may_enter, move, place_to, with_flow, written_in}
+use Rattle.ink_model.specs.Memory.Moves.{landed_asks, move_asks, moved_asks, returned_asks}
+use Rattle.ink_model.specs.Run.Place.{content_place, next_place}
+use Rattle.ink_model.specs.Host.Bindings.{Bound}
+use Rattle.ink_model.specs.Run.Step.{Stepped, gone_in, performed, step, step_at}
+use Rattle.ink_model.specs.Run.Step.Host.{Call, call_at}
+use Rattle.ink_model.specs.Variables.Store.{Values}
+use Rattle.ink_model.specs.Flow.Threads.{frame_count, frame_popped, frame_pushed}
+use Rattle.ink_model.specs.Story.Tree.{StoryTree, at, container, leaf}
+use Rattle.ink_model.specs.Run.Visits.{adds_rows, around, entering_around}
 use Rattle.ink_model.specs.declared.fault.Fault.{Fault}
 use Rattle.ink_model.specs.declared.fault.Fault.TheVariants.{OutOfMemory}
 use Rattle.ink_model.specs.declared.frame.FrameKind.{FrameKind}
@@ -44,7 +44,7 @@ IsGoing (Breaks f) = Unit {0}
 
 -- a call does not stop
 pub called_goes : {P : Type 0} → (k : FrameKind) (q : P) (ts : ThreadsOf P) (w : Written) → IsGoing (called k q ts w)
-called_goes {P = P} k q ts w = by (pushed k (depth_of w) ts.thread) (enter_for k w)
+called_goes {P = P} k q ts w = by (frame_pushed k (depth_of w) ts.thread) (enter_for k w)
   where
     by : (r : Result (ThreadOf P) Fault) (e : Result Written Fault) → IsGoing (or_breaks r Breaks (λ t. or_breaks e Breaks (λ after. reach q (record ts { thread = number_for k w t }) after)))
     by (Ok t) (Ok v) = tt
@@ -53,7 +53,7 @@ called_goes {P = P} k q ts w = by (pushed k (depth_of w) ts.thread) (enter_for k
 
 -- a return to a place does not
 pub returned_goes : {P : Type 0} → (after : P → Option P) (k : FrameKind) (q : P) (ts : ThreadsOf P) (w : Written) → IsGoing (returned after k (Some q) ts w)
-returned_goes {P = P} after k q ts w = by (popped k (depth_of w) ts.thread) (leave_for k ts.thread.frame.enter w)
+returned_goes {P = P} after k q ts w = by (frame_popped k (depth_of w) ts.thread) (leave_for k ts.thread.frame.enter w)
   where
     by : (r : Result (ThreadOf P) Fault) (e : Result Written Fault) → IsGoing (or_breaks r Breaks (λ t. or_breaks e Breaks (λ left. reach_or_on after (Some q) (record ts { thread = t }) left)))
     by (Ok t) (Ok v) = tt
@@ -124,28 +124,28 @@ module _ (s : StoryTree) (pressed asking : Bool) (c d : Configuration) (r : Resu
     goes_storing e h has go = absurd h
 
   pub goes_there : (to : Landing) (e : Effect) → Performs s asking e (fields_of c) (Ok (transfer.Land to))
-      → StepEnds (pressed || landed_asks s to.enters c.shared.counts (reach (place_of s to.place) c.flow.threads (written_in c))) (landing s to.enters (reach (place_of s to.place)) c) c.shared.globals d r
+      → StepEnds (pressed || landed_asks s to.enters c.shared.counts (reach (place_of s to.place) c.flow.threads (written_in c))) (landing_outcome s to.enters (reach (place_of s to.place)) c) c.shared.globals d r
       → Follows e
   goes_there to (Lands l f) h go = subst (λ q. Follows (Lands q f)) (sym h.0) (subst (λ g. Follows (Lands (landing_of s to) g)) h.1
-      (ends_where _ _ (or_between pressed asking _) (landing s to.enters (reach (place_of s to.place)) c) _ d r go))
+      (ends_where _ _ (or_between pressed asking _) (landing_outcome s to.enters (reach (place_of s to.place)) c) _ d r go))
   goes_there to e h go = absurd h
 
   pub goes_into : (kind : CallKind) (to : Landing) (e : Effect) → Performs s asking e (fields_of c) (Ok (transfer.Call kind to))
       → StepEnds (pressed || (nat_lt (frame_count c.flow.threads.thread) MAX_FRAMES || landed_asks s to.enters c.shared.counts (called (frame_kind kind) (place_of s to.place) c.flow.threads (written_in c))))
-      (landing s to.enters (called (frame_kind kind) (place_of s to.place)) c) c.shared.globals d r
+      (landing_outcome s to.enters (called (frame_kind kind) (place_of s to.place)) c) c.shared.globals d r
       → Follows e
   goes_into kind to (Calls k l f) h go = subst (λ x. Follows (Calls x l f)) (sym h.0) (subst (λ q. Follows (Calls (frame_kind kind) q f)) (sym h.1)
-      (subst (λ g. Follows (Calls (frame_kind kind) (landing_of s to) g)) h.2 (ends_where _ _ (or_between pressed asking _) (landing s to.enters (called (frame_kind kind) (place_of s to.place)) c) _ d r go)))
+      (subst (λ g. Follows (Calls (frame_kind kind) (landing_of s to) g)) h.2 (ends_where _ _ (or_between pressed asking _) (landing_outcome s to.enters (called (frame_kind kind) (place_of s to.place)) c) _ d r go)))
   goes_into kind to e h go = absurd h
 
   pub goes_back : (kind : FrameKind) (back : Option Landing) (e : Effect) → Performs s asking e (fields_of c) (Ok (transfer.Return kind back))
       → StepEnds (pressed || (returned_asks (next_place s) kind (place_to (option_map (landing_of s) back)) c.flow.threads (written_in c)
       || landed_asks s (may_enter (option_map (landing_of s) back)) c.shared.counts (returned (next_place s) kind (place_to (option_map (landing_of s) back)) c.flow.threads (written_in c))))
-      (landing s (may_enter (option_map (landing_of s) back)) (returned (next_place s) kind (place_to (option_map (landing_of s) back))) c) c.shared.globals d r
+      (landing_outcome s (may_enter (option_map (landing_of s) back)) (returned (next_place s) kind (place_to (option_map (landing_of s) back))) c) c.shared.globals d r
       → Follows e
   goes_back kind back (Returns k l f) h go = subst (λ x. Follows (Returns x l f)) (sym h.0) (subst (λ o. Follows (Returns kind o f)) (sym h.1)
       (subst (λ g. Follows (Returns kind (option_map (landing_of s) back) g)) h.2
-      (ends_where _ _ (or_between pressed asking _) (landing s (may_enter (option_map (landing_of s) back)) (returned (next_place s) kind (place_to (option_map (landing_of s) back))) c) _ d r go)))
+      (ends_where _ _ (or_between pressed asking _) (landing_outcome s (may_enter (option_map (landing_of s) back)) (returned (next_place s) kind (place_to (option_map (landing_of s) back))) c) _ d r go)))
   goes_back kind back e h go = absurd h
 
 -- ---- a step
@@ -168,7 +168,7 @@ module _ (s : StoryTree) (b : Bound) (Ending : Bool → Stepped → Type 0) (her
 
 module _ (s : StoryTree) (b : Bound) (p : List Part) (old : Configuration) (at_p : current_place old ≡ Some p) where
   -- a step goes in, performs what stands there and moves
-  pub ends_performed : (Ending : Bool → Stepped → Type 0) (here : List Part) (found : Option StoryTree) (mid : Configuration) → here ≡ entered s p → found ≡ at s here → mid ≡ gone_in s p old
+  pub ends_performed : (Ending : Bool → Stepped → Type 0) (here : List Part) (found : Option StoryTree) (mid : Configuration) → here ≡ content_place s p → found ≡ at s here → mid ≡ gone_in s p old
       → ((asking : Bool) (o : Stepped) → Ending asking o → Ending (going_in_asks s p old || asking) o) → Performing s b Ending here found mid → Ending (asks s b old) (step s b old)
   unfolding step asks
   ends_performed Ending here found mid is stands went more h =

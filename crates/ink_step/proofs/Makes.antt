@@ -1,19 +1,19 @@
 -- Steps that call turn functions.
 use Rattle.std.proofs.Common.{◌≡◌, ◌∙◌, ◌||◌, ap, sym, refl, subst, inl, inr, ℕ, List, [], Bool, true, false, true≢false, if◌then◌else◌, Option, Some, None, option_map, Bor, Result, Ok, Err}
-use Rattle.ink_model.specs.Asks.{acting_asks, calling_asks}
-use Rattle.ink_model.specs.Configuration.{Configuration, current_place}
-use Rattle.ink_model.specs.Effect.{Fields, Effect, Fails, Moves, fields_of}
-use Rattle.ink_model.specs.Host.{Binding, Bound, fits_given, pure_function, turn_function, value_given}
-use Rattle.ink_model.specs.Memory.{given_asks}
-use Rattle.ink_model.specs.Move.{move}
-use Rattle.ink_model.specs.Place.{entered, knot}
-use Rattle.ink_model.specs.Run.{answered}
-use Rattle.ink_model.specs.Stack.{pushed}
-use Rattle.ink_model.specs.Step.{Stepped, Comes, Wants, acted, call_made, gone_in, performed, step, step_at}
-use Rattle.ink_model.specs.Step.Diverts.{condition}
-use Rattle.ink_model.specs.Step.Host.{Acts, Asks, Call, CallEffect, answering, arguments_taken, call_at, call_bound, call_external, has_string, or_fails}
-use Rattle.ink_model.specs.Store.{Values}
-use Rattle.ink_model.specs.Tree.{StoryTree, container, leaf, at}
+use Rattle.ink_model.specs.Memory.Asks.{acting_asks, calling_asks}
+use Rattle.ink_model.specs.Run.Configuration.{Configuration, current_place}
+use Rattle.ink_model.specs.Run.Effect.{Fields, Effect, Fails, Moves, fields_of}
+use Rattle.ink_model.specs.Host.Bindings.{Binding, Bound, fits_given, pure_function, turn_function, value_given}
+use Rattle.ink_model.specs.Memory.Refusals.{given_asks}
+use Rattle.ink_model.specs.Run.Move.{move}
+use Rattle.ink_model.specs.Run.Place.{content_place, knot}
+use Rattle.ink_model.specs.Run.Moments.{answered}
+use Rattle.ink_model.specs.Values.Stack.{pushed}
+use Rattle.ink_model.specs.Run.Step.{Stepped, Comes, Wants, acted, call_made, gone_in, performed, step, step_at}
+use Rattle.ink_model.specs.Run.Step.Diverts.{condition}
+use Rattle.ink_model.specs.Run.Step.Host.{Acts, Suspends, Call, CallEffect, answering, arguments_taken, call_at, call_bound, call_external, has_string, or_fails}
+use Rattle.ink_model.specs.Variables.Store.{Values}
+use Rattle.ink_model.specs.Story.Tree.{StoryTree, container, leaf, at}
 use Rattle.ink_model.specs.declared.content.Leaf.{Leaf}
 use Rattle.ink_model.specs.declared.fault.Fault.{Fault}
 use Rattle.ink_model.specs.declared.fault.Fault.TheVariants.{OutOfMemory, UnsafeInString}
@@ -24,7 +24,7 @@ use Rattle.ink_model.specs.declared.value.Value.{Value}
 use Rattle.ink_effects.specs.External.{PerformsCall, is_asking}
 use Rattle.ink_effects.specs.Performs.{Performs}
 use Rattle.ink_moves.specs.Reaches.{went}
-use Rattle.ink_step.specs.Steps.{EndsPlainly, StepEnds, StepMakes, Steps, ended, wants}
+use Rattle.ink_step.specs.Steps.{EndsPlainly, StepEnds, StepMakes, Steps, step_end, wants}
 use Rattle.ink_moves.specs.declared.flow.StepEnd.{StepEnd}
 use Rattle.ink_moves.specs.declared.flow.StepEnd.TheVariants as ends
 use Rattle.ink_effects.specs.declared.transfer.Transfer.{Transfer}
@@ -52,7 +52,7 @@ module _ (s : StoryTree) (b : Bound) (n : ℕ) (pressed : Bool) (es : List Event
   makes_said asking (Comes o) h = never_wants (pressed || asking) o globals d h.1
 
   -- so whether flow went on is all that it tells
-  pub makes_went : (asking : Bool) (o : Stepped) (end : StepEnd) → StepMakes s b n pressed asking o es globals d (Ok end) → StepMakes s b n pressed asking o es globals d (ended (Ok (went end)))
+  pub makes_went : (asking : Bool) (o : Stepped) (end : StepEnd) → StepMakes s b n pressed asking o es globals d (Ok end) → StepMakes s b n pressed asking o es globals d (step_end (Ok (went end)))
   makes_went asking o ends.Went h = h
   makes_went asking o ends.Stopped h = h
   makes_went asking o ends.WantsCall h = absurd (makes_said asking o h)
@@ -102,7 +102,7 @@ makes_short s b n pressed asking (Wants name arguments k c) globals d f short sa
 
 -- A call asks what is bound to a turn function, and stores and offers nothing.
 abbrev pub IsCall : Bound → CallEffect → Type 0
-IsCall b (Asks name arguments f) = b name ≡ Some turn_function
+IsCall b (Suspends name arguments f) = b name ≡ Some turn_function
 IsCall b (Acts e) = IsPlain e
 
 answering_plain : (gave : Option Given) (f : Fields) → IsPlain (answering gave f)
@@ -114,7 +114,7 @@ module _ (b : Bound) (s : StoryTree) where
   bound_call None name n f is = plain_else _ (knot name s) _ (λ p. tt)
   bound_call (Some turn_function) name n f is = by (has_string f.page.sections) (arguments_taken n f)
     where
-      by : (unsafe : Bool) (x : Result (List Value × Fields) Fault) → IsCall b (if unsafe then Acts (Fails UnsafeInString) else or_fails x (λ r. Asks name r.0 r.1))
+      by : (unsafe : Bool) (x : Result (List Value × Fields) Fault) → IsCall b (if unsafe then Acts (Fails UnsafeInString) else or_fails x (λ r. Suspends name r.0 r.1))
       by true x = tt
       by false (Ok r) = is
       by false (Err g) = tt
@@ -139,7 +139,7 @@ module _ (s : StoryTree) (b : Bound) (n : ℕ) (pressed asking : Bool) (c d : Co
 
   module _ (goes : (asks : Bool) (e : Effect) → IsPlain e → Performs s asks e new transfer → Ended asks e) (failed : transfer ≡ Err OutOfMemory → (r ≡ Err OutOfMemory) × (d.shared.globals ≡ globals)) where
     pub makes : (k : CallEffect) (es : List Event) → IsCall b k → PerformsCall s n asking k es new transfer → StepMakes s b n pressed (calling_asks s asking k c) (call_made s k c) es globals d r
-    makes (Asks name arguments left) es is h = elim h [
+    makes (Suspends name arguments left) es is h = elim h [
       | inl made ↦ inl (made.0, is, made.1, goes (given_asks arguments left made.0) (answering made.0 left) (answering_plain made.0 left) made.2)
       | inr short ↦ inr (short.0, (failed short.1).0, or_more pressed asking short.2, (failed short.1).1)
     ]
@@ -178,22 +178,22 @@ call_alike (Some (container name flags content named)) = refl
 
 wants_made : (s : StoryTree) (k : CallEffect) (c : Configuration) → wants (call_made s k c) ≡ is_asking k
 wants_made s (Acts e) c = refl
-wants_made s (Asks name arguments f) c = refl
+wants_made s (Suspends name arguments f) c = refl
 
 module _ (s : StoryTree) (b : Bound) (p : List Part) (c : Configuration) (at_p : current_place c ≡ Some p) where
   abbrev inside : Configuration
   inside = gone_in s p c
 
-  wants_by : (found : Option StoryTree) (k : Option Call) → found ≡ option_map leaf (leaf_in (at s (entered s p))) → call_at found ≡ k
-      → wants (step s b c) ≡ wants (performed s b (entered s p) (at s (entered s p)) k inside)
+  wants_by : (found : Option StoryTree) (k : Option Call) → found ≡ option_map leaf (leaf_in (at s (content_place s p))) → call_at found ≡ k
+      → wants (step s b c) ≡ wants (performed s b (content_place s p) (at s (content_place s p)) k inside)
   unfolding step
   wants_by found k is here = ap (λ o. wants (step_at s b o c)) at_p
-      ∙ ap (λ o. wants (performed s b (entered s p) (at s (entered s p)) o inside)) (call_alike (at s (entered s p)) ∙ ap call_at (sym is) ∙ here)
+      ∙ ap (λ o. wants (performed s b (content_place s p) (at s (content_place s p)) o inside)) (call_alike (at s (content_place s p)) ∙ ap call_at (sym is) ∙ here)
 
-  pub wants_none : (found : Option StoryTree) → found ≡ option_map leaf (leaf_in (at s (entered s p))) → call_at found ≡ None → false ≡ wants (step s b c)
+  pub wants_none : (found : Option StoryTree) → found ≡ option_map leaf (leaf_in (at s (content_place s p))) → call_at found ≡ None → false ≡ wants (step s b c)
   wants_none found is other = sym (wants_by found None is other)
 
-  pub wants_call : (found : Option StoryTree) (k : Call) (answer : Bool) → found ≡ option_map leaf (leaf_in (at s (entered s p))) → call_at found ≡ Some k
+  pub wants_call : (found : Option StoryTree) (k : Call) (answer : Bool) → found ≡ option_map leaf (leaf_in (at s (content_place s p))) → call_at found ≡ Some k
       → answer ≡ is_asking (call_external s b k.name k.arguments k.conditional (fields_of inside)) → answer ≡ wants (step s b c)
   wants_call found k answer is here asking =
       asking ∙ sym (wants_by found (Some k) is here ∙ wants_made s (call_external s b k.name k.arguments k.conditional (fields_of inside)) inside)

@@ -3,23 +3,23 @@ use Rattle.std.proofs.Common.{◌≡◌, ◌∙◌, ◌⊎◌, ◌≤◌, ◌+�
 use Rattle.ink_choice.specs.Undo.{choices_spare, choices_stood}
 use Rattle.ink_effects.proofs.Bools.{and_both, or_first, or_more}
 use Rattle.ink_effects.proofs.Rooms.{lacks_more}
-use Rattle.ink_model.specs.Choices.{only_invisible}
-use Rattle.ink_model.specs.Configuration.{Configuration, current_place}
-use Rattle.ink_model.specs.Frames.{map_threads}
-use Rattle.ink_model.specs.Place.{entered}
-use Rattle.ink_model.specs.Threads.{frame_count}
-use Rattle.ink_model.specs.Tree.{StoryTree, leaf, container, at}
-use Rattle.ink_model.specs.Effect.{Fields}
-use Rattle.ink_model.specs.Host.{Bound}
-use Rattle.ink_model.specs.Step.{Wants, gone_in, performed, step, step_at}
-use Rattle.ink_model.specs.Step.Host.{Call, call_at}
-use Rattle.ink_model.specs.Visits.{around}
+use Rattle.ink_model.specs.Choices.Making.{only_invisible}
+use Rattle.ink_model.specs.Run.Configuration.{Configuration, current_place}
+use Rattle.ink_model.specs.Flow.Frames.{map_threads}
+use Rattle.ink_model.specs.Run.Place.{content_place}
+use Rattle.ink_model.specs.Flow.Threads.{frame_count}
+use Rattle.ink_model.specs.Story.Tree.{StoryTree, leaf, container, at}
+use Rattle.ink_model.specs.Run.Effect.{Fields}
+use Rattle.ink_model.specs.Host.Bindings.{Bound}
+use Rattle.ink_model.specs.Run.Step.{Wants, gone_in, performed, step, step_at}
+use Rattle.ink_model.specs.Run.Step.Host.{Call, call_at}
+use Rattle.ink_model.specs.Run.Visits.{around}
 use Rattle.ink_model.specs.declared.content.Leaf.TheVariants as leaves
 use Rattle.ink_model.specs.declared.value.Value.{Value}
 use Rattle.ink_model.specs.declared.place.Part.{Part}
 use Rattle.ink_stack.specs.Undo.{threads_spare, threads_stood}
 use Rattle.ink_step.specs.Marks.{Stood, choices_lack, counts_lack, keeps_mark, lacks, landing_lacks, own_lacks, own_spare, pressed, presses, stack_lacks, stood_of, takes_first, takes_there, threads_lack, unmarked}
-use Rattle.ink_step.specs.Words.{config_of}
+use Rattle.ink_step.specs.Standing.{config_of}
 use Rattle.ink_moves.specs.declared.flow.TheConstants.{MOVING}
 use Rattle.ink_step.specs.declared.machine.Machine.{Machine}
 use Rattle.ink_step.specs.declared.step.TheConstants.{STEPPING}
@@ -111,9 +111,9 @@ not_presses s old new free left =
 -- ---- a content that takes a value
 
 -- found at the end of the way in
-pub takes_at : (s : StoryTree) (p : List Part) (c : Configuration) (found : Option StoryTree) → current_place c ≡ Some p → at s (entered s p) ≡ found → takes_first s c ≡ takes_there found
+pub takes_at : (s : StoryTree) (p : List Part) (c : Configuration) (found : Option StoryTree) → current_place c ≡ Some p → at s (content_place s p) ≡ found → takes_first s c ≡ takes_there found
 unfolding takes_first
-takes_at s p c found at_p is = ap (λ o. takes_there (option_and_then (λ p. at s (entered s p)) o)) at_p ∙ ap takes_there is
+takes_at s p c found at_p is = ap (λ o. takes_there (option_and_then (λ p. at s (content_place s p)) o)) at_p ∙ ap takes_there is
 
 -- an empty container takes none, as nothing does
 pub takes_alike : (o : Option StoryTree) → takes_there (option_map leaf (leaf_in o)) ≡ takes_there o
@@ -130,7 +130,7 @@ takes_no_call (Some (leaf (leaves.AssignTemp name))) h = refl
 takes_no_call o h = absurd (cc)
 
 calls_none : (s : StoryTree) (b : Bound) (p : List Part) (c : Configuration) (k : Option Call) → k ≡ None → (name : List ℕ) (arguments : List Value) (f : Fields) (d : Configuration)
-    → performed s b (entered s p) (at s (entered s p)) k c ≡ Wants name arguments f d → ⊥
+    → performed s b (content_place s p) (at s (content_place s p)) k c ≡ Wants name arguments f d → ⊥
 calls_none s b p c None none name arguments f d is = cc
 calls_none s b p c (Some k) none name arguments f d is = absurd (cc)
 
@@ -139,6 +139,6 @@ pub takes_calls : (s : StoryTree) (b : Bound) (c : Configuration) (name : List �
 unfolding takes_first step
 takes_calls s b c name arguments f d takes is = by (current_place c) takes is
   where
-    by : (o : Option (List Part)) → takes_there (option_and_then (λ p. at s (entered s p)) o) ≡ true → step_at s b o c ≡ Wants name arguments f d → ⊥
+    by : (o : Option (List Part)) → takes_there (option_and_then (λ p. at s (content_place s p)) o) ≡ true → step_at s b o c ≡ Wants name arguments f d → ⊥
     by None h wants = absurd (cc)
-    by (Some p) h wants = calls_none s b p (gone_in s p c) (call_at (at s (entered s p))) (takes_no_call (at s (entered s p)) h) name arguments f d wants
+    by (Some p) h wants = calls_none s b p (gone_in s p c) (call_at (at s (content_place s p))) (takes_no_call (at s (content_place s p)) h) name arguments f d wants

@@ -1,16 +1,16 @@
 -- Runs, moment by moment.
 use Rattle.std.proofs.Common.{◌≡◌, ◌∙◌, ◌⊎◌, ◌++◌, ◌∷◌, ◌&&◌, ◌||◌, ℕ, zero, suc, Bool, true, false, List, Option, Some, None, Result, ◌+◌, ◌-◌, ◌≤◌, ◌<◌, ap, sym, refl, subst, inl, inr, [], Ok, Err, arith, append_assoc}
 use Rattle.std.proofs.lemmas.List.{append-nil, map-append}
-use Rattle.ink_model.specs.Configuration.{Configuration}
-use Rattle.ink_model.specs.Effect.{Fields}
-use Rattle.ink_model.specs.Events.{calls}
-use Rattle.ink_model.specs.Host.{Bound, turn_function}
-use Rattle.ink_model.specs.Memory.{GetsTo, answered_asks, asks}
-use Rattle.ink_model.specs.Move.{Outcome, Next, Stop, Faults}
-use Rattle.ink_model.specs.Run.{Made, Moment, At, Stopped, Faulted, answered, answers_of, came, cut_off, moment, moment_after, next, run}
-use Rattle.ink_model.specs.Step.{Stepped, Comes, Wants, step}
-use Rattle.ink_model.specs.Store.{Values}
-use Rattle.ink_model.specs.Tree.{StoryTree}
+use Rattle.ink_model.specs.Run.Configuration.{Configuration}
+use Rattle.ink_model.specs.Run.Effect.{Fields}
+use Rattle.ink_model.specs.Host.Events.{calls}
+use Rattle.ink_model.specs.Host.Bindings.{Bound, turn_function}
+use Rattle.ink_model.specs.Memory.Refusals.{GetsTo, answered_asks, asks}
+use Rattle.ink_model.specs.Run.Move.{Outcome, Next, Stop, Faults}
+use Rattle.ink_model.specs.Run.Moments.{Made, Moment, At, Stopped, Faulted, answered, answers_of, came, cut_off, moment, moment_after, next, run}
+use Rattle.ink_model.specs.Run.Step.{Stepped, Comes, Wants, step}
+use Rattle.ink_model.specs.Variables.Store.{Values}
+use Rattle.ink_model.specs.Story.Tree.{StoryTree}
 use Rattle.ink_model.specs.declared.fault.Fault.{Fault}
 use Rattle.ink_model.specs.declared.fault.Fault.TheVariants.{OutOfMemory, OutOfSteps}
 use Rattle.ink_model.specs.declared.host.Event.{Event}

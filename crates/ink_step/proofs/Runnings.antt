@@ -1,11 +1,11 @@
 -- A run with its desk, step by step.
 use Rattle.std.proofs.Common.{◌≡◌, ◌∙◌, ◌++◌, ◌∷◌, ◌+◌, ◌<◌, ℕ, List, [], Option, Result, Ok, Err, ap, subst, Bool, true, false}
-use Rattle.ink_model.specs.Configuration.{Configuration}
-use Rattle.ink_model.specs.Events.{Made, calls}
-use Rattle.ink_model.specs.Host.{Bound as Binds, nothing_bound}
-use Rattle.ink_model.specs.Memory.{asks}
-use Rattle.ink_model.specs.Step.{step}
-use Rattle.ink_model.specs.Tree.{StoryTree}
+use Rattle.ink_model.specs.Run.Configuration.{Configuration}
+use Rattle.ink_model.specs.Host.Events.{Made, calls}
+use Rattle.ink_model.specs.Host.Bindings.{Bound as Binds, nothing_bound}
+use Rattle.ink_model.specs.Memory.Refusals.{asks}
+use Rattle.ink_model.specs.Run.Step.{step}
+use Rattle.ink_model.specs.Story.Tree.{StoryTree}
 use Rattle.ink_model.specs.declared.fault.Fault.{Fault}
 use Rattle.ink_model.specs.declared.fault.Fault.TheVariants.{OutOfSteps}
 use Rattle.ink_model.specs.declared.host.Event.{Event}
@@ -16,7 +16,7 @@ use Rattle.ink_host.specs.Desk.{DeskView, Grew, bound_by, empty_desk}
 use Rattle.ink_host.specs.declared.objects.Called.{Called}
 use Rattle.ink_host.specs.declared.objects.Seen.{Seen}
 use Rattle.ink_step.specs.Runs.{AreBound, RunsToStop}
-use Rattle.ink_step.specs.Steps.{StepMakes, ended}
+use Rattle.ink_step.specs.Steps.{StepMakes, step_end}
 use Rattle.ink_moves.specs.declared.flow.StepEnd.{StepEnd}
 use Rattle.ink_host.proofs.Laws.{bound-same, grew-grew, grew-none}
 use Rattle.ink_step.proofs.Growing.{calls_on}
@@ -67,20 +67,20 @@ module _ {P T W : Type 0} (turn_log : T → List Called) (watch_log : W → List
         subst (λ es. Grew turn_log watch_log first es after) events (grew-grew turn_log watch_log first before after (calls first.next ran.made) h.0 ran.grew h.1)
 
     -- a step that ended so
-    ended_so : (on so : Bool) → on ≡ so → Stepped standing pressed before old after new (ended (Ok on)) → Stepped standing pressed before old after new (ended (Ok so))
-    ended_so on so is h = subst (λ w. Stepped standing pressed before old after new (ended (Ok w))) is h
+    ended_so : (on so : Bool) → on ≡ so → Stepped standing pressed before old after new (step_end (Ok on)) → Stepped standing pressed before old after new (step_end (Ok so))
+    ended_so on so is h = subst (λ w. Stepped standing pressed before old after new (step_end (Ok w))) is h
 
-    pub ran_on : (on : Bool) → on ≡ true → Stepped standing pressed before old after new (ended (Ok on)) → Ran (n + 1) after new
-    ran_on on is stepped = let h = ended_so on true is stepped in let d = did_in (ended (Ok true)) h in record {
+    pub ran_on : (on : Bool) → on ≡ true → Stepped standing pressed before old after new (step_end (Ok on)) → Ran (n + 1) after new
+    ran_on on is stepped = let h = ended_so on true is stepped in let d = did_in (step_end (Ok true)) h in record {
       made = ran.made ++ d.more;
-      grew = grown_by (ended (Ok true)) h d;
+      grew = grown_by (step_end (Ok true)) h d;
       got_there = run_went s bound_first start marked pressed n old new ran.made d.more ran.got_there d.ends;
       bound = bound_too bound_first ran.made d.more ran.bound d.bound;
     }
 
-    pub ran_to_stop : (on : Bool) → n < MAX_STEPS → on ≡ false → Stepped standing pressed before old after new (ended (Ok on)) → (m p : Bool) → EndsRun m p after new (Ok tt)
-    ran_to_stop on below is stepped m p = let h = ended_so on false is stepped in let d = did_in (ended (Ok false)) h in
-        (ran.made ++ d.more, grown_by (ended (Ok false)) h d, run_stopped s bound_first start marked pressed n MAX_STEPS old new ran.made d.more below ran.got_there d.ends, bound_too bound_first ran.made d.more ran.bound d.bound)
+    pub ran_to_stop : (on : Bool) → n < MAX_STEPS → on ≡ false → Stepped standing pressed before old after new (step_end (Ok on)) → (m p : Bool) → EndsRun m p after new (Ok tt)
+    ran_to_stop on below is stepped m p = let h = ended_so on false is stepped in let d = did_in (step_end (Ok false)) h in
+        (ran.made ++ d.more, grown_by (step_end (Ok false)) h d, run_stopped s bound_first start marked pressed n MAX_STEPS old new ran.made d.more below ran.got_there d.ends, bound_too bound_first ran.made d.more ran.bound d.bound)
 
     pub ran_to_fault : (f : Fault) → n < MAX_STEPS → Stepped standing pressed before old after new (Err f) → EndsRun marked pressed after new (Err f)
     ran_to_fault f below h = let d = did_in (Err f) h in

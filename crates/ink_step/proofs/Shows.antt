@@ -1,10 +1,10 @@
 -- Choices as they are shown are the same among spots and among places.
 use Rattle.std.proofs.Common.{◌≡◌, ◌≢◌, ◌∙◌, ap, refl, List, [], ◌∷◌, map, Bool, true, false, if◌then◌else◌, Result, Ok, Err, OnErr}
-use Rattle.ink_model.specs.Choices.{shown, shown_choice, visible}
-use Rattle.ink_model.specs.Configuration.{ChoiceOf, can_go_on, map_choice}
-use Rattle.ink_model.specs.Tree.{StoryTree}
-use Rattle.ink_model.specs.Turns.{open_choices}
-use Rattle.ink_step.specs.Words.{config_of}
+use Rattle.ink_model.specs.Choices.Making.{shown, shown_choice, visible}
+use Rattle.ink_model.specs.Run.Configuration.{ChoiceOf, can_go_on, map_choice}
+use Rattle.ink_model.specs.Story.Tree.{StoryTree}
+use Rattle.ink_model.specs.Protocol.Turns.{open_choices}
+use Rattle.ink_step.specs.Standing.{config_of}
 use Rattle.ink_step.specs.declared.machine.Machine.{Machine}
 use Rattle.ink_tree.specs.Nodes.{place_of}
 

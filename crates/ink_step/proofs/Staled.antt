@@ -1,7 +1,7 @@
 -- Freshness ends alike among spots and among places.
 use Rattle.std.proofs.Common.{◌≡◌, ◌∙◌, ap, refl, ℕ, List, [], ◌∷◌, map, true, false, if◌then◌else◌, nat_eq}
-use Rattle.ink_model.specs.Frames.{FrameOf, ThreadOf, ThreadsOf, is_function, map_frame, map_thread, map_threads, on_top}
-use Rattle.ink_model.specs.Threads.{stale, stale_run, staled}
+use Rattle.ink_model.specs.Flow.Frames.{FrameOf, ThreadOf, ThreadsOf, is_function, map_frame, map_thread, map_threads, on_top}
+use Rattle.ink_model.specs.Flow.Threads.{stale, stale_run, staled}
 
 module _ {P Q : Type 0} (f : P → Q) (depth : ℕ) where
   frame_alike : (a : FrameOf P) → map_frame f (stale depth a) ≡ stale depth (map_frame f a)

@@ -1,12 +1,12 @@
 -- Content that stores something takes a value, and copies it while a mark stands.
 use Rattle.std.proofs.Common.{◌≡◌, ◌&&◌, ◌||◌, refl, ℕ, List, Bool, is_some, true, false, Option, Some, None, Result, Ok, Err}
-use Rattle.ink_model.specs.Acceptance.{lands}
-use Rattle.ink_model.specs.Choices.{added, make}
-use Rattle.ink_model.specs.Configuration.{ChoiceOf}
-use Rattle.ink_model.specs.Effect.{Context, Fields, Effect, Stores, or_else, or_fault}
-use Rattle.ink_model.specs.Step.{effect, leaf_effect}
-use Rattle.ink_model.specs.Step.Choices.{offering, was_visited}
-use Rattle.ink_model.specs.Tree.{StoryTree, container, leaf}
+use Rattle.ink_model.specs.Story.Acceptance.{lands}
+use Rattle.ink_model.specs.Choices.Making.{added, make}
+use Rattle.ink_model.specs.Run.Configuration.{ChoiceOf}
+use Rattle.ink_model.specs.Run.Effect.{Context, Fields, Effect, Stores, or_else, or_fault}
+use Rattle.ink_model.specs.Run.Step.{effect, leaf_effect}
+use Rattle.ink_model.specs.Run.Step.Choices.{offering, was_visited}
+use Rattle.ink_model.specs.Story.Tree.{StoryTree, container, leaf}
 use Rattle.ink_model.specs.declared.content.Leaf.{Leaf}
 use Rattle.ink_model.specs.declared.content.Leaf.TheVariants as leaves
 use Rattle.ink_model.specs.declared.fault.Fault.{Fault}

@@ -1,7 +1,7 @@
 -- Numbers of marks are cleared alike among spots and among places.
 use Rattle.std.proofs.Common.{◌≡◌, ◌∙◌, ap, refl, List, [], ◌∷◌, map}
-use Rattle.ink_model.specs.Configuration.{ChoiceOf, map_choice, unnumbered_choice}
-use Rattle.ink_model.specs.Frames.{FrameOf, ThreadOf, ThreadsOf, map_frame, map_thread, map_threads, unnumbered_frame, unnumbered_thread, unnumbered_threads}
+use Rattle.ink_model.specs.Run.Configuration.{ChoiceOf, map_choice, unnumbered_choice}
+use Rattle.ink_model.specs.Flow.Frames.{FrameOf, ThreadOf, ThreadsOf, map_frame, map_thread, map_threads, unnumbered_frame, unnumbered_thread, unnumbered_threads}
 
 module _ {P Q : Type 0} (f : P → Q) where
   frames_alike : (fs : List (FrameOf P)) → map (map_frame f) (map unnumbered_frame fs) ≡ map unnumbered_frame (map (map_frame f) fs)

@@ -1,15 +1,15 @@
 -- How a step ends once a content was performed.
 use Rattle.std.specs.Prelude.{◌≡◌, ◌||◌, Bool, true, is_some, Result, Ok}
-use Rattle.ink_model.specs.Choosing.{following, following_asks}
-use Rattle.ink_model.specs.Effect.{Effect, fields_of}
-use Rattle.ink_model.specs.Move.{move}
-use Rattle.ink_model.specs.MoveMemory.{move_asks}
-use Rattle.ink_model.specs.Tree.{StoryTree}
+use Rattle.ink_model.specs.Choices.Choosing.{following, following_asks}
+use Rattle.ink_model.specs.Run.Effect.{Effect, fields_of}
+use Rattle.ink_model.specs.Run.Move.{move}
+use Rattle.ink_model.specs.Memory.Moves.{move_asks}
+use Rattle.ink_model.specs.Story.Tree.{StoryTree}
 use Rattle.ink_model.specs.declared.fault.Fault.{Fault}
 use Rattle.ink_step.specs.Marks.{pressed}
-use Rattle.ink_effects.specs.Performs.{AsksToStore, Keeps, KeepsChoices, Performs}
+use Rattle.ink_effects.specs.Performs.{AsksToStore, KeepsThreads, KeepsChoices, Performs}
 use Rattle.ink_step.specs.Steps.{StepEnds}
-use Rattle.ink_step.specs.Words.{config_of}
+use Rattle.ink_step.specs.Standing.{config_of}
 use Rattle.ink_moves.specs.declared.flow.StepEnd.{StepEnd}
 use Rattle.ink_step.specs.declared.machine.Machine.{Machine}
 use Rattle.ink_effects.specs.declared.transfer.Transfer.{Transfer}
@@ -18,6 +18,6 @@ use Rattle.ink_vars.specs.Undo.{globals_stood}
 -- A content was performed on the way from a machine to the next, and left this transfer: flow goes where the content sends it, may
 -- follow a choice, and a global is stored.
 abbrev pub Finishes : StoryTree → Machine → Transfer → Machine → Result StepEnd Fault → Type 0
-Finishes s mid t new result = (old : Machine) (asks : Bool) (e : Effect) → Performs s asks e (fields_of (config_of s mid)) (Ok t) → Keeps s e old.flow.threads.threads mid.flow.threads.threads → KeepsChoices s e old.flow.choices.items mid.flow.choices.items
+Finishes s mid t new result = (old : Machine) (asks : Bool) (e : Effect) → Performs s asks e (fields_of (config_of s mid)) (Ok t) → KeepsThreads s e old.flow.threads.threads mid.flow.threads.threads → KeepsChoices s e old.flow.choices.items mid.flow.choices.items
     → mid.flow.safe ≡ old.flow.safe → mid.shared.counts.rows ≡ old.shared.counts.rows → mid.shared.turn ≡ old.shared.turn → mid.shared.globals.rows ≡ old.shared.globals.rows → (is_some (globals_stood mid.shared.globals) ≡ true → AsksToStore e asks) → let c = config_of s old in
     StepEnds (pressed s new || ((asks || move_asks s e c) || following_asks s (move s e c))) (following s (move s e c)) old.shared.globals.rows (config_of s new) result

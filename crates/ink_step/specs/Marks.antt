@@ -2,16 +2,16 @@
 use Rattle.std.specs.Prelude.{ℕ, ◌+◌, ◌-◌, ◌*◌, ◌^◌, min, List, length, map, Bool, false, ◌&&◌, ◌||◌, Option, None, Some, is_some, option_and_then, unwrap_or}
 use Rattle.ink_choice.specs.Undo.{choices_spare, choices_stood}
 pub use Rattle.ink_effects.specs.Marks.{lacks, takes_value}
-use Rattle.ink_model.specs.Choices.{only_invisible}
-use Rattle.ink_model.specs.Configuration.{ChoiceOf, Configuration, current_place, map_choice}
-use Rattle.ink_model.specs.Counts.{CountsOf}
-use Rattle.ink_model.specs.Frames.{ThreadsOf, map_threads}
-use Rattle.ink_model.specs.Page.{Page}
-use Rattle.ink_model.specs.Entered.{entered_places}
-use Rattle.ink_model.specs.Place.{entered}
-use Rattle.ink_model.specs.Store.{Values}
-use Rattle.ink_model.specs.Threads.{frame_count}
-use Rattle.ink_model.specs.Visits.{around}
+use Rattle.ink_model.specs.Choices.Making.{only_invisible}
+use Rattle.ink_model.specs.Run.Configuration.{ChoiceOf, Configuration, current_place, map_choice}
+use Rattle.ink_model.specs.Variables.Counts.{CountsOf}
+use Rattle.ink_model.specs.Flow.Frames.{ThreadsOf, map_threads}
+use Rattle.ink_model.specs.Text.Page.{Page}
+use Rattle.ink_model.specs.Run.Entered.{entered_places}
+use Rattle.ink_model.specs.Run.Place.{content_place}
+use Rattle.ink_model.specs.Variables.Store.{Values}
+use Rattle.ink_model.specs.Flow.Threads.{frame_count}
+use Rattle.ink_model.specs.Run.Visits.{around}
 use Rattle.ink_model.specs.declared.place.Part.{Part}
 use Rattle.ink_model.specs.declared.value.Value.{Value}
 use Rattle.ink_out.specs.Undo.{output_stood}
@@ -20,8 +20,8 @@ use Rattle.ink_step.specs.declared.machine.Machine.{Machine}
 use Rattle.ink_step.specs.declared.own.OwnPair.{OwnPair}
 use Rattle.ink_step.specs.declared.own.OwnPair.TheVariants.{Safe, Turned}
 use Rattle.ink_step.specs.declared.step.TheConstants.{STEPPING}
-use Rattle.ink_model.specs.Tree.{StoryTree, leaf, at}
-use Rattle.ink_step.specs.Words.{config_of, counts_in}
+use Rattle.ink_model.specs.Story.Tree.{StoryTree, leaf, at}
+use Rattle.ink_step.specs.Standing.{config_of, counts_in}
 use Rattle.ink_trail.specs.Undo.{KeepsTrail, TrailView, spare, stood_at, trail_of, writes_of}
 use Rattle.ink_tree.specs.Nodes.{place_of}
 use Rattle.ink_tree.specs.declared.spot.Spot.{Spot}
@@ -87,7 +87,7 @@ takes_there o = false
 
 -- the first content of the step at a configuration is one
 unfoldable pub takes_first : StoryTree → Configuration → Bool
-takes_first s c = takes_there (option_and_then (λ p. at s (entered s p)) (current_place c))
+takes_first s c = takes_there (option_and_then (λ p. at s (content_place s p)) (current_place c))
 
 -- ---- what notes want
 

@@ -1,7 +1,7 @@
 -- The configuration that a machine's parts are of.
-use Rattle.ink_model.specs.Configuration.{Configuration}
-use Rattle.ink_model.specs.Tree.{StoryTree}
-use Rattle.ink_step.specs.Words.{flow_of, shared_of}
+use Rattle.ink_model.specs.Run.Configuration.{Configuration}
+use Rattle.ink_model.specs.Story.Tree.{StoryTree}
+use Rattle.ink_step.specs.Standing.{flow_of, shared_of}
 use Rattle.ink_step.specs.declared.parts.Fields.{Fields}
 use Rattle.ink_step.specs.declared.parts.Parts.{Parts}
 

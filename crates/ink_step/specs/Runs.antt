@@ -1,13 +1,13 @@
 -- How runs of steps end, with the calls that they made.
 use Rattle.std.specs.Prelude.{◌≡◌, ◌<◌, ◌⊎◌, ℕ, List, [], Bool, true, Some, Result, Ok, Err}
 use Rattle.std.specs.List.{AllByRecursion}
-use Rattle.ink_model.specs.Configuration.{Configuration}
-use Rattle.ink_model.specs.Host.{Bound, turn_function}
-use Rattle.ink_model.specs.Memory.{CallsAt, GetsTo}
-use Rattle.ink_model.specs.Run as run
-use Rattle.ink_model.specs.Run.{At, Faulted, Made, answers_of, cut_off, moment}
-use Rattle.ink_model.specs.Store.{Values}
-use Rattle.ink_model.specs.Tree.{StoryTree}
+use Rattle.ink_model.specs.Run.Configuration.{Configuration}
+use Rattle.ink_model.specs.Host.Bindings.{Bound, turn_function}
+use Rattle.ink_model.specs.Memory.Refusals.{CallsAt, GetsTo}
+use Rattle.ink_model.specs.Run.Moments as run
+use Rattle.ink_model.specs.Run.Moments.{At, Faulted, Made, answers_of, cut_off, moment}
+use Rattle.ink_model.specs.Variables.Store.{Values}
+use Rattle.ink_model.specs.Story.Tree.{StoryTree}
 use Rattle.ink_model.specs.declared.fault.Fault.{Fault}
 use Rattle.ink_model.specs.declared.fault.Fault.TheVariants.{OutOfMemory}
 use Rattle.ink_model.specs.declared.limits.TheConstants.{MAX_STEPS}

@@ -1,17 +1,17 @@
 -- How steps end, beside the definitions, and what opening and choosing come to.
 use Rattle.std.specs.Prelude.{◌≡◌, ℕ, List, [], ◌∷◌, ◌⊎◌, ◌||◌, Bool, true, false, Option, Some, None, Result, Ok, Err}
-use Rattle.ink_model.specs.Choosing.{chosen}
-use Rattle.ink_model.specs.Configuration.{ChoiceOf, Configuration}
-use Rattle.ink_model.specs.Events.{calls}
-use Rattle.ink_model.specs.Host.{Bound, turn_function}
-use Rattle.ink_model.specs.Memory.{OpensShort, answered_asks}
-use Rattle.ink_model.specs.Move.{Outcome, Next, Stop, Faults}
-use Rattle.ink_model.specs.Opening.{opening}
-use Rattle.ink_model.specs.Run.{answered}
-use Rattle.ink_model.specs.Step.{Stepped, Comes, Wants}
-use Rattle.ink_model.specs.Store.{Values}
-use Rattle.ink_model.specs.Tree.{StoryTree}
-use Rattle.ink_model.specs.Visits.{entering_around, entering_asks}
+use Rattle.ink_model.specs.Choices.Choosing.{chosen}
+use Rattle.ink_model.specs.Run.Configuration.{ChoiceOf, Configuration}
+use Rattle.ink_model.specs.Host.Events.{calls}
+use Rattle.ink_model.specs.Host.Bindings.{Bound, turn_function}
+use Rattle.ink_model.specs.Memory.Refusals.{OpensShort, answered_asks}
+use Rattle.ink_model.specs.Run.Move.{Outcome, Next, Stop, Faults}
+use Rattle.ink_model.specs.Run.Opening.{opening}
+use Rattle.ink_model.specs.Run.Moments.{answered}
+use Rattle.ink_model.specs.Run.Step.{Stepped, Comes, Wants}
+use Rattle.ink_model.specs.Variables.Store.{Values}
+use Rattle.ink_model.specs.Story.Tree.{StoryTree}
+use Rattle.ink_model.specs.Run.Visits.{entering_around, entering_asks}
 use Rattle.ink_model.specs.declared.fault.Fault.{Fault}
 use Rattle.ink_model.specs.declared.fault.Fault.TheVariants.{OutOfMemory}
 use Rattle.ink_model.specs.declared.fault.Refusal.{Refusal}
@@ -38,10 +38,10 @@ wants (Wants name arguments f d) = true
 wants (Comes outcome) = false
 
 -- that as the end of a step
-abbrev pub ended : Result Bool Fault → Result StepEnd Fault
-ended (Ok true) = Ok ends.Went
-ended (Ok false) = Ok ends.Stopped
-ended (Err f) = Err f
+abbrev pub step_end : Result Bool Fault → Result StepEnd Fault
+step_end (Ok true) = Ok ends.Went
+step_end (Ok false) = Ok ends.Stopped
+step_end (Err f) = Err f
 
 -- The same of a step that may call turn functions. It may also end with OutOfMemory where it is pressed: where a mark stands,
 -- for which memory was refused. Where it wants a call, the name is bound to a turn function, which was called once, and the step

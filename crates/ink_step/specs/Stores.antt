@@ -1,11 +1,11 @@
 -- When a value is stored at once.
 use Rattle.std.specs.Prelude.{◌≡◌, ℕ, List, true, false, Some, is_some, option_and_then, option_map}
-use Rattle.ink_model.specs.Frames.{map_threads, place_in}
-use Rattle.ink_model.specs.Place.{next_place}
-use Rattle.ink_model.specs.Stack.{popped}
-use Rattle.ink_model.specs.Store.{stored}
-use Rattle.ink_model.specs.Tree.{StoryTree}
-use Rattle.ink_model.specs.VariableMemory.{is_pointer}
+use Rattle.ink_model.specs.Flow.Frames.{map_threads, place_in}
+use Rattle.ink_model.specs.Run.Place.{next_place}
+use Rattle.ink_model.specs.Values.Stack.{popped}
+use Rattle.ink_model.specs.Variables.Store.{stored}
+use Rattle.ink_model.specs.Story.Tree.{StoryTree}
+use Rattle.ink_model.specs.Memory.Variables.{is_pointer}
 use Rattle.ink_step.specs.declared.machine.Machine.{Machine}
 use Rattle.ink_tree.specs.Nodes.{place_of}
 use Rattle.ink_tree.specs.declared.spot.Spot.{Spot}

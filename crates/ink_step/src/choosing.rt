@@ -3,14 +3,14 @@
 ghost use Rattle.ink_stack.specs.Undo.{threads_spare};
 ghost use Rattle.ink_choice.specs.Undo.{choices_spare, choices_stood};
 ghost use Rattle.std.specs.Prelude.{◌≡◌, is_some, false, Some, true, MatchOption, OnErr, OnOk, ◌≤◌, ◌||◌, IfErr, IfOk, length};
-ghost use Rattle.ink_check.specs.Words.{story_tree};
-ghost use Rattle.ink_model.specs.Choosing.{default_asks, default_choice, jumped, open_choice, stopped_by, taken_up};
-ghost use Rattle.ink_model.specs.Configuration.{map_choice};
-ghost use Rattle.ink_model.specs.Tree.{StoryTree};
-ghost use Rattle.ink_model.specs.Visits.{around, entering_around, entering_asks};
+ghost use Rattle.ink_check.specs.Standing.{story_tree};
+ghost use Rattle.ink_model.specs.Choices.Choosing.{default_asks, default_choice, jumped, open_choice, stopped_by, taken_up};
+ghost use Rattle.ink_model.specs.Run.Configuration.{map_choice};
+ghost use Rattle.ink_model.specs.Story.Tree.{StoryTree};
+ghost use Rattle.ink_model.specs.Run.Visits.{around, entering_around, entering_asks};
 ghost use Rattle.ink_step.specs.Marks.{choices_lack, choosing_lacks, own_lacks, own_spare, pressed, stood_of, threads_lack, turn_lacks};
 ghost use Rattle.ink_step.specs.Steps.{Chooses, StepEnds};
-ghost use Rattle.ink_step.specs.Words.{aside_in, config_of, start_of};
+ghost use Rattle.ink_step.specs.Standing.{aside_in, config_of, start_of};
 ghost use Rattle.ink_tree.specs.Nodes.{place_of};
 
 use crate::machine::Machine;

@@ -1,10 +1,10 @@
 //! Flows of a machine: going to one, and taking one away (docs/RUNNING.md, "Flows").
 
 ghost use Rattle.std.specs.Prelude.{◌≡◌, bytes_eq, is_none, is_some, length, IfOk, OnErr, OnOk, false, true};
-ghost use Rattle.ink_check.specs.Words.{story_tree};
-ghost use Rattle.ink_model.specs.Flows.{current_name, default_flow, has_room, in_flow, is_flow_name, without_flow};
-ghost use Rattle.ink_model.specs.Named.{at, names};
-ghost use Rattle.ink_model.specs.Tree.{StoryTree};
+ghost use Rattle.ink_check.specs.Standing.{story_tree};
+ghost use Rattle.ink_model.specs.Run.Flows.{current_name, default_flow, has_room, in_flow, is_flow_name, without_flow};
+ghost use Rattle.ink_model.specs.Variables.Named.{at, names};
+ghost use Rattle.ink_model.specs.Story.Tree.{StoryTree};
 ghost use Rattle.ink_step.specs.Marks.{stood_of, unmarked};
 
 use crate::machine::Machine;
@@ -13,7 +13,7 @@ use ink_model::{Seq, Text};
 use std::alloc::AllocError;
 
 impl Machine {
-    ghost use Rattle.ink_step.specs.Words.{aside_of, aside_in, game_of, start_of};
+    ghost use Rattle.ink_step.specs.Standing.{aside_of, aside_in, game_of, start_of};
 
     /// Goes to the flow of a name, which is made at the story's start where it is absent: the current one is put aside as it is, and
     /// what flows share stays. The one error is a refused request for memory, which is made only for an absent one, and changes

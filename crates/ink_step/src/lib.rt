@@ -2,7 +2,6 @@
 #![tactic(auto)]
 
 mod choosing;
-mod counting;
 mod flows;
 mod machine;
 mod marking;
@@ -13,6 +12,7 @@ mod running;
 mod saying;
 mod step;
 mod told;
+mod visits;
 
 pub use ink_effects::Shared;
 pub use ink_flows::{Aside, DEFAULT_FLOW, Flow, is_flow_name};

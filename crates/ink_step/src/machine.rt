@@ -1,10 +1,10 @@
 //! The machine that runs a story forward.
 
 ghost use Rattle.std.specs.Prelude.{◌≡◌, ◌≤◌, IfErr, OnOk, OnErr, is_ok, is_some};
-ghost use Rattle.ink_model.specs.Configuration.{begun, settled, can_go_on, with_globals};
-ghost use Rattle.ink_model.specs.Passage.{is_loose};
-ghost use Rattle.ink_model.specs.Store.{store, stored};
-ghost use Rattle.ink_model.specs.Tree.{StoryTree};
+ghost use Rattle.ink_model.specs.Run.Configuration.{begun, settled, can_go_on, with_globals};
+ghost use Rattle.ink_model.specs.Protocol.Passage.{is_loose};
+ghost use Rattle.ink_model.specs.Variables.Store.{store, stored};
+ghost use Rattle.ink_model.specs.Story.Tree.{StoryTree};
 ghost use Rattle.ink_step.specs.Marks.{room_in, stood_of, unmarked};
 
 use crate::own::OwnPair;
@@ -43,7 +43,7 @@ impl Drop for Machine {
 }
 
 impl Machine {
-    ghost use Rattle.ink_step.specs.Words.{aside_in, config_of, globals_of, start_of};
+    ghost use Rattle.ink_step.specs.Standing.{aside_in, config_of, globals_of, start_of};
 
     /// Whether flow has not stopped. Takes no memory.
     pub fn can_go_on(&self) -> bool
@@ -115,7 +115,7 @@ impl Machine {
 
     /// As a running command ends, once its text was taken: no mark of the text is left, and no frame has the number of an Enter.
     /// There may be no mark to go back to. Takes no memory (docs/RUNNING.md, "Runs").
-    #[tactic(auto, unfolding(ink_model::specs::Configuration::settled))]
+    #[tactic(auto, unfolding(ink_model::specs::Run::Configuration::settled))]
     pub fn settle(&mut self)
         requires unmarked { stood_of self.old ≡ unmarked }
         ensures settled { (s : StoryTree) → config_of s self.new ≡ settled (config_of s self.old) }

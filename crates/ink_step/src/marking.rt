@@ -1,7 +1,7 @@
 //! Marks: a machine goes back to where it stood at one (docs/RUNNING.md, "Marks").
 
 ghost use Rattle.std.specs.Prelude.{◌≡◌, ◌≤◌, ◌<◌, OnErr, OnOk};
-ghost use Rattle.ink_model.specs.Tree.{StoryTree};
+ghost use Rattle.ink_model.specs.Story.Tree.{StoryTree};
 ghost use Rattle.ink_step.specs.Marks.{KeepsTrails, config_back, marked_at, pairs_in, room_in, stood_of, unmarked, writes_in};
 
 use crate::machine::Machine;
@@ -9,7 +9,7 @@ use ink_trail::Undo;
 use std::alloc::AllocError;
 
 impl Machine {
-    ghost use Rattle.ink_step.specs.Words.{aside_in, config_of, start_of};
+    ghost use Rattle.ink_step.specs.Standing.{aside_in, config_of, start_of};
 
     /// Starts a mark, at which all stands as it does now, and forgets an older one. There is as much room afterwards. Takes no memory.
     #[inline(never)]

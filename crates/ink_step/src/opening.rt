@@ -1,13 +1,13 @@
 //! Opening a story: running its declarations, and keeping the globals (docs/RUNNING.md, "Opening").
 
 ghost use Rattle.std.specs.Prelude.{◌≡◌, [], Ok, IfOk, IfErr, false, option_map};
-ghost use Rattle.ink_model.specs.Configuration.{fresh_at, start, with_globals};
-ghost use Rattle.ink_model.specs.Flows.{one_flow};
-ghost use Rattle.ink_model.specs.Host.{nothing_bound};
-ghost use Rattle.ink_model.specs.Opening.{declarations, opening};
-ghost use Rattle.ink_model.specs.Place.{landed};
-ghost use Rattle.ink_model.specs.Tree.{StoryTree};
-ghost use Rattle.ink_check.specs.Words.{story_tree};
+ghost use Rattle.ink_model.specs.Run.Configuration.{fresh_at, start, with_globals};
+ghost use Rattle.ink_model.specs.Run.Flows.{one_flow};
+ghost use Rattle.ink_model.specs.Host.Bindings.{nothing_bound};
+ghost use Rattle.ink_model.specs.Run.Opening.{declarations, opening};
+ghost use Rattle.ink_model.specs.Run.Place.{landed};
+ghost use Rattle.ink_model.specs.Story.Tree.{StoryTree};
+ghost use Rattle.ink_check.specs.Standing.{story_tree};
 ghost use Rattle.ink_step.specs.Runs.{RunsToStop};
 ghost use Rattle.ink_tree.specs.Nodes.{place_of};
 
@@ -33,7 +33,7 @@ pub struct Unopened {
 impl Machine {
     ghost use Rattle.ink_step.specs.Marks.{stood_of, unmarked};
     ghost use Rattle.ink_step.specs.Steps.{FailsToOpen};
-    ghost use Rattle.ink_step.specs.Words.{aside_in, config_of, globals_of, start_of};
+    ghost use Rattle.ink_step.specs.Standing.{aside_in, config_of, globals_of, start_of};
 
     /// A machine at the story's start, with the globals that the story declares, and one flow. The fault is that of the declarations, or
     /// `OutOfMemory`. A story without declarations needs no memory. No mark stands in the machine.
@@ -68,7 +68,7 @@ impl Machine {
     }
 
     /// A machine at the story's start with these globals and one flow, where no mark stands. Takes no memory.
-    #[tactic(auto, unfolding(ink_model::specs::Configuration::start, ink_model::specs::Configuration::fresh_at))]
+    #[tactic(auto, unfolding(ink_model::specs::Run::Configuration::start, ink_model::specs::Run::Configuration::fresh_at))]
     pub fn at_start(alloc: Global, story: &Story, globals: Globals) -> Machine
         ensures at_start { let s = story_tree story.now in config_of s result ≡ start s globals.rows }
         ensures globals { globals_of result ≡ globals.rows }
@@ -80,7 +80,7 @@ impl Machine {
     }
 
     /// A machine at a place with these globals, where nothing has happened yet and no mark stands. Takes no memory.
-    #[tactic(auto, unfolding(ink_model::specs::Configuration::fresh_at, crate::specs::Marks::own_stood, ink_trail::specs::Undo::stood_at))]
+    #[tactic(auto, unfolding(ink_model::specs::Run::Configuration::fresh_at, crate::specs::Marks::own_stood, ink_trail::specs::Undo::stood_at))]
     fn fresh(alloc: Global, place: Spot, mut globals: Globals) -> Machine
         ensures fresh { (s : StoryTree) → config_of s result ≡ with_globals globals.rows (fresh_at (place_of s place)) }
         ensures globals { globals_of result ≡ globals.rows }

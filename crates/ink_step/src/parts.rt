@@ -1,10 +1,10 @@
 //! What a machine has, lent and taken (docs/RUNNING.md, "Configurations").
 
 ghost use Rattle.std.specs.Prelude.{◌≡◌, []};
-ghost use Rattle.ink_check.specs.Words.{story_tree};
-ghost use Rattle.ink_model.specs.Configuration.{start};
-ghost use Rattle.ink_model.specs.Flows.{one_flow};
-ghost use Rattle.ink_model.specs.Tree.{StoryTree};
+ghost use Rattle.ink_check.specs.Standing.{story_tree};
+ghost use Rattle.ink_model.specs.Run.Configuration.{start};
+ghost use Rattle.ink_model.specs.Run.Flows.{one_flow};
+ghost use Rattle.ink_model.specs.Story.Tree.{StoryTree};
 ghost use Rattle.ink_step.specs.Parts.{config_of_fields, config_of_parts};
 
 use crate::machine::Machine;
@@ -36,7 +36,7 @@ pub struct Fields {
 
 impl Machine {
     ghost use Rattle.ink_step.specs.Marks.{stood_of, unmarked};
-    ghost use Rattle.ink_step.specs.Words.{aside_in, config_of};
+    ghost use Rattle.ink_step.specs.Standing.{aside_in, config_of};
 
     /// A machine at the story's start, without globals, and with one flow. Takes no memory.
     pub fn new(alloc: Global, story: &Story) -> Machine

@@ -1,12 +1,12 @@
 //! The run of a command: steps to the stop, and the choices that are open there (docs/RUNNING.md, "Runs").
 
 ghost use Rattle.std.specs.Prelude.{◌≡◌, ◌≢◌, [], List, IfOk, OnErr};
-ghost use Rattle.ink_check.specs.Words.{story_tree};
+ghost use Rattle.ink_check.specs.Standing.{story_tree};
 ghost use Rattle.ink_host.specs.Desk.{Grew, bound_by};
 ghost use Rattle.ink_host.specs.Telling.{log_of};
-ghost use Rattle.ink_model.specs.Events.{Made, calls};
-ghost use Rattle.ink_model.specs.Tree.{StoryTree};
-ghost use Rattle.ink_model.specs.Turns.{open_choices};
+ghost use Rattle.ink_model.specs.Host.Events.{Made, calls};
+ghost use Rattle.ink_model.specs.Story.Tree.{StoryTree};
+ghost use Rattle.ink_model.specs.Protocol.Turns.{open_choices};
 ghost use Rattle.ink_step.specs.Marks.{keeps_mark, pressed, stood_of};
 ghost use Rattle.ink_effects.specs.Refusals.{RunStopsAtRefusal};
 ghost use Rattle.ink_step.specs.Runs.{AreBound, RunsToStop};
@@ -18,7 +18,7 @@ use ink_model::{Fault, MAX_STEPS, Seq, Shown};
 use std::alloc::AllocError;
 
 impl Machine {
-    ghost use Rattle.ink_step.specs.Words.{aside_in, config_of, start_of};
+    ghost use Rattle.ink_step.specs.Standing.{aside_in, config_of, start_of};
 
     /// Steps to the stop, from where a running command has begun. The fault is that of the step that faulted, `OutOfSteps` after
     /// 1,000,000 steps, or `OutOfMemory` where memory was refused to a step that asks for it, or for what came of a call that it

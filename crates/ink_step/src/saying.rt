@@ -1,17 +1,17 @@
 //! What a machine says, handed out, and the memory of it, given back (docs/TEXT.md).
 
 ghost use Rattle.std.specs.Prelude.{◌≡◌, [], IfOk, IsOk, OnErr, true};
-ghost use Rattle.ink_model.specs.Clean.{clean};
-ghost use Rattle.ink_model.specs.Mark.{tags};
-ghost use Rattle.ink_model.specs.Shown.{shown_text, shows_more};
-ghost use Rattle.ink_model.specs.Tree.{StoryTree};
+ghost use Rattle.ink_model.specs.Text.Clean.{clean};
+ghost use Rattle.ink_model.specs.Text.Mark.{tags};
+ghost use Rattle.ink_model.specs.Text.Shown.{shown_text, shows_more};
+ghost use Rattle.ink_model.specs.Story.Tree.{StoryTree};
 
 use crate::machine::Machine;
 use ink_model::{Seq, Shared, Text};
 use std::alloc::AllocError;
 
 impl Machine {
-    ghost use Rattle.ink_step.specs.Words.{config_of};
+    ghost use Rattle.ink_step.specs.Standing.{config_of};
 
     /// The text of the line, cleaned (docs/TEXT.md, "Cleaning"), in memory that was given back, where that is enough. The one
     /// error is a refused request for memory, which is made only where more than blanks is shown.

@@ -3,25 +3,25 @@
 ghost use Rattle.ink_value.specs.Undo.{stack_spare, stack_stood};
 ghost use Rattle.ink_stack.specs.Undo.{threads_spare};
 ghost use Rattle.std.specs.Prelude.{◌≡◌, ◌⊎◌, ◌||◌, Bool, List, true, false, Some, Ok, IfSome, OnOk, nat_lt, option_and_then, option_map, ◌≤◌, ◌+◌, IfErr, OnErr, length, ◌&&◌, is_some};
-ghost use Rattle.ink_check.specs.Words.{story_tree};
+ghost use Rattle.ink_check.specs.Standing.{story_tree};
 ghost use Rattle.ink_host.specs.Desk.{Grew, bound_by};
 ghost use Rattle.ink_host.specs.Telling.{log_of};
-ghost use Rattle.ink_model.specs.Asks.{acting_asks, calling_asks, external_asks};
-ghost use Rattle.ink_model.specs.Choosing.{following, following_asks};
-ghost use Rattle.ink_model.specs.Effect.{Effect, Fields, context_of, fields_of};
-ghost use Rattle.ink_model.specs.Flow.{called, moved_on, reach, returned};
-ghost use Rattle.ink_model.specs.Frames.{map_threads, on_top, place_in};
-ghost use Rattle.ink_model.specs.Host.{Bound};
-ghost use Rattle.ink_model.specs.Memory.{asks, content_asks};
-ghost use Rattle.ink_model.specs.Move.{Outcome, going, landing, may_enter, move as moved, place_to, written_in};
-ghost use Rattle.ink_model.specs.MoveMemory.{landed_asks, move_asks, moved_asks, returned_asks};
-ghost use Rattle.ink_model.specs.Place.{next_place};
-ghost use Rattle.ink_model.specs.Step.{acted, call_made, effect, step};
-ghost use Rattle.ink_model.specs.Step.Host.{call_at, call_external};
-ghost use Rattle.ink_model.specs.Step.Variables as effects;
-ghost use Rattle.ink_model.specs.Threads.{frame_count, staled};
-ghost use Rattle.ink_model.specs.Tree.{StoryTree, at, leaf};
-ghost use Rattle.ink_model.specs.VariableMemory.{is_pointer};
+ghost use Rattle.ink_model.specs.Memory.Asks.{acting_asks, calling_asks, external_asks};
+ghost use Rattle.ink_model.specs.Choices.Choosing.{following, following_asks};
+ghost use Rattle.ink_model.specs.Run.Effect.{Effect, Fields, context_of, fields_of};
+ghost use Rattle.ink_model.specs.Flow.Transfers.{called, moved_on, reach, returned};
+ghost use Rattle.ink_model.specs.Flow.Frames.{map_threads, on_top, place_in};
+ghost use Rattle.ink_model.specs.Host.Bindings.{Bound};
+ghost use Rattle.ink_model.specs.Memory.Refusals.{asks, content_asks};
+ghost use Rattle.ink_model.specs.Run.Move.{Outcome, going, landing_outcome, may_enter, move as moved, place_to, written_in};
+ghost use Rattle.ink_model.specs.Memory.Moves.{landed_asks, move_asks, moved_asks, returned_asks};
+ghost use Rattle.ink_model.specs.Run.Place.{next_place};
+ghost use Rattle.ink_model.specs.Run.Step.{acted, call_made, effect, step};
+ghost use Rattle.ink_model.specs.Run.Step.Host.{call_at, call_external};
+ghost use Rattle.ink_model.specs.Run.Step.Variables as effects;
+ghost use Rattle.ink_model.specs.Flow.Threads.{frame_count, staled};
+ghost use Rattle.ink_model.specs.Story.Tree.{StoryTree, at, leaf};
+ghost use Rattle.ink_model.specs.Memory.Variables.{is_pointer};
 ghost use Rattle.ink_model.specs.declared.host.Event.{Event as Happening};
 ghost use Rattle.ink_model.specs.declared.limits.TheConstants.{MAX_FRAMES};
 ghost use Rattle.ink_model.specs.declared.scope.Scope.TheVariants as scope;
@@ -29,11 +29,11 @@ ghost use Rattle.ink_stack.specs.Calls.{frame_kind};
 ghost use Rattle.ink_step.specs.Stores.{StoresAtOnce};
 ghost use Rattle.ink_step.specs.Marks.{keeps_mark, pressed, presses, stack_lacks, stood_of, takes_there, threads_lack};
 ghost use Rattle.ink_step.specs.Finishes.{Finishes};
-ghost use Rattle.ink_effects.specs.Performs.{AsksToStore, Keeps, KeepsChoices, Performs, landing_of, leading, storing_in, unstored};
+ghost use Rattle.ink_effects.specs.Performs.{AsksToStore, KeepsThreads, KeepsChoices, Performs, landing_of, leading, storing_in, unstored};
 ghost use Rattle.ink_effects.specs.External.{call_of};
 ghost use Rattle.ink_effects.specs.Refusals.{StepStopsAtRefusal};
-ghost use Rattle.ink_step.specs.Steps.{EndsPlainly, StepEnds, StepMakes, Steps, ended, wants};
-ghost use Rattle.ink_step.specs.Words.{aside_in, config_of, globals_of, start_of};
+ghost use Rattle.ink_step.specs.Steps.{EndsPlainly, StepEnds, StepMakes, Steps, step_end, wants};
+ghost use Rattle.ink_step.specs.Standing.{aside_in, config_of, globals_of, start_of};
 ghost use Rattle.ink_moves.specs.declared.flow.StepEnd.TheVariants.{WantsCall, Went};
 ghost use Rattle.ink_moves.specs.declared.flow.TheConstants.{MOVING};
 ghost use Rattle.ink_tree.specs.Kept.{leaf_in};
@@ -48,7 +48,7 @@ use ink_effects::{
 };
 use ink_host::{Desk, PureFn, TurnFn, Watcher};
 use ink_model::{Fault, FrameKind, Leaf, Shared, Text, Value};
-use ink_moves::{MOVING, StepEnd, done, end, fork, give_back, land, move_on, move_to, next_of};
+use ink_moves::{MOVING, StepEnd, done, end, fork, land, move_on, move_to, next_of, return_frame};
 use ink_stack::CallKind;
 use ink_trail::Undo;
 use ink_tree::Spot;
@@ -97,7 +97,7 @@ impl Machine {
         desk: &mut Desk<P, T, W>,
     ) -> Result<bool, Fault>
         ensures step { let s = story_tree story.now in let b = bound_by P.meaning desk.old.functions in let c = config_of s self.old in
-            (es : List Happening) × Grew T.log (log_of W.state) desk.old es desk.new × StepMakes s b desk.old.next (presses s self.old self.new) (asks s b c) (step s b c) es self.old.shared.globals.rows (config_of s self.new) (ended result) }
+            (es : List Happening) × Grew T.log (log_of W.state) desk.old es desk.new × StepMakes s b desk.old.next (presses s self.old self.new) (asks s b c) (step s b c) es self.old.shared.globals.rows (config_of s self.new) (step_end result) }
         ensures refusals { StepStopsAtRefusal T.refusals desk.old desk.new result }
         ensures watchers { desk.new.watchers ≡ desk.old.watchers }
         ensures start { start_of self.new ≡ start_of self.old }
@@ -580,7 +580,7 @@ impl Machine {
     #[inline(always)]
     fn go(&mut self, story: &Story, transfer: &Transfer<'_>) -> Result<StepEnd, Fault>
         requires room { MOVING + 4 ≤ threads_spare self.old.flow.threads }
-        ensures ends { let s = story_tree story.now in (asks : Bool) (e : Effect) → Performs s asks e (fields_of (config_of s self.old)) (Ok transfer.now) → Keeps s e self.old.flow.threads.threads self.old.flow.threads.threads → KeepsChoices s e self.old.flow.choices.items self.old.flow.choices.items
+        ensures ends { let s = story_tree story.now in (asks : Bool) (e : Effect) → Performs s asks e (fields_of (config_of s self.old)) (Ok transfer.now) → KeepsThreads s e self.old.flow.threads.threads self.old.flow.threads.threads → KeepsChoices s e self.old.flow.choices.items self.old.flow.choices.items
             → let o = moved s (unstored self.old.shared.globals.rows e) (config_of s self.old) in
             StepEnds (pressed s self.new || ((asks || move_asks s e (config_of s self.old)) || following_asks s o)) (following s o) self.old.shared.globals.rows (config_of s self.new) result }
         ensures globals { self.new.shared.globals.rows ≡ self.old.shared.globals.rows }
@@ -634,7 +634,7 @@ impl Machine {
         ensures effect { let s = story_tree story.now in let p = place_of s here in let stands = option_map (λ l. leaf l.now) found.entry in let c = config_of s self.old in
             Performs s ((takes_there stands && is_some (stack_stood self.old.flow.stack)) || content_asks s p stands (context_of c) (fields_of c)) (effect s p stands (context_of c) (fields_of c)) (fields_of (config_of s self.new)) (leading result transfer.new) }
         ensures threads { let s = story_tree story.now in let stands = option_map (λ l. leaf l.now) found.entry in let c = config_of s self.old in
-            OnOk result (Keeps s (effect s (place_of s here) stands (context_of c) (fields_of c)) self.old.flow.threads.threads self.new.flow.threads.threads) }
+            OnOk result (KeepsThreads s (effect s (place_of s here) stands (context_of c) (fields_of c)) self.old.flow.threads.threads self.new.flow.threads.threads) }
         ensures choices { let s = story_tree story.now in let stands = option_map (λ l. leaf l.now) found.entry in let c = config_of s self.old in
             OnOk result (KeepsChoices s (effect s (place_of s here) stands (context_of c) (fields_of c)) self.old.flow.choices.items self.new.flow.choices.items) }
         ensures counts { self.new.shared.counts.rows ≡ self.old.shared.counts.rows }
@@ -668,7 +668,7 @@ impl Machine {
     #[inline(always)]
     fn follow(&mut self, story: &Story, transfer: &Transfer<'_>) -> Result<StepEnd, Fault>
         requires room { MOVING + 4 ≤ threads_spare self.old.flow.threads }
-        ensures ends { let s = story_tree story.now in (asks : Bool) (e : Effect) → Performs s asks e (fields_of (config_of s self.old)) (Ok transfer.now) → Keeps s e self.old.flow.threads.threads self.old.flow.threads.threads → KeepsChoices s e self.old.flow.choices.items self.old.flow.choices.items
+        ensures ends { let s = story_tree story.now in (asks : Bool) (e : Effect) → Performs s asks e (fields_of (config_of s self.old)) (Ok transfer.now) → KeepsThreads s e self.old.flow.threads.threads self.old.flow.threads.threads → KeepsChoices s e self.old.flow.choices.items self.old.flow.choices.items
             → StepEnds (pressed s self.new || (asks || move_asks s e (config_of s self.old))) (moved s (unstored self.old.shared.globals.rows e) (config_of s self.old)) self.old.shared.globals.rows (config_of s self.new) result }
         ensures globals { self.new.shared.globals.rows ≡ self.old.shared.globals.rows }
         ensures start { start_of self.new ≡ start_of self.old }
@@ -751,7 +751,7 @@ impl Machine {
     fn go_to(&mut self, story: &Story, to: Landing) -> Result<StepEnd, Fault>
         requires room { 2 ≤ threads_spare self.old.flow.threads }
         ensures ends { let s = story_tree story.now in let c = config_of s self.old in let how = reach (place_of s to.place) in
-            StepEnds (pressed s self.new || landed_asks s to.enters c.shared.counts (how c.flow.threads (written_in c))) (landing s to.enters how c) self.old.shared.globals.rows (config_of s self.new) result }
+            StepEnds (pressed s self.new || landed_asks s to.enters c.shared.counts (how c.flow.threads (written_in c))) (landing_outcome s to.enters how c) self.old.shared.globals.rows (config_of s self.new) result }
         ensures globals { self.new.shared.globals.rows ≡ self.old.shared.globals.rows }
         ensures start { start_of self.new ≡ start_of self.old }
         ensures aside { aside_in self.new ≡ aside_in self.old }
@@ -769,7 +769,7 @@ impl Machine {
         requires room { 4 ≤ threads_spare self.old.flow.threads }
         ensures ends { let s = story_tree story.now in let c = config_of s self.old in let how = called (frame_kind kind) (place_of s to.place) in
             StepEnds (pressed s self.new || (nat_lt (frame_count c.flow.threads.thread) MAX_FRAMES || landed_asks s to.enters c.shared.counts (how c.flow.threads (written_in c))))
-            (landing s to.enters how c) self.old.shared.globals.rows (config_of s self.new) result }
+            (landing_outcome s to.enters how c) self.old.shared.globals.rows (config_of s self.new) result }
         ensures globals { self.new.shared.globals.rows ≡ self.old.shared.globals.rows }
         ensures start { start_of self.new ≡ start_of self.old }
         ensures aside { aside_in self.new ≡ aside_in self.old }
@@ -792,14 +792,14 @@ impl Machine {
         requires room { MOVING + 2 ≤ threads_spare self.old.flow.threads }
         ensures ends { let s = story_tree story.now in let c = config_of s self.old in let goal = option_map (landing_of s) to in let how = returned (next_place s) kind (place_to goal) in
             StepEnds (pressed s self.new || (returned_asks (next_place s) kind (place_to goal) c.flow.threads (written_in c) || landed_asks s (may_enter goal) c.shared.counts (how c.flow.threads (written_in c))))
-            (landing s (may_enter goal) how c) self.old.shared.globals.rows (config_of s self.new) result }
+            (landing_outcome s (may_enter goal) how c) self.old.shared.globals.rows (config_of s self.new) result }
         ensures globals { self.new.shared.globals.rows ≡ self.old.shared.globals.rows }
         ensures start { start_of self.new ≡ start_of self.old }
         ensures aside { aside_in self.new ≡ aside_in self.old }
         ensures mark { stood_of self.new ≡ stood_of self.old }
         ensures enough { 5 ≤ threads_spare self.new.flow.threads }
     {
-        let end = give_back(
+        let end = return_frame(
             story.tree(),
             &mut self.flow.threads,
             &mut self.flow.stack,

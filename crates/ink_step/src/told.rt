@@ -2,7 +2,7 @@
 
 ghost use Rattle.std.specs.Prelude.{◌≡◌, ◌≢◌, [], IfOk, OnErr};
 ghost use Rattle.ink_host.specs.Desk.{watches};
-ghost use Rattle.ink_model.specs.Told.{told};
+ghost use Rattle.ink_model.specs.Host.Told.{told};
 
 use crate::machine::Machine;
 use ink_host::{Desk, PureFn, TurnFn, Watcher};
@@ -11,7 +11,7 @@ use ink_told::told_since;
 use std::alloc::AllocError;
 
 impl Machine {
-    ghost use Rattle.ink_step.specs.Words.{globals_of, start_of};
+    ghost use Rattle.ink_step.specs.Standing.{globals_of, start_of};
 
     /// The watched globals that have another value than when the last running command began or the last global was set, whichever
     /// came later, or were not there then, in order of declaration. The one error is a refused request for memory, which is made

@@ -11,7 +11,7 @@ use Rattle.serde_json.specs.Data.{Data, array, number}
 use Rattle.serde_json.specs.Find.{of_integer}
 use Rattle.serde_json.specs.Written.{compact_text, items_outline}
 use Rattle.serde_json.proofs.Texts.{print-outline}
-use Rattle.ink_model.specs.Events.{items_of}
+use Rattle.ink_model.specs.Host.Events.{items_of}
 use Rattle.ink_tokens.specs.Tokens.{Added, data_tokens}
 
 -- ---- tokens

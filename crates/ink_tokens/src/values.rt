@@ -4,7 +4,7 @@ ghost use Rattle.std.specs.Prelude.{◌≡◌, [], ◌∷◌, OnOk, codes};
 ghost use Rattle.json.specs.Token as tokens;
 ghost use Rattle.serde_json.specs.Data.{number};
 ghost use Rattle.serde_json.specs.Find.{of_integer};
-ghost use Rattle.ink_model.specs.ValueJson.{value_data};
+ghost use Rattle.ink_model.specs.Protocol.ValueJson.{value_data};
 ghost use Rattle.ink_model.specs.declared.value.Value.TheVariants as variants;
 ghost use Rattle.ink_tokens.specs.Tokens.{Added, data_tokens};
 

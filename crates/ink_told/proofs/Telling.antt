@@ -3,8 +3,8 @@ use Rattle.std.proofs.Common.{◌≡◌, ◌≢◌, ◌∙◌, ◌++◌, ◌∷�
 use Rattle.std.proofs.lemmas.List.{append-nil, take-append-drop, take_all, take_more}
 use Rattle.std.proofs.lemmas.Option.{get_or_from_slice_get, slice_get_within}
 use Rattle.std.specs.List.{filter}
-use Rattle.ink_model.specs.Store.{Values, stored}
-use Rattle.ink_model.specs.Told.{change_of, is_other, is_told, told}
+use Rattle.ink_model.specs.Variables.Store.{Values, stored}
+use Rattle.ink_model.specs.Host.Told.{change_of, is_other, is_told, told}
 use Rattle.ink_model.specs.declared.host.Change.{Change}
 use Rattle.ink_model.specs.declared.value.Value.{Value}
 use Rattle.ink_host.specs.Desk.{Rows, has_rows, watches}

@@ -2,7 +2,7 @@
 
 ghost use Rattle.std.specs.Prelude.{◌≡◌, ◌≢◌, ◌++◌, ◌∷◌, [], IfOk, OnErr, OnOk, option_map};
 ghost use Rattle.ink_host.specs.Desk.{watches};
-ghost use Rattle.ink_model.specs.Told.{is_other, told};
+ghost use Rattle.ink_model.specs.Host.Told.{is_other, told};
 
 use ink_host::{Desk, PureFn, TurnFn, Watcher};
 use ink_model::{Change, Seq, Text, Value};

@@ -8,19 +8,19 @@ pub use Rattle.std.specs.Cmp.Lexicographic.{slice_cmp}
 pub use Rattle.std.specs.Ordering.{MatchOrdering, is_lt, ordering_reverse, match_ordering}
 pub use Rattle.ink_json.specs.Node.{Node}
 pub use Rattle.ink_json.specs.Order.{keys_rise, part_order, place_order, keys_rise_in, keys_rise_by_key, is_below, key_part}
-pub use Rattle.ink_model.specs.Entered.{entered_above, entered_around, flags_at, is_first, listed_if, starts_only, was_inside, is_around, passed_at}
-unfoldable pub use Rattle.ink_model.specs.Entered.{entered_places, passed_places}
-pub use Rattle.ink_model.specs.Path.{component, components, ends_in_index, read_path, stepped, walked, is_container, ends_at, by_name, listed_index}
-unfoldable pub use Rattle.ink_model.specs.Path.{target, is_place}
-pub use Rattle.ink_model.specs.Place.{first_content_at, next_upwards, is_named, named_index, start_place}
-unfoldable pub use Rattle.ink_model.specs.Place.{entered, landed, next_place, knot}
-pub use Rattle.ink_model.specs.Places.{places, places_from, places_by_key}
-pub use Rattle.ink_model.specs.Tree.{StoryTree, leaf, container, at, width, count, no_trees, tree, down, Trees, Keyed, no_keys, key, nth, by_key}
+pub use Rattle.ink_model.specs.Run.Entered.{entered_above, entered_around, flags_at, is_first, listed_if, starts_only, was_inside, is_around, passed_at}
+unfoldable pub use Rattle.ink_model.specs.Run.Entered.{entered_places, passed_places}
+pub use Rattle.ink_model.specs.Story.Path.{component, components, ends_in_index, read_path, stepped, walked, is_container, ends_at, by_name, listed_index}
+unfoldable pub use Rattle.ink_model.specs.Story.Path.{target, is_place}
+pub use Rattle.ink_model.specs.Run.Place.{first_content_at, next_upwards, is_named, named_index, start_place}
+unfoldable pub use Rattle.ink_model.specs.Run.Place.{content_place, landed, next_place, knot}
+pub use Rattle.ink_model.specs.Story.Places.{places, places_from, places_by_key}
+pub use Rattle.ink_model.specs.Story.Tree.{StoryTree, leaf, container, at, width, count, no_trees, tree, down, Trees, Keyed, no_keys, key, nth, by_key}
 pub use Rattle.ink_model.specs.declared.place.Part.{Part}
 pub use Rattle.ink_model.specs.declared.place.Part.TheVariants.{Index, Name}
 pub use Rattle.ink_tree.specs.Contents.{reaches_in, name_in}
 pub use Rattle.ink_tree.specs.Gaps.{LeadsTo, NoneBefore, NoneFrom}
-pub use Rattle.ink_tree.specs.Kept.{flagged_above, AreLinked, Keeps, KeepsAll, KeepsAt, Spans, first_inside, way_to, kept_flags, kept_keys, kept_leaf, kept_name, kept_reaches, kept_width, leaf_in, IsLinked}
+pub use Rattle.ink_tree.specs.Kept.{flagged_above, AreLinked, KeepsContent, KeepsAll, KeepsAt, Spans, first_inside, way_to, kept_flags, kept_keys, kept_leaf, kept_name, kept_reaches, kept_width, leaf_in, IsLinked}
 pub use Rattle.ink_tree.specs.Names.{first_of, given, AreNamed, named_at, MayKeepNames, KeepsNames}
 pub use Rattle.ink_tree.specs.Nodes.{place_of, node_place, Finds, index_part, IsNode, MayBeNode, NumbersInOrder, AreNodes, story_tree}
 pub use Rattle.ink_tree.specs.Walks.{GoesIn, still_entered}

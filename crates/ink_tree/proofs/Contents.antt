@@ -2,7 +2,7 @@
 use Rattle.std.proofs.Common.{◌≡◌, ◌∙◌, ap, sym, refl, ℕ, List, [], ◌∷◌, ◌++◌, Option, Some, None, option_map, option_and_then, arith}
 use Rattle.ink_tree.proofs.Common.{none-some, same_Some, flags_at, StoryTree, leaf, container, Keyed, no_keys, key, by_key, down, at, width, Trees, Part, Name, name_in, reaches_in, kept_flags, kept_keys, kept_leaf, kept_name, kept_reaches, kept_width, leaf_in}
 use Rattle.ink_model.specs.declared.content.Leaf.{Leaf as Single}
-use Rattle.ink_model.specs.View.{count_keys, own_content}
+use Rattle.ink_model.specs.Story.View.{count_keys, own_content}
 use Rattle.ink_model.specs.declared.content.Content.{Content}
 use Rattle.ink_tree.proofs.Further.{below}
 

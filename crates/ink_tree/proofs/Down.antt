@@ -1,6 +1,6 @@
 -- Contents one part down, and the numbers of those that stand there.
 use Rattle.std.proofs.Common.{◌≡◌, ◌∙◌, ap, sym, refl, ℕ, zero, suc, ◌+◌, ◌<◌, ◌≤◌, List, [], ◌∷◌, ◌++◌, length, take, drop, get_or, slice_get, true, Option, Some, None, is_some, option_map, option_and_then, arith, false, nat_lt}
-use Rattle.ink_tree.proofs.Common.{nat_tests, length-append, take_more, take-append-drop, key_part, keys_rise, Node, places, StoryTree, at, width, Part, Index, LeadsTo, Keeps, node_place, Finds, IsNode, NodeId}
+use Rattle.ink_tree.proofs.Common.{nat_tests, length-append, take_more, take-append-drop, key_part, keys_rise, Node, places, StoryTree, at, width, Part, Index, LeadsTo, KeepsContent, node_place, Finds, IsNode, NodeId}
 use Rattle.ink_json.specs.declared.key.Key.{Key}
 use Rattle.ink_tree.proofs.Absent.{one_node}
 use Rattle.ink_tree.proofs.Kept.{led_by, led_by_none}
@@ -28,7 +28,7 @@ none_there [] i e = omega arith
 none_there (x ∷ xs) zero e = absurd cc
 none_there (x ∷ xs) (suc i) e = omega (arith, none_there xs i e)
 
-module _ (s : StoryTree) (m : ℕ) (n : Node) (own : NodeId) (q : List Part) (is : node_place s own ≡ q) (keeps : Keeps s (node_place s (record { number = m })) n) where
+module _ (s : StoryTree) (m : ℕ) (n : Node) (own : NodeId) (q : List Part) (is : node_place s own ≡ q) (keeps : KeepsContent s (node_place s (record { number = m })) n) where
   -- the root stands under nothing
   under_none : (y : Part) → n.last ≡ None → node_place s (record { number = m }) ≡ q ++ y ∷ [] → ⊥
   under_none y last e =

@@ -1,9 +1,9 @@
 -- Where no container around has flags, entering them counts nothing.
 use Rattle.std.proofs.Common.{◌≡◌, ◌∙◌, ℕ, ap, arith, sym, refl, List, [], ◌∷◌, ◌++◌, reverse, Bool, true, false, true≢false, not, ◌&&◌, ◌||◌, if◌then◌else◌, nat_lt, Option, Some, None}
 use Rattle.ink_tree.proofs.Common.{nat_tests, append-nil, reverse-append, reverse-reverse, entered_above, entered_around, entered_places, flags_at, is_first, listed_if, starts_only, was_inside, StoryTree, at, Part, Index, flagged_above, index_part, node_place, place_of}
-use Rattle.ink_model.specs.Counts.{CountsOf, visited}
-use Rattle.ink_model.specs.Rows.{place_order}
-use Rattle.ink_model.specs.Visits.{all_visited}
+use Rattle.ink_model.specs.Variables.Counts.{CountsOf, visited}
+use Rattle.ink_model.specs.Variables.Rows.{place_order}
+use Rattle.ink_model.specs.Run.Visits.{all_visited}
 use Rattle.ink_tree.specs.declared.spot.Spot.{Spot}
 
 module _ (s : StoryTree) where

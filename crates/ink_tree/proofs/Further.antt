@@ -1,6 +1,6 @@
 -- What stands one index further than content, and the way down to the first content.
 use Rattle.std.proofs.Common.{◌≡◌, List, [], ◌∷◌, ◌++◌, Option, Some, None, option_and_then, refl, sym, ◌∙◌, ap}
-use Rattle.ink_tree.proofs.Common.{append-nil, first_content_at, entered, StoryTree, at, down, Part}
+use Rattle.ink_tree.proofs.Common.{append-nil, first_content_at, content_place, StoryTree, at, down, Part}
 use Rattle.ink_tree.proofs.Standing.{at_append}
 
 pub found_there : (d : Option StoryTree) → option_and_then (λ u. at u []) d ≡ d
@@ -19,6 +19,6 @@ below s p q o is = ap (option_and_then (down q)) is ∙ (sym (one_down q (at s p
 
 -- where a step performs, where nothing stands
 module _ (s : StoryTree) (p : List Part) where
-  pub enters_nothing : at s p ≡ None → p ≡ entered s p
-  unfolding entered
+  pub enters_nothing : at s p ≡ None → p ≡ content_place s p
+  unfolding content_place
   enters_nothing none = sym (append-nil p) ∙ ap (λ o. p ++ first_content_at o) (sym none)

@@ -1,6 +1,6 @@
 -- What is kept of contents, and what is read of it.
 use Rattle.std.proofs.Common.{◌≡◌, ◌∙◌, ap, sym, refl, subst, ℕ, zero, suc, ◌+◌, ◌<◌, ◌≤◌, List, [], ◌∷◌, ◌++◌, length, reverse, Bool, true, false, cond, Option, Some, None, option_map, option_and_then, nat_le, nat_lt, ◌&&◌, slice_get, get_or, append_assoc, arith, inl, inr, unwrap_or}
-use Rattle.ink_tree.proofs.Common.{nat_tests, append-nil, length-append, length-reverse, cases_lt, cond_some, none-some, same_Some, slice_get_past, slice_get_read, Node, is_around, listed_if, passed_at, passed_places, is_container, entered, first_content_at, landed, next_place, next_upwards, places, StoryTree, leaf, container, no_trees, tree, at, down, width, Part, Index, Name, AreLinked, Keeps, KeepsAll, KeepsAt, Spans, first_inside, way_to, Finds, IsNode, MayBeNode, index_part, node_place, place_of, GoesIn, NodeId}
+use Rattle.ink_tree.proofs.Common.{nat_tests, append-nil, length-append, length-reverse, cases_lt, cond_some, none-some, same_Some, slice_get_past, slice_get_read, Node, is_around, listed_if, passed_at, passed_places, is_container, content_place, first_content_at, landed, next_place, next_upwards, places, StoryTree, leaf, container, no_trees, tree, at, down, width, Part, Index, Name, AreLinked, KeepsContent, KeepsAll, KeepsAt, Spans, first_inside, way_to, Finds, IsNode, MayBeNode, index_part, node_place, place_of, GoesIn, NodeId}
 use Rattle.std.specs.Borrow.{Bor}
 use Rattle.ink_tree.specs.Kept.{MayBeLinked}
 use Rattle.ink_tree.specs.declared.link.Link.{Link}
@@ -70,8 +70,8 @@ module _ (s : StoryTree) (p q : List Part) (is : Some q ≡ first_inside s p) wh
       let (some, same) = first_at s p q is in
       (inward p (at s p) some).0 ∙ ap (λ o. Index 0 ∷ first_content_at o) (below s p (Index 0) (at s p) refl ∙ ap (at s) same)
 
-  pub same_way : entered s q ≡ entered s p
-  unfolding entered
+  pub same_way : content_place s q ≡ content_place s p
+  unfolding content_place
   same_way =
       let (some, same) = first_at s p q is in
       ap (λ r. r ++ first_content_at (at s q)) (sym same) ∙ append_assoc p (Index 0 ∷ []) (first_content_at (at s q)) ∙ ap (λ w. p ++ w) (sym shorter)
@@ -80,8 +80,8 @@ module _ (s : StoryTree) (p q : List Part) (is : Some q ≡ first_inside s p) wh
   lands_first = let (some, same) = first_at s p q is in sym same ∙ landed_in s p some
 
 module _ (s : StoryTree) (p : List Part) (none : None ≡ first_inside s p) where
-  pub is_there : p ≡ entered s p
-  unfolding entered
+  pub is_there : p ≡ content_place s p
+  unfolding content_place
   is_there = sym (append-nil p) ∙ ap (λ w. p ++ w) (sym (no_way_in p (at s p) (none_first s p none)).0)
 
   pub lands_there : p ≡ landed s p
@@ -157,7 +157,7 @@ module _ (s : StoryTree) where
 
 -- ---- what is kept of a node
 
-module _ (s : StoryTree) (p : List Part) (n : Node) (k : Keeps s p n) where
+module _ (s : StoryTree) (p : List Part) (n : Node) (k : KeepsContent s p n) where
   pub led_by : (x : Part) → n.last ≡ Some x → p ≡ node_place s (record { number = n.holder }) ++ x ∷ []
   led_by x is = sym k.1 ∙ ap (way_to s n.holder) is
 

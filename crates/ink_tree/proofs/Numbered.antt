@@ -1,8 +1,8 @@
 -- What is kept of the contents of a story is what stands at their places.
 use Rattle.std.proofs.Common.{◌≡◌, ◌∙◌, inl, inr, ap, sym, refl, subst, ℕ, zero, suc, ◌+◌, ◌<◌, ◌≤◌, List, [], ◌∷◌, ◌++◌, length, map, true, false, true≢false, ◌&&◌, nat_le, nat_lt, Option, Some, None, is_some, option_and_then, option_map, slice_get, unwrap_or, append_assoc, arith}
-use Rattle.ink_tree.proofs.Common.{cases_lt, and_parts, false_from_ne_true, nat_tests, append-nil, length-append, length-map, none-some, same_Some, slice_get_within, keys_rise, keys_rise_in, keys_rise_by_key, is_below, Node, places, places_from, places_by_key, StoryTree, leaf, container, Trees, no_trees, tree, Keyed, no_keys, key, nth, by_key, at, count, is_around, Part, Index, Name, Keeps, KeepsAll, KeepsAt, Spans, way_to, node_place, IsNode, NodeId}
+use Rattle.ink_tree.proofs.Common.{cases_lt, and_parts, false_from_ne_true, nat_tests, append-nil, length-append, length-map, none-some, same_Some, slice_get_within, keys_rise, keys_rise_in, keys_rise_by_key, is_below, Node, places, places_from, places_by_key, StoryTree, leaf, container, Trees, no_trees, tree, Keyed, no_keys, key, nth, by_key, at, count, is_around, Part, Index, Name, KeepsContent, KeepsAll, KeepsAt, Spans, way_to, node_place, IsNode, NodeId}
 use Rattle.ink_json.specs.Listing.{nodes_of, nodes_from, nodes_by_key, own_node, story_nodes}
-use Rattle.ink_model.specs.View.{own_content}
+use Rattle.ink_model.specs.Story.View.{own_content}
 use Rattle.ink_tree.proofs.Absent.{absent, lacks}
 use Rattle.ink_tree.proofs.Further.{below}
 use Rattle.ink_tree.proofs.Kept.{some_place}
@@ -99,9 +99,9 @@ module _ (s : StoryTree) where
   placed n p is = ap (λ o. unwrap_or o []) is ∙ append-nil p
 
   keeps : (n : ℕ) (p : List Part) (t : StoryTree) (k : Node) → slice_get (places s) n ≡ Some (p ++ []) → at s p ≡ Some t → k.holder < length (places s) → way_to s k.holder k.last ≡ p
-      → k.content ≡ own_content t → Keeps s (node_place s (record { number = n })) k
+      → k.content ≡ own_content t → KeepsContent s (node_place s (record { number = n })) k
   keeps n p t k is stands inside way own =
-      subst (λ q. Keeps s q k) (sym (placed n p is)) (inside, way, ap Some own ∙ sym (ap (option_map own_content) stands))
+      subst (λ q. KeepsContent s q k) (sym (placed n p is)) (inside, way, ap Some own ∙ sym (ap (option_map own_content) stands))
 
   -- ---- how far a content reaches
 

@@ -4,7 +4,7 @@ use Rattle.std.proofs.lemmas.Map.Text.{is_eq-slice_cmp}
 use Rattle.std.proofs.lemmas.Slice.Eq.{bytes_eq-Decides}
 use Rattle.std.proofs.Math.Bool.{and-false}
 use Rattle.ink_tree.proofs.Common.{append-nil, nat_tests, and_parts, is_around, Part, Index, Name, nat_list_cmp_total, tied_itself}
-use Rattle.ink_model.specs.Value.{same_part}
+use Rattle.ink_model.specs.Values.Value.{same_part}
 
 part_is : (x y : Part) → same_part x y ≡ true → x ≡ y
 part_is (Index i) (Index j) h = let same : i ≡ j = grind (arith, nat_tests, h) in ap Index same

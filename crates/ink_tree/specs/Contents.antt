@@ -1,6 +1,6 @@
 -- What is asked of one content.
 use Rattle.std.specs.Prelude.{ℕ, List, Bool, false, nat_le, Option, Some, None}
-use Rattle.ink_model.specs.Tree.{StoryTree, leaf, container, count}
+use Rattle.ink_model.specs.Story.Tree.{StoryTree, leaf, container, count}
 
 -- an index is one of a container's, or its end
 abbrev pub reaches : StoryTree → ℕ → Bool

@@ -3,11 +3,11 @@ use Rattle.std.specs.Prelude.{◌≡◌, ⊤, ℕ, ◌+◌, ◌/◌, ◌%◌, �
 use Rattle.std.specs.Borrow.{Bor}
 use Rattle.std.specs.Option.{option_map}
 use Rattle.ink_json.specs.Node.{Node}
-use Rattle.ink_model.specs.Entered.{flags_at, is_around}
-use Rattle.ink_model.specs.Place.{next_place}
-use Rattle.ink_model.specs.Places.{places}
-use Rattle.ink_model.specs.Tree.{StoryTree, leaf, container, at, width}
-use Rattle.ink_model.specs.View.{own_content}
+use Rattle.ink_model.specs.Run.Entered.{flags_at, is_around}
+use Rattle.ink_model.specs.Run.Place.{next_place}
+use Rattle.ink_model.specs.Story.Places.{places}
+use Rattle.ink_model.specs.Story.Tree.{StoryTree, leaf, container, at, width}
+use Rattle.ink_model.specs.Story.View.{own_content}
 use Rattle.ink_model.specs.declared.content.Content.{Content}
 use Rattle.ink_model.specs.declared.content.Content.TheVariants.{Leaf, Container}
 use Rattle.ink_model.specs.declared.content.Leaf.{Leaf as Single}
@@ -63,8 +63,8 @@ way_to s i None = []
 way_to s i (Some x) = node_place s (record { number = i }) ++ x ∷ []
 
 -- what is kept of the content at a place
-abbrev pub Keeps : StoryTree → List Part → Node → Type 0
-Keeps s p n = (n.holder < length (places s)) × (way_to s n.holder n.last ≡ p) × (Some n.content ≡ option_map own_content (at s p))
+abbrev pub KeepsContent : StoryTree → List Part → Node → Type 0
+KeepsContent s p n = (n.holder < length (places s)) × (way_to s n.holder n.last ≡ p) × (Some n.content ≡ option_map own_content (at s p))
 
 -- a content and all that is in it have the numbers from one on that are below another
 abbrev pub Spans : StoryTree → ℕ → ℕ → Type 0
@@ -76,7 +76,7 @@ StartsBehind s i w = 0 < w → node_place s (record { number = i + 1 }) ≡ node
 
 -- what is kept of the content of a number
 abbrev pub KeepsAt : StoryTree → ℕ → Node → Type 0
-KeepsAt s i n = Keeps s (node_place s (record { number = i })) n × Spans s i (i + kept_size n.content) × StartsBehind s i (kept_width n.content)
+KeepsAt s i n = KeepsContent s (node_place s (record { number = i })) n × Spans s i (i + kept_size n.content) × StartsBehind s i (kept_width n.content)
 
 -- what is kept of the contents of a story, in reading order
 abbrev pub KeepsAll : StoryTree → List Node → Type 0

@@ -1,8 +1,8 @@
 -- Where the paths lead that texts spell.
 use Rattle.std.specs.Prelude.{◌≡◌, ℕ, List, ◌∷◌, [], Option, None, Some, option_and_then}
-use Rattle.ink_model.specs.Acceptance.{leads}
-use Rattle.ink_model.specs.Path.{components, ends_in_index, read_path, stepped_last, target, walked}
-use Rattle.ink_model.specs.Tree.{StoryTree}
+use Rattle.ink_model.specs.Story.Acceptance.{leads}
+use Rattle.ink_model.specs.Story.Path.{components, ends_in_index, read_path, stepped_last, target, walked}
+use Rattle.ink_model.specs.Story.Tree.{StoryTree}
 use Rattle.ink_model.specs.declared.place.Part.{Part}
 use Rattle.ink_model.specs.declared.place.Path.{Path}
 use Rattle.ink_tree.specs.Nodes.{place_of}

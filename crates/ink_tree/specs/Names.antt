@@ -2,9 +2,9 @@
 use Rattle.std.specs.Prelude.{◌≡◌, ⊤, ℕ, List, Option, Some, None, if◌then◌else◌, slice_get}
 use Rattle.std.specs.BTreeMap.{get_by_text}
 use Rattle.std.specs.Borrow.{Bor}
-use Rattle.ink_model.specs.Path.{listed_index}
-use Rattle.ink_model.specs.Place.{is_named}
-use Rattle.ink_model.specs.Tree.{StoryTree, at}
+use Rattle.ink_model.specs.Story.Path.{listed_index}
+use Rattle.ink_model.specs.Run.Place.{is_named}
+use Rattle.ink_model.specs.Story.Tree.{StoryTree, at}
 use Rattle.ink_tree.specs.Numbers.{node_place}
 use Rattle.ink_tree.specs.declared.names.Listed.{Listed}
 use Rattle.ink_tree.specs.declared.names.Names.{Names}

@@ -3,7 +3,7 @@ use Rattle.std.specs.Prelude.{◌≡◌, ⊤, ℕ, List, [], ◌∷◌, ◌++◌
 use Rattle.ink_json.specs.Order.{key_part}
 use Rattle.ink_json.specs.Story.{tree}
 use Rattle.ink_json.specs.declared.key.Key.{Key}
-use Rattle.ink_model.specs.Tree.{StoryTree, at}
+use Rattle.ink_model.specs.Story.Tree.{StoryTree, at}
 use Rattle.ink_model.specs.declared.place.Part.{Part}
 use Rattle.ink_model.specs.declared.place.Part.TheVariants.{Index}
 pub use Rattle.ink_tree.specs.Numbers.{node_place, IsNode, NumbersInOrder}

@@ -1,9 +1,9 @@
 -- The numbers of a story's contents.
 use Rattle.std.specs.Prelude.{◌≡◌, ◌<◌, List, [], length, slice_get, unwrap_or}
 use Rattle.std.specs.Ordering.{nat_cmp}
-use Rattle.ink_model.specs.Places.{places}
-use Rattle.ink_model.specs.Rows.{place_order}
-use Rattle.ink_model.specs.Tree.{StoryTree}
+use Rattle.ink_model.specs.Story.Places.{places}
+use Rattle.ink_model.specs.Variables.Rows.{place_order}
+use Rattle.ink_model.specs.Story.Tree.{StoryTree}
 use Rattle.ink_model.specs.declared.place.Part.{Part}
 use Rattle.ink_tree.specs.declared.spot.NodeId.{NodeId}
 

@@ -1,9 +1,9 @@
 -- Walks upward from a landing place, by the containers that the landing enters, and down to where a step performs.
 use Rattle.std.specs.Prelude.{◌≡◌, ◌+◌, List, [], ◌∷◌, length, reverse, Bool, not, ◌&&◌, ◌||◌, if◌then◌else◌, Option, Some, None}
-use Rattle.ink_model.specs.Entered.{entered_above, listed_if, passed_places, starts_only, was_inside}
-use Rattle.ink_model.specs.Path.{is_container}
-use Rattle.ink_model.specs.Place.{entered}
-use Rattle.ink_model.specs.Tree.{StoryTree, at}
+use Rattle.ink_model.specs.Run.Entered.{entered_above, listed_if, passed_places, starts_only, was_inside}
+use Rattle.ink_model.specs.Story.Path.{is_container}
+use Rattle.ink_model.specs.Run.Place.{content_place}
+use Rattle.ink_model.specs.Story.Tree.{StoryTree, at}
 use Rattle.ink_model.specs.declared.place.Part.{Part}
 use Rattle.ink_tree.specs.Numbers.{node_place, IsNode}
 use Rattle.ink_tree.specs.declared.spot.NodeId.{NodeId}
@@ -32,5 +32,5 @@ IsUp s rest (Some u) = IsNode s u.node × (length (node_place s rest.node) ≡ l
 
 -- a step at a place performs there, or it goes into the container that stands there and on at its first content
 abbrev pub GoesIn : StoryTree → List Part → Option NodeId → Type 0
-GoesIn s p None = (entered s p ≡ p) × (passed_places s p ≡ listed_if (is_container (at s p)) p [])
-GoesIn s p (Some n) = (entered s p ≡ entered s (node_place s n)) × (passed_places s p ≡ p ∷ passed_places s (node_place s n))
+GoesIn s p None = (content_place s p ≡ p) × (passed_places s p ≡ listed_if (is_container (at s p)) p [])
+GoesIn s p (Some n) = (content_place s p ≡ content_place s (node_place s n)) × (passed_places s p ≡ p ∷ passed_places s (node_place s n))

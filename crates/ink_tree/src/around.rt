@@ -1,7 +1,7 @@
 //! Which places are around others.
 
 ghost use Rattle.std.specs.Prelude.{◌≡◌, option_map};
-ghost use Rattle.ink_model.specs.Entered.{is_around, was_inside};
+ghost use Rattle.ink_model.specs.Run.Entered.{is_around, was_inside};
 
 use crate::spot::{NodeId, Spot};
 use crate::tree::Tree;

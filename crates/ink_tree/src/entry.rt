@@ -1,9 +1,9 @@
 //! The first content from a place on (docs/RUNNING.md, "Places").
 
 ghost use Rattle.std.specs.Prelude.{◌≡◌, option_map};
-ghost use Rattle.ink_model.specs.Place.{entered};
-ghost use Rattle.ink_model.specs.Tree.{at};
-ghost use Rattle.ink_model.specs.View.{own_content};
+ghost use Rattle.ink_model.specs.Run.Place.{content_place};
+ghost use Rattle.ink_model.specs.Story.Tree.{at};
+ghost use Rattle.ink_model.specs.Story.View.{own_content};
 ghost use Rattle.ink_tree.specs.Kept.{first_inside, leaf_in};
 ghost use Rattle.ink_tree.specs.Walks.{GoesIn};
 
@@ -18,7 +18,7 @@ impl Tree {
     /// Where a step at a place performs: down from what stands there to its first content that holds no other by index. And
     /// that content, none where nothing stands there. Takes no memory.
     pub fn first_content(&self, spot: Spot) -> (Spot, Option<&Content>)
-        ensures spot { place_of (story_tree self.now) result.0 ≡ entered (story_tree self.now) (place_of (story_tree self.now) spot) }
+        ensures spot { place_of (story_tree self.now) result.0 ≡ content_place (story_tree self.now) (place_of (story_tree self.now) spot) }
         ensures content { option_map (λ c. c.now) result.1 ≡ option_map own_content (at (story_tree self.now) (place_of (story_tree self.now) result.0)) }
     {
         match self.node(spot) {
@@ -32,7 +32,7 @@ impl Tree {
 
     /// The same with the content only where it holds no other: none for an empty container. Takes no memory.
     pub fn first_leaf(&self, spot: Spot) -> (Spot, Option<&Leaf>)
-        ensures spot { place_of (story_tree self.now) result.0 ≡ entered (story_tree self.now) (place_of (story_tree self.now) spot) }
+        ensures spot { place_of (story_tree self.now) result.0 ≡ content_place (story_tree self.now) (place_of (story_tree self.now) spot) }
         ensures leaf { option_map (λ l. l.now) result.1 ≡ leaf_in (at (story_tree self.now) (place_of (story_tree self.now) result.0)) }
     {
         match self.node(spot) {
@@ -46,7 +46,7 @@ impl Tree {
 
     // The first content in a node that holds no other by index.
     fn first_in(&self, node: NodeId) -> NodeId
-        ensures { node_place (story_tree self.now) result ≡ entered (story_tree self.now) (node_place (story_tree self.now) node) }
+        ensures { node_place (story_tree self.now) result ≡ content_place (story_tree self.now) (node_place (story_tree self.now) node) }
     {
         let mut here = node;
         while let Some(first) = self.first(here) {

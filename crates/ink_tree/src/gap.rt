@@ -3,8 +3,8 @@
 ghost use Rattle.std.specs.Prelude.{◌≡◌, ◌<◌, ◌∷◌, [], ◌++◌, None, true, length};
 ghost use Rattle.std.specs.declared.cmp.Ordering.TheVariants.{Less};
 ghost use Rattle.ink_json.specs.Order.{key_part, part_order};
-ghost use Rattle.ink_model.specs.Places.{places};
-ghost use Rattle.ink_model.specs.Tree.{at};
+ghost use Rattle.ink_model.specs.Story.Places.{places};
+ghost use Rattle.ink_model.specs.Story.Tree.{at};
 ghost use Rattle.ink_tree.specs.Gaps.{MayBeNoneBefore, NoneFrom};
 ghost use Rattle.ink_tree.specs.Kept.{Spans};
 

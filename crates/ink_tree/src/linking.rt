@@ -2,12 +2,12 @@
 
 ghost use Rattle.std.specs.Prelude.{◌≡◌, ◌<◌, ◌^◌, ◌∷◌, [], ◌++◌, ◌||◌, ℕ, List, false, nat_lt, IfOk, Option, Some, length, option_map, reverse, slice_get};
 ghost use Rattle.ink_json.specs.Order.{key_part};
-ghost use Rattle.ink_model.specs.Counts.{CountsOf};
-ghost use Rattle.ink_model.specs.Entered.{entered_places, flags_at};
-ghost use Rattle.ink_model.specs.Place.{next_place};
-ghost use Rattle.ink_model.specs.Places.{places};
-ghost use Rattle.ink_model.specs.Tree.{at};
-ghost use Rattle.ink_model.specs.Visits.{all_visited};
+ghost use Rattle.ink_model.specs.Variables.Counts.{CountsOf};
+ghost use Rattle.ink_model.specs.Run.Entered.{entered_places, flags_at};
+ghost use Rattle.ink_model.specs.Run.Place.{next_place};
+ghost use Rattle.ink_model.specs.Story.Places.{places};
+ghost use Rattle.ink_model.specs.Story.Tree.{at};
+ghost use Rattle.ink_model.specs.Run.Visits.{all_visited};
 ghost use Rattle.ink_model.specs.declared.place.Part.{Part as Step};
 ghost use Rattle.ink_tree.specs.Kept.{AreLinked, IsLinked, MayBeLinked, flagged_above};
 

@@ -2,15 +2,15 @@
 
 ghost use Rattle.std.specs.Prelude.{◌≡◌, ◌<◌, ◌∷◌, [], ◌++◌, true, false, Some, IfSome, option_map, reverse, length};
 ghost use Rattle.ink_json.specs.Order.{key_part};
-ghost use Rattle.ink_model.specs.Path.{above};
-ghost use Rattle.ink_model.specs.Places.{places};
-ghost use Rattle.ink_model.specs.Tree.{at};
-ghost use Rattle.ink_model.specs.Tree as trees;
-ghost use Rattle.ink_model.specs.View.{own_content};
+ghost use Rattle.ink_model.specs.Story.Path.{above};
+ghost use Rattle.ink_model.specs.Story.Places.{places};
+ghost use Rattle.ink_model.specs.Story.Tree.{at};
+ghost use Rattle.ink_model.specs.Story.Tree as trees;
+ghost use Rattle.ink_model.specs.Story.View.{own_content};
 ghost use Rattle.ink_model.specs.declared.place.Part.TheVariants.{Index, Name};
 ghost use Rattle.ink_tree.specs.Contents.{reaches_in};
 ghost use Rattle.ink_tree.specs.Gaps.{LeadsTo};
-ghost use Rattle.ink_tree.specs.Kept.{Keeps, KeepsAll, KeepsAt};
+ghost use Rattle.ink_tree.specs.Kept.{KeepsContent, KeepsAll, KeepsAt};
 
 use crate::content::{keys_of, reaches, width_of};
 use crate::spot::NodeId;
@@ -54,7 +54,7 @@ impl Tree {
     /// What is kept of a node.
     #[inline(always)]
     pub(crate) fn kept(&self, node: NodeId) -> Node<'_>
-        ensures { Keeps (story_tree self.now) (node_place (story_tree self.now) node) result }
+        ensures { KeepsContent (story_tree self.now) (node_place (story_tree self.now) node) result }
     {
         match self.nodes().get(node.number) {
             Some(kept) => kept,

@@ -1,7 +1,7 @@
 //! Where flow starts, lands and goes on (docs/RUNNING.md, "Places").
 
 ghost use Rattle.std.specs.Prelude.{◌≡◌, ◌++◌, ◌∷◌, [], option_map};
-ghost use Rattle.ink_model.specs.Place.{landed, next_place, start_place};
+ghost use Rattle.ink_model.specs.Run.Place.{landed, next_place, start_place};
 ghost use Rattle.ink_model.specs.declared.place.Part.TheVariants.{Index};
 
 use crate::spot::{NodeId, Spot};

@@ -1,9 +1,9 @@
 //! Containers in a list by the names that they give themselves.
 
 ghost use Rattle.std.specs.Prelude.{◌≡◌, ◌∷◌, [], ◌++◌, IfOk, option_map, slice_get};
-ghost use Rattle.ink_model.specs.Path.{listed_index};
-ghost use Rattle.ink_model.specs.Place.{is_named};
-ghost use Rattle.ink_model.specs.Tree.{at};
+ghost use Rattle.ink_model.specs.Story.Path.{listed_index};
+ghost use Rattle.ink_model.specs.Run.Place.{is_named};
+ghost use Rattle.ink_model.specs.Story.Tree.{at};
 ghost use Rattle.ink_model.specs.declared.place.Part.TheVariants.{Index};
 ghost use Rattle.ink_tree.specs.Contents.{name_in};
 ghost use Rattle.ink_tree.specs.Names.{AreNamed, KeepsNames, MayKeepNames, MayShowNames};

@@ -1,7 +1,7 @@
 //! Where paths lead (docs/STORY_FORMAT.md, "Paths").
 
 ghost use Rattle.std.specs.Prelude.{◌≡◌, option_map};
-ghost use Rattle.ink_model.specs.Path.{by_name, stepped, stepped_last, target, walked};
+ghost use Rattle.ink_model.specs.Story.Path.{by_name, stepped, stepped_last, target, walked};
 ghost use Rattle.ink_path.specs.Components.{part_of};
 ghost use Rattle.ink_model.specs.declared.place.Part.TheVariants.{Index, Name};
 

@@ -2,7 +2,7 @@
 
 ghost use Rattle.std.specs.Prelude.{◌≡◌, ◌≤◌, Option, List, IfOk, IsOk, length, map, option_map};
 ghost use Rattle.ink_json.specs.Order.{key_part};
-ghost use Rattle.ink_model.specs.Entered.{entered_places, is_first, starts_only};
+ghost use Rattle.ink_model.specs.Run.Entered.{entered_places, is_first, starts_only};
 ghost use Rattle.ink_model.specs.declared.place.Part.{Part as Step};
 ghost use Rattle.ink_tree.specs.Walks.{EntersNext, IsUp, still_entered};
 

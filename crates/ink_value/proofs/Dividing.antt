@@ -8,7 +8,7 @@ use Rattle.std.specs.Int.{cast_signed, cast_unsigned, w32}
 use Rattle.std.specs.Int.RustNames.{FitsSigned}
 use Rattle.std.specs.Int.Signed.{mag, mag_rem}
 use Rattle.std.specs.Prelude.{int_div, int_rem}
-use Rattle.ink_model.specs.Operator.{can_divide, quotient, remainder}
+use Rattle.ink_model.specs.Values.Operator.{can_divide, quotient, remainder}
 use Rattle.ink_model.specs.declared.value.Value.TheVariants.{Int}
 
 negated : (n : ℕ) → mag (neg_ℤ (pos n)) ≡ n - 1

@@ -3,8 +3,8 @@ use Rattle.std.proofs.Common.{◌≡◌, ◌≢◌, ◌∙◌, ℕ, List, [], �
 use Rattle.std.proofs.lemmas.Bool.{true≢false}
 use Rattle.std.proofs.lemmas.Bool.Decides.{Decides-eqb, nat_tests}
 use Rattle.std.proofs.lemmas.List.{append-nil, length-append}
-use Rattle.ink_model.specs.Bytes.{fits_text}
-use Rattle.ink_model.specs.Operator.{joined_text}
+use Rattle.ink_model.specs.Text.Bytes.{fits_text}
+use Rattle.ink_model.specs.Values.Operator.{joined_text}
 use Rattle.ink_model.specs.declared.limits.TheConstants.{MAX_TEXT}
 use Rattle.ink_model.specs.declared.value.Value.TheVariants.{Text}
 

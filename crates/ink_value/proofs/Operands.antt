@@ -1,15 +1,15 @@
 -- A value that stands for a number has its number and its printed text as an operand.
 use Rattle.std.proofs.Common.{◌≡◌, ◌≢◌, Bool, ℕ, ℤ, pos, List, [], ◌∷◌, true, false, if◌then◌else◌, get_or, is_some, length, unwrap_or, Some, Result, Ok, Err, arith, refl}
-use Rattle.ink_model.specs.Operator.{apply, can_divide, operand, number, both, of_numbers, of_texts, of_two}
-use Rattle.ink_model.specs.Value.{printed}
+use Rattle.ink_model.specs.Values.Operator.{apply, can_divide, operand, number, both, of_numbers, of_texts, of_two}
+use Rattle.ink_model.specs.Values.Value.{printed}
 use Rattle.ink_model.specs.declared.fault.Fault.{Fault}
 use Rattle.ink_model.specs.declared.fault.Fault.TheVariants.{Divide, OutOfMemory}
 use Rattle.ink_model.specs.declared.operator.Op.{Op}
 use Rattle.ink_model.specs.declared.operator.Op.TheVariants as op
 use Rattle.ink_model.specs.declared.value.Value.{Value}
 use Rattle.ink_model.specs.declared.value.Value.TheVariants.{Int, Bool as Truth, Text, Target, Pointer, Void, Tag}
-use Rattle.ink_model.specs.Memory.{Gives}
-use Rattle.ink_value.specs.Words.{number_of, number_text}
+use Rattle.ink_model.specs.Memory.Refusals.{Gives}
+use Rattle.ink_value.specs.Standing.{number_of, number_text}
 
 pub as_number : (v : Value) (z : ℤ) → number_of v ≡ Some z → (operand v ≡ number z (number_text v)) × (printed v ≡ Ok (number_text v))
 unfolding printed

@@ -3,8 +3,8 @@ use Rattle.std.proofs.Common.{◌≡◌, ◌∙◌, Bool, true, false, ◌&&◌,
 use Rattle.std.proofs.lemmas.Bool.Decides.{Decides-eqb, Decides-int_eq}
 use Rattle.std.proofs.lemmas.Slice.Eq.{bytes_eq-Decides}
 use Rattle.std.specs.Ordering.{int_eq}
-use Rattle.ink_model.specs.Same.{same_value}
-use Rattle.ink_model.specs.Value.{same_part, same_parts, same_path, same_truth}
+use Rattle.ink_model.specs.Values.Same.{same_value}
+use Rattle.ink_model.specs.Values.Value.{same_part, same_parts, same_path, same_truth}
 use Rattle.ink_model.specs.declared.place.Part.{Part}
 use Rattle.ink_model.specs.declared.place.Part.TheVariants.{Index, Name}
 use Rattle.ink_model.specs.declared.place.Path.{Path}

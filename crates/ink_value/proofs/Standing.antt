@@ -5,7 +5,7 @@ use Rattle.std.specs.Str.Pattern.{HasMatch, FindsText}
 use Rattle.std.specs.Str.Iter.{HasSubslice}
 use Rattle.std.proofs.lemmas.Grind.{common_steps}
 use Rattle.std.proofs.lemmas.Str.Pattern.{contains_text}
-use Rattle.ink_model.specs.Bytes.{begins_with, has}
+use Rattle.ink_model.specs.Text.Bytes.{begins_with, has}
 
 begins_over : (n b : List ℕ) → begins_with (n ++ b) n ≡ true
 begins_over [] b = refl

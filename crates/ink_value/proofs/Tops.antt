@@ -6,12 +6,12 @@ use Rattle.std.specs.Option.{ok_or, option_to_list}
 use Rattle.std.specs.Result.{IfErr, IfOk, OnErr}
 use Rattle.std.proofs.lemmas.Bool.{true_from_ne_false, true≢false}
 use Rattle.std.proofs.lemmas.Bool.Decides.{Decides-eqb}
-use Rattle.ink_model.specs.Asks.{operator_asks}
-use Rattle.ink_model.specs.Joining.{makes_text}
-use Rattle.ink_model.specs.Memory.{Gives}
-use Rattle.ink_model.specs.Operator.{apply, of_numbers, takes}
-use Rattle.ink_model.specs.Stack.{applied, applied_to, on_top, popped, taken}
-use Rattle.ink_model.specs.VariableMemory.{on_popped}
+use Rattle.ink_model.specs.Memory.Asks.{operator_asks}
+use Rattle.ink_model.specs.Values.Joining.{makes_text}
+use Rattle.ink_model.specs.Memory.Refusals.{Gives}
+use Rattle.ink_model.specs.Values.Operator.{apply, of_numbers, takes}
+use Rattle.ink_model.specs.Values.Stack.{applied, applied_to, on_top, popped, taken}
+use Rattle.ink_model.specs.Memory.Variables.{on_popped}
 use Rattle.ink_value.specs.Stack.{with_top}
 use Rattle.ink_model.specs.declared.fault.Fault.{Fault}
 use Rattle.ink_model.specs.declared.fault.Fault.TheVariants.{OutOfMemory, StackEmpty}
@@ -19,7 +19,7 @@ use Rattle.ink_model.specs.declared.operator.Op.{Op}
 use Rattle.ink_model.specs.declared.operator.Op.TheVariants as op
 use Rattle.ink_model.specs.declared.value.Value.{Value}
 use Rattle.ink_value.proofs.Operands.{operand_number, two_values}
-use Rattle.ink_value.specs.Words.{number_of}
+use Rattle.ink_value.specs.Standing.{number_of}
 
 pub top_of : (vs : List Value) (v : Value) → popped (vs ++ v ∷ []) ≡ Some (v, vs)
 top_of [] v = refl

@@ -1,3 +1,3 @@
-pub mod Words
+pub mod Standing
 pub mod Stack
 pub mod Undo

@@ -1,7 +1,7 @@
 //! Operators on two integers of 32 bits, which wrap. None of them takes memory.
 
 ghost use Rattle.std.specs.Prelude.{◌≡◌};
-ghost use Rattle.ink_model.specs.Operator as rules;
+ghost use Rattle.ink_model.specs.Values.Operator as rules;
 
 use ink_model::{Fault, Op, Value};
 

@@ -1,11 +1,11 @@
 //! Operators on values.
 
 ghost use Rattle.std.specs.Prelude.{◌≡◌, ◌≢◌, ◌&&◌, ◌||◌, false, true, is_some, None, Some, [], ◌∷◌, List, ℕ};
-ghost use Rattle.ink_model.specs.Joining.{is_for_texts, is_number, is_text, joins, makes_text};
-ghost use Rattle.ink_model.specs.Memory.{Gives};
-ghost use Rattle.ink_model.specs.Operator as rules;
-ghost use Rattle.ink_model.specs.Operator.{operand, both};
-ghost use Rattle.ink_value.specs.Words as words;
+ghost use Rattle.ink_model.specs.Values.Joining.{is_for_texts, is_number, is_text, joins, makes_text};
+ghost use Rattle.ink_model.specs.Memory.Refusals.{Gives};
+ghost use Rattle.ink_model.specs.Values.Operator as rules;
+ghost use Rattle.ink_model.specs.Values.Operator.{operand, both};
+ghost use Rattle.ink_value.specs.Standing as words;
 
 use crate::numbers::of_numbers;
 use crate::printing::printed;
@@ -21,7 +21,7 @@ use std::alloc::Global;
 /// refused request for memory. Memory is asked for only where two texts are joined to one within its limit, and for the text of
 /// a number beside a text: never for values without a text, for comparisons of two texts, and where the answer is
 /// `BadOperands` or `Divide`.
-#[tactic(auto, unfolding(ink_model::specs::Operator::apply))]
+#[tactic(auto, unfolding(ink_model::specs::Values::Operator::apply))]
 #[inline(always)]
 pub fn apply(alloc: Global, operator: Op, values: &[Value]) -> Result<Value, Fault>
     ensures result { Gives result (rules.apply operator values.now) }
@@ -121,7 +121,7 @@ fn before_text(alloc: Global, operator: Op, left: &Value, right: &Value) -> Resu
 }
 
 // A text and any value.
-#[tactic(auto, unfolding(ink_model::specs::Value::printed))]
+#[tactic(auto, unfolding(ink_model::specs::Values::Value::printed))]
 #[inline(never)]
 fn after_text(
     alloc: Global,

@@ -1,8 +1,8 @@
 //! The printed text of values.
 
 ghost use Rattle.std.specs.Prelude.{◌≡◌, ◌≢◌};
-ghost use Rattle.ink_model.specs.Memory.{Gives};
-ghost use Rattle.ink_model.specs.Value as rules;
+ghost use Rattle.ink_model.specs.Memory.Refusals.{Gives};
+ghost use Rattle.ink_model.specs.Values.Value as rules;
 
 use ink_model::{Fault, Text, Value};
 use std::alloc::Global;
@@ -11,7 +11,7 @@ use std::alloc::Global;
 ///
 /// `BadOperands` where it has none, whatever memory there is; `OutOfMemory` for a refused request for memory, which is never
 /// made for void, whose text is empty.
-#[tactic(auto, unfolding(ink_model::specs::Value::printed))]
+#[tactic(auto, unfolding(ink_model::specs::Values::Value::printed))]
 pub fn printed(alloc: Global, value: &Value) -> Result<Text, Fault>
     ensures result { Gives result (rules.printed value.now) }
     ensures memory { value.now ≡ Value.Void → result ≢ Err Fault.OutOfMemory }

@@ -1,7 +1,7 @@
 //! When two values are the same.
 
 ghost use Rattle.std.specs.Prelude.{◌≡◌, ◌↔◌, true};
-ghost use Rattle.ink_model.specs.Same as rules;
+ghost use Rattle.ink_model.specs.Values.Same as rules;
 
 use crate::targets::same_path;
 use ink_model::Value;

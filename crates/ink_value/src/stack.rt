@@ -1,12 +1,12 @@
 //! The evaluation stack.
 
 ghost use Rattle.std.specs.Prelude.{◌≡◌, ◌<◌, ◌≤◌, vec_len, vec_capacity, ◌↔◌, ◌⊎◌, [], ◌∷◌, ◌++◌, ◌+◌, true, false, Some, None, is_some, length, option_map, reverse, slice_get, take, ◌-◌, OnOk, OnErr, IfOk, IfErr, IfSome, MatchResult};
-ghost use Rattle.ink_model.specs.Asks.{operator_asks};
-ghost use Rattle.ink_model.specs.Memory.{Leaves, holds_memory};
-ghost use Rattle.ink_model.specs.Operator as rules;
-ghost use Rattle.ink_model.specs.Stack.{applied, popped, taken};
-ghost use Rattle.ink_model.specs.Step.Host.{arguments_on};
-ghost use Rattle.ink_model.specs.VariableMemory.{on_popped};
+ghost use Rattle.ink_model.specs.Memory.Asks.{operator_asks};
+ghost use Rattle.ink_model.specs.Memory.Refusals.{Leaves, holds_memory};
+ghost use Rattle.ink_model.specs.Values.Operator as rules;
+ghost use Rattle.ink_model.specs.Values.Stack.{applied, popped, taken};
+ghost use Rattle.ink_model.specs.Run.Step.Host.{arguments_on};
+ghost use Rattle.ink_model.specs.Memory.Variables.{on_popped};
 ghost use Rattle.ink_trail.specs.Undo.{KeepsTrail, Trails, TrailsOrKeeps, spare};
 ghost use Rattle.ink_model.specs.declared.operator.Op.{Op as Operator};
 ghost use Rattle.ink_model.specs.declared.value.Value.{Value as Data};

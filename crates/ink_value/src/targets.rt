@@ -1,8 +1,8 @@
 //! Operators on two divert targets.
 
 ghost use Rattle.std.specs.Prelude.{◌≡◌};
-ghost use Rattle.ink_model.specs.Operator as rules;
-ghost use Rattle.ink_model.specs.Value as values;
+ghost use Rattle.ink_model.specs.Values.Operator as rules;
+ghost use Rattle.ink_model.specs.Values.Value as values;
 
 use ink_model::{Fault, Op, Part, Path, Value};
 

@@ -1,10 +1,10 @@
 //! Operators on two texts.
 
 ghost use Rattle.std.specs.Prelude.{◌≡◌, ◌≢◌, [], ◌∷◌, ◌++◌, false, IfOk};
-ghost use Rattle.ink_model.specs.Bytes as bytes;
-ghost use Rattle.ink_model.specs.Joining.{is_for_texts, joins};
-ghost use Rattle.ink_model.specs.Memory.{Gives};
-ghost use Rattle.ink_model.specs.Operator as rules;
+ghost use Rattle.ink_model.specs.Text.Bytes as bytes;
+ghost use Rattle.ink_model.specs.Values.Joining.{is_for_texts, joins};
+ghost use Rattle.ink_model.specs.Memory.Refusals.{Gives};
+ghost use Rattle.ink_model.specs.Values.Operator as rules;
 
 use ink_model::{Fault, MAX_TEXT, Op, Shared, Text, Value};
 use std::alloc::{AllocError, Global};

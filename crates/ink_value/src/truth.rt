@@ -1,14 +1,14 @@
 //! The truth of values.
 
 ghost use Rattle.std.specs.Prelude.{◌≡◌};
-ghost use Rattle.ink_model.specs.Value as rules;
+ghost use Rattle.ink_model.specs.Values.Value as rules;
 
 use ink_model::{Fault, Value};
 
 /// Is a value true (docs/VALUES.md)?
 ///
 /// `BadOperands` where it is neither true nor false.
-#[tactic(auto, unfolding(ink_model::specs::Value::is_true))]
+#[tactic(auto, unfolding(ink_model::specs::Values::Value::is_true))]
 pub fn is_true(value: &Value) -> Result<bool, Fault>
     ensures { result ≡ rules.is_true value.now }
 {

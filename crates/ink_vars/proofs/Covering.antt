@@ -3,10 +3,10 @@ use Rattle.std.proofs.Common.{◌≡◌, ◌≢◌, ◌∙◌, ◌⊎◌, ◌≤
 use Rattle.std.proofs.lemmas.Bool.{cases_Bool, cases_lt, eq-eqb, eqb-true}
 use Rattle.std.specs.Option.{option_or}
 use Rattle.ink_vars.specs.Globals.{set_value_at}
-use Rattle.ink_model.specs.Store.{Values, stored}
+use Rattle.ink_model.specs.Variables.Store.{Values, stored}
 use Rattle.ink_model.specs.declared.value.Value.{Value}
 use Rattle.ink_trail.specs.Undo.{Undo, but_last, trail_of, with_pair}
-use Rattle.ink_vars.specs.Changes.{AreNew, Fits, as_it_was, as_they_were, noted_at, number_of, with_noted}
+use Rattle.ink_vars.specs.Changes.{AreNew, NotesFit, as_it_was, as_they_were, noted_at, number_of, with_noted}
 use Rattle.ink_vars.specs.Globals.{DifferInName}
 use Rattle.ink_vars.specs.Undo.{Covers, NewAt, global_back}
 use Rattle.ink_vars.specs.Views.{ChangesView}
@@ -104,7 +104,7 @@ changed_length i v [] = refl
 changed_length zero v (e ∷ es) = refl
 changed_length (suc i) v (e ∷ es) = ap suc (changed_length i v es)
 
-pub fits_back : (c : ChangesView) (e : GlobalPair) (es : List GlobalPair) (now : Values) → Fits c now → Covers c.noted (length now) (e ∷ es) → Fits c (global_back e now)
+pub fits_back : (c : ChangesView) (e : GlobalPair) (es : List GlobalPair) (now : Values) → NotesFit c now → Covers c.noted (length now) (e ∷ es) → NotesFit c (global_back e now)
 fits_back c Added es now fits covers = record {
   differ = differ_fewer now fits.differ;
   new = subst (λ n. AreNew n c.noted) (sym (fewer_length now)) (new_fewer (length now) c.noted fits.new covers.0);

@@ -1,9 +1,9 @@
 -- Notes that fit the globals, also after one is stored.
 use Rattle.std.proofs.Common.{◌≡◌, ◌∙◌, ◌+◌, ◌<◌, ◌≤◌, ◌⊎◌, ℕ, suc, Bool, true, false, bytes_eq, if◌then◌else◌, List, [], ◌∷◌, Option, Some, None, Result, Ok, Err, OnErr, OnOk, ap, arith, inl, inr, is_ok, is_some, length, refl, subst, sym}
 use Rattle.std.proofs.lemmas.Slice.Eq.{bytes_eq-Decides}
-use Rattle.ink_model.specs.Store.{Values, stored, store}
+use Rattle.ink_model.specs.Variables.Store.{Values, stored, store}
 use Rattle.ink_model.specs.declared.value.Value.{Value}
-use Rattle.ink_vars.specs.Changes.{AreNew, Fits, Tracks, as_it_was, as_they_were, noted_at, number_of}
+use Rattle.ink_vars.specs.Changes.{AreNew, NotesFit, Tracks, as_it_was, as_they_were, noted_at, number_of}
 use Rattle.ink_vars.specs.Globals.{DifferInName}
 use Rattle.ink_vars.specs.Views.{ChangesView}
 use Rattle.ink_vars.specs.declared.changes.Before.{Before}
@@ -35,11 +35,11 @@ differ_stored name v (e ∷ es) h = by (bytes_eq name e.0) refl (differ_stored n
 
 -- ---- nothing was noted
 
-pub fits_none : (changes : ChangesView) (now : Values) → changes.noted ≡ [] → DifferInName now → length now ≤ changes.slots → Fits changes now
+pub fits_none : (changes : ChangesView) (now : Values) → changes.noted ≡ [] → DifferInName now → length now ≤ changes.slots → NotesFit changes now
 fits_none changes now none differ slots = record { differ = differ; new = subst (AreNew (length now)) (sym none) tt; slots = slots }
 
 -- nothing more was noted, and there are no fewer slots
-pub fits_same : (old new : ChangesView) (now : Values) → new.noted ≡ old.noted → old.slots ≤ new.slots → Fits old now → Fits new now
+pub fits_same : (old new : ChangesView) (now : Values) → new.noted ≡ old.noted → old.slots ≤ new.slots → NotesFit old now → NotesFit new now
 fits_same old new now same more fits = record { differ = fits.differ; new = subst (AreNew (length now)) (sym same) fits.new; slots = omega (arith, fits.slots, more) }
 
 pub was_none : (noted : List Before) (now : Values) → noted ≡ [] → as_they_were noted 0 now ≡ now
@@ -47,11 +47,11 @@ was_none noted now none = ap (λ bs. as_they_were bs 0 now) none ∙ (none_noted
 
 -- ---- a global was put
 
-pub tracked : (changes : ChangesView) (now : Values) → Fits changes now → Tracks (as_they_were changes.noted 0 now) changes.noted now
+pub tracked : (changes : ChangesView) (now : Values) → NotesFit changes now → Tracks (as_they_were changes.noted 0 now) changes.noted now
 tracked changes now fits = record { were = refl; new = fits.new }
 
 pub fits_put : {A E : Type 0} (r : Result A E) (name : List ℕ) (v : Value) (old now start : Values) (changes : ChangesView) → DifferInName old → Tracks start changes.noted now
-    → OnOk r (now ≡ store name v old) → OnErr r (now ≡ old) → length now ≤ changes.slots → Fits changes now
+    → OnOk r (now ≡ store name v old) → OnErr r (now ≡ old) → length now ≤ changes.slots → NotesFit changes now
 fits_put r name v old now start changes differ tracks ok err slots = record {
   differ = either_way r ok err (λ is. subst DifferInName (sym is) (differ_stored name v old differ)) (λ is. subst DifferInName (sym is) differ);
   new = tracks.new;

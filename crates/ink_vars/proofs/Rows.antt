@@ -3,7 +3,7 @@ use Rattle.std.proofs.Common.{◌≡◌, ◌∙◌, ◌<◌, ℕ, zero, suc, Boo
 use Rattle.std.proofs.lemmas.List.{length-append}
 use Rattle.std.proofs.lemmas.Option.{slice_get_past}
 use Rattle.std.specs.Slice.{IsItemAt}
-use Rattle.ink_model.specs.Store.{Values, store, stored}
+use Rattle.ink_model.specs.Variables.Store.{Values, store, stored}
 use Rattle.ink_model.specs.declared.value.Value.{Value}
 use Rattle.ink_names.specs.Names as names
 use Rattle.ink_trail.specs.Undo.{but_last}

@@ -2,9 +2,9 @@
 use Rattle.std.proofs.Common.{◌≡◌, ◌∙◌, ◌≤◌, ◌<◌, ◌+◌, ◌-◌, ℕ, List, [], ◌∷◌, Bool, true, false, IfSome, Option, None, Some, if◌then◌else◌, ap, arith, length, nat_lt, refl, subst, sym, unwrap_or, ◌||◌}
 use Rattle.std.proofs.lemmas.Bool.Decides.{nat_tests}
 use Rattle.std.specs.Ordering.{nat_cmp}
-use Rattle.ink_model.specs.Counts.{CountsOf, counts, one_more, visited}
-use Rattle.ink_model.specs.Flags.{counts_at_start, counts_visits, notes_turns}
-use Rattle.ink_model.specs.Rows.{row, with_row}
+use Rattle.ink_model.specs.Variables.Counts.{CountsOf, counts, one_more, visited}
+use Rattle.ink_model.specs.Story.Flags.{counts_at_start, counts_visits, notes_turns}
+use Rattle.ink_model.specs.Variables.Rows.{row, with_row}
 use Rattle.ink_model.specs.declared.limits.TheConstants.{MAX_COUNT}
 use Rattle.ink_trail.proofs.Undoing.{trails-trails, trails-where}
 use Rattle.ink_trail.specs.Undo.{TrailView, Trails, Undo, trail_of, with_pair}

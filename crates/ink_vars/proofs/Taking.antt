@@ -1,7 +1,7 @@
 -- What is put back of globals.
 use Rattle.std.proofs.Common.{◌≡◌, ◌∙◌, Option, ◌≤◌, ◌<◌, ℕ, suc, List, [], ◌∷◌, None, Some, ap, arith, bytes_eq, false, true, Bool, if◌then◌else◌, length, refl}
 use Rattle.ink_vars.specs.Globals.{set_value_at}
-use Rattle.ink_model.specs.Store.{Values, store, stored}
+use Rattle.ink_model.specs.Variables.Store.{Values, store, stored}
 use Rattle.ink_model.specs.declared.value.Value.{Value}
 use Rattle.ink_vars.specs.Changes.{number_of}
 use Rattle.ink_vars.proofs.Naming.{store_new}

@@ -1,6 +1,6 @@
 pub mod Views
 pub mod Globals
 pub mod Slots
-pub mod Words
+pub mod Outcomes
 pub mod Changes
 pub mod Undo

@@ -2,9 +2,9 @@
 use Rattle.std.specs.Ordering.{nat_cmp}
 use Rattle.std.specs.Prelude.{◌≡◌, ◌≤◌, ◌<◌, ◌-◌, ⊤, ℕ, Bool, List, [], ◌∷◌, Option, None, is_some, IfSome, if◌then◌else◌, true}
 use Rattle.ink_vars.specs.Globals.{set_value_at}
-use Rattle.ink_model.specs.Counts.{CountsOf}
-use Rattle.ink_model.specs.Rows.{row}
-use Rattle.ink_model.specs.Store.{Values}
+use Rattle.ink_model.specs.Variables.Counts.{CountsOf}
+use Rattle.ink_model.specs.Variables.Rows.{row}
+use Rattle.ink_model.specs.Variables.Store.{Values}
 use Rattle.ink_model.specs.declared.limits.TheConstants.{MAX_COUNT}
 use Rattle.ink_trail.specs.Undo.{Undo, but_last, spare, stood_at, with_pair}
 use Rattle.ink_vars.specs.Changes.{noted_at}

@@ -1,7 +1,7 @@
 -- Globals and counts, as contracts see them.
 use Rattle.std.specs.Prelude.{ℕ, List}
-use Rattle.ink_model.specs.Counts.{CountsOf}
-use Rattle.ink_model.specs.Store.{Values}
+use Rattle.ink_model.specs.Variables.Counts.{CountsOf}
+use Rattle.ink_model.specs.Variables.Store.{Values}
 use Rattle.ink_trail.specs.Undo.{TrailView}
 use Rattle.ink_vars.specs.declared.changes.Before.{Before}
 use Rattle.ink_vars.specs.declared.undo.CountPair.{CountPair}

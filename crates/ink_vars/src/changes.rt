@@ -3,7 +3,7 @@
 ghost use Rattle.std.specs.Prelude.{◌≡◌, ◌≢◌, ◌≤◌, ◌<◌, ◌++◌, ◌∷◌, ℕ, List, [], Bool, false, true, None, is_some, length, nat_eq, slice_get, slice_index_or, IfOk, OnOk, OnErr};
 ghost use Rattle.std.specs.List.{IsDistinct};
 ghost use Rattle.std.specs.Option.{option_copied};
-ghost use Rattle.ink_model.specs.Store.{Values, store, stored};
+ghost use Rattle.ink_model.specs.Variables.Store.{Values, store, stored};
 ghost use Rattle.ink_model.specs.declared.value.Value.{Value};
 ghost use Rattle.ink_vars.specs.Changes.{AnswersAs, Marks, Tracks, changed_numbers, changed_to, noted_at, number_of, with_noted};
 ghost use Rattle.ink_vars.specs.Globals.{set_value_at};

@@ -2,9 +2,9 @@
 
 ghost use Rattle.std.specs.Prelude.{◌≡◌, ◌≤◌, ◌<◌, ◌+◌, ◌⊎◌, ℕ, Bool, [], None, Some, length, refl, true, ◌&&◌, IfErr, OnOk, OnErr};
 ghost use Rattle.std.specs.Ordering.{nat_cmp};
-ghost use Rattle.ink_model.specs.Counts as rules;
-ghost use Rattle.ink_model.specs.Counts.{CountsOf};
-ghost use Rattle.ink_model.specs.Rows.{row};
+ghost use Rattle.ink_model.specs.Variables.Counts as rules;
+ghost use Rattle.ink_model.specs.Variables.Counts.{CountsOf};
+ghost use Rattle.ink_model.specs.Variables.Rows.{row};
 ghost use Rattle.ink_trail.specs.Undo.{Trails, TrailsOrKeeps};
 ghost use Rattle.ink_vars.specs.Undo.{counts_back, counts_spare, counts_stood};
 

@@ -2,7 +2,7 @@
 
 ghost use Rattle.std.specs.Prelude.{◌≡◌, ◌≢◌, ◌≤◌, ◌<◌, ◌+◌, ◌⊎◌, ℕ, List, [], Bool, None, Some, false, is_ok, is_some, length, nat_eq, option_map, refl, slice_get, true, IfOk, IfSome, IfErr, OnOk, OnErr};
 ghost use Rattle.std.specs.List.{IsDistinct};
-ghost use Rattle.ink_model.specs.Store.{Values, stored, store};
+ghost use Rattle.ink_model.specs.Variables.Store.{Values, stored, store};
 ghost use Rattle.ink_trail.specs.Undo.{KeepsTrail, TrailsOrKeeps};
 ghost use Rattle.ink_vars.specs.Changes.{AnswersAs, changed_numbers, number_of};
 ghost use Rattle.ink_vars.specs.Globals.{DifferInName};
@@ -41,7 +41,7 @@ impl Drop for Globals {
 impl Model for Globals {
     ghost use Rattle.std.specs.Prelude.{length};
     ghost use Rattle.ink_trail.specs.Undo.{trail_of};
-    ghost use Rattle.ink_vars.specs.Changes.{Fits, as_they_were};
+    ghost use Rattle.ink_vars.specs.Changes.{NotesFit, as_they_were};
     ghost use Rattle.ink_vars.specs.Undo.{Covers};
     ghost use Rattle.ink_vars.specs.Views.{GlobalsView};
 
@@ -49,7 +49,7 @@ impl Model for Globals {
 
     ghost view = { λ g. record { rows = g.table; start = as_they_were g.changes.noted 0 g.table; trail = g.trail } };
 
-    ghost invariant = { λ g. Fits g.changes g.table × Covers g.changes.noted (length g.table) (trail_of g.trail.undo) };
+    ghost invariant = { λ g. NotesFit g.changes g.table × Covers g.changes.noted (length g.table) (trail_of g.trail.undo) };
 }
 
 #[tactic(auto, unfolding(crate::specs::Undo::globals_stood, crate::specs::Undo::globals_spare, ink_trail::specs::Undo::stood_at, ink_trail::specs::Undo::spare))]

@@ -1,7 +1,7 @@
 //! What names and pointers lead to.
 
 ghost use Rattle.std.specs.Prelude.{◌≡◌, IfSome, option_map};
-ghost use Rattle.ink_model.specs.Variables as rules;
+ghost use Rattle.ink_model.specs.Variables.Access as rules;
 
 use crate::globals::Globals;
 use ink_model::{Shared, Text, Value};

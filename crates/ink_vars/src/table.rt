@@ -1,7 +1,7 @@
 //! Values by name, in order, found by name and by number.
 
 ghost use Rattle.std.specs.Prelude.{◌≡◌, ◌<◌, ◌≤◌, ◌+◌, [], false, true, is_some, is_ok, length, max, option_map, slice_get, IfErr, IfSome, OnOk, OnErr, Some};
-ghost use Rattle.ink_model.specs.Store.{stored, store};
+ghost use Rattle.ink_model.specs.Variables.Store.{stored, store};
 ghost use Rattle.ink_trail.specs.Undo.{but_last};
 ghost use Rattle.ink_vars.specs.Changes.{number_of};
 ghost use Rattle.ink_vars.specs.Globals.{DifferInName, set_value_at};
@@ -29,7 +29,7 @@ pub(crate) struct Table {
 
 impl Model for Table {
     ghost use Rattle.std.specs.Prelude.{◌≡◌, length};
-    ghost use Rattle.ink_model.specs.Store.{Values};
+    ghost use Rattle.ink_model.specs.Variables.Store.{Values};
     ghost use Rattle.ink_vars.specs.Globals.{rows_of};
 
     ghost Value = { Values };

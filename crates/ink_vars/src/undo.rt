@@ -2,7 +2,7 @@
 
 ghost use Rattle.std.specs.Prelude.{◌≡◌, ◌≤◌, ◌<◌, ◌+◌, None, List, OnOk, OnErr, is_some, length, nat_lt, true, false};
 ghost use Rattle.ink_vars.specs.Globals.{set_value_at};
-ghost use Rattle.ink_model.specs.Store.{store, stored};
+ghost use Rattle.ink_model.specs.Variables.Store.{store, stored};
 ghost use Rattle.ink_trail.specs.Undo.{KeepsTrail, Trails, TrailsOrKeeps, spare, trail_of};
 ghost use Rattle.ink_vars.specs.Changes.{AreNew, noted_at, number_of};
 ghost use Rattle.ink_vars.specs.Slots.{AreCounts};

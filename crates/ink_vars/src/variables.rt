@@ -1,13 +1,13 @@
 //! Variables that are read, assigned and declared.
 
 ghost use Rattle.std.specs.Prelude.{◌≡◌, ◌≤◌, ◌⊎◌, pos, true, is_some, option_map, None, Ok, Some, IfOk, if◌then◌else◌};
-ghost use Rattle.ink_model.specs.Rows.{name_order, row};
-ghost use Rattle.ink_model.specs.Store.{Values};
-ghost use Rattle.ink_model.specs.Threads.{frame_count};
-ghost use Rattle.ink_model.specs.VariableMemory.{is_pointer};
-ghost use Rattle.ink_model.specs.Variables as rules;
+ghost use Rattle.ink_model.specs.Variables.Rows.{name_order, row};
+ghost use Rattle.ink_model.specs.Variables.Store.{Values};
+ghost use Rattle.ink_model.specs.Flow.Threads.{frame_count};
+ghost use Rattle.ink_model.specs.Memory.Variables.{is_pointer};
+ghost use Rattle.ink_model.specs.Variables.Access as rules;
 ghost use Rattle.ink_model.specs.declared.value.Value.{Value as Data};
-ghost use Rattle.ink_vars.specs.Words.{Copies, Declares, HandsOut, LeadsInto, LeadsTo, found, found_at, looked, number_of_name};
+ghost use Rattle.ink_vars.specs.Outcomes.{Copies, Declares, HandsOut, LeadsInto, LeadsTo, found, found_at, looked, number_of_name};
 
 use crate::globals::Globals;
 use crate::places::{Name, Variable};

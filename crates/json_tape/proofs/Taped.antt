@@ -4,7 +4,7 @@ use Rattle.std.proofs.lemmas.List.{length-append, get_or_push}
 use Rattle.std.specs.Borrow.{Bor}
 use Rattle.json.specs.declared.tape.Node.{Node}
 use Rattle.json.specs.declared.tape.Node.TheVariants as nodes
-use Rattle.json_tape.specs.Tape.{node_of, has_text, text_node, nodes_of, Fits, AreNodes, IsOpening, leading_to}
+use Rattle.json_tape.specs.Tape.{node_of, has_text, text_node, nodes_of, TextsFit, AreNodes, IsOpening, leading_to}
 use Rattle.json_tape.specs.declared.tape.Tag.{Tag}
 use Rattle.json_tape.specs.declared.tape.Tag.TheVariants.{Object, EndObject, Array, EndArray, Key, String, Number, True, False, Null}
 
@@ -13,13 +13,13 @@ Texts = List (Bor (List ℕ))
 
 -- ---- how many there are
 
-pub as_many : (count : ℕ) (tags : List Tag) (numbers : List ℕ) → Fits count tags numbers → length numbers ≡ length tags
+pub as_many : (count : ℕ) (tags : List Tag) (numbers : List ℕ) → TextsFit count tags numbers → length numbers ≡ length tags
 as_many count [] [] f = refl
 as_many count [] (n ∷ ns) f = absurd f
 as_many count (t ∷ ts) [] f = absurd f
 as_many count (t ∷ ts) (n ∷ ns) f = ap suc (as_many count ts ns f.1)
 
-pub many_nodes : (texts : Texts) (count : ℕ) (tags : List Tag) (numbers : List ℕ) → Fits count tags numbers → length (nodes_of texts tags numbers) ≡ length tags
+pub many_nodes : (texts : Texts) (count : ℕ) (tags : List Tag) (numbers : List ℕ) → TextsFit count tags numbers → length (nodes_of texts tags numbers) ≡ length tags
 many_nodes texts count [] [] f = refl
 many_nodes texts count [] (n ∷ ns) f = absurd f
 many_nodes texts count (t ∷ ts) [] f = absurd f
@@ -27,19 +27,19 @@ many_nodes texts count (t ∷ ts) (n ∷ ns) f = ap suc (many_nodes texts count 
 
 -- ---- one more
 
-fits_more : (count : ℕ) (tags : List Tag) (numbers : List ℕ) (tag : Tag) (number : ℕ) → Fits count tags numbers → (has_text tag ≡ true → number < count) → Fits count (tags ++ tag ∷ []) (numbers ++ number ∷ [])
+fits_more : (count : ℕ) (tags : List Tag) (numbers : List ℕ) (tag : Tag) (number : ℕ) → TextsFit count tags numbers → (has_text tag ≡ true → number < count) → TextsFit count (tags ++ tag ∷ []) (numbers ++ number ∷ [])
 fits_more count [] [] tag number f h = (h, tt)
 fits_more count [] (n ∷ ns) tag number f h = absurd f
 fits_more count (t ∷ ts) [] tag number f h = absurd f
 fits_more count (t ∷ ts) (n ∷ ns) tag number f h = (f.0, fits_more count ts ns tag number f.1 h)
 
-fits_longer : (count more : ℕ) (tags : List Tag) (numbers : List ℕ) → count ≤ more → Fits count tags numbers → Fits more tags numbers
+fits_longer : (count more : ℕ) (tags : List Tag) (numbers : List ℕ) → count ≤ more → TextsFit count tags numbers → TextsFit more tags numbers
 fits_longer count more [] [] le f = tt
 fits_longer count more [] (n ∷ ns) le f = absurd f
 fits_longer count more (t ∷ ts) [] le f = absurd f
 fits_longer count more (t ∷ ts) (n ∷ ns) le f = (λ h. (let below = f.0 h in omega arith), fits_longer count more ts ns le f.1)
 
-nodes_more : (texts : Texts) (count : ℕ) (tags : List Tag) (numbers : List ℕ) (tag : Tag) (number : ℕ) → Fits count tags numbers
+nodes_more : (texts : Texts) (count : ℕ) (tags : List Tag) (numbers : List ℕ) (tag : Tag) (number : ℕ) → TextsFit count tags numbers
     → nodes_of texts (tags ++ tag ∷ []) (numbers ++ number ∷ []) ≡ nodes_of texts tags numbers ++ node_of texts tag number ∷ []
 nodes_more texts count [] [] tag number f = refl
 nodes_more texts count [] (n ∷ ns) tag number f = absurd f
@@ -63,7 +63,7 @@ node_stays texts text True n h = refl
 node_stays texts text False n h = refl
 node_stays texts text Null n h = refl
 
-nodes_stay : (texts : Texts) (text : Bor (List ℕ)) (tags : List Tag) (numbers : List ℕ) → Fits (length texts) tags numbers → nodes_of (texts ++ text ∷ []) tags numbers ≡ nodes_of texts tags numbers
+nodes_stay : (texts : Texts) (text : Bor (List ℕ)) (tags : List Tag) (numbers : List ℕ) → TextsFit (length texts) tags numbers → nodes_of (texts ++ text ∷ []) tags numbers ≡ nodes_of texts tags numbers
 nodes_stay texts text [] [] f = refl
 nodes_stay texts text [] (n ∷ ns) f = absurd f
 nodes_stay texts text (t ∷ ts) [] f = absurd f
@@ -168,8 +168,8 @@ opening_within [] at h = absurd h
 opening_within (x ∷ xs) zero h = omega arith
 opening_within (x ∷ xs) (suc at) h = omega (arith, opening_within xs at h)
 
-leads : (texts : Texts) (count : ℕ) (tags : List Tag) (numbers : List ℕ) (at n : ℕ) → Fits count tags numbers → IsOpening (get_or (nodes_of texts tags numbers) at nodes.Null)
-    → Fits count tags (slice_set numbers at n)
+leads : (texts : Texts) (count : ℕ) (tags : List Tag) (numbers : List ℕ) (at n : ℕ) → TextsFit count tags numbers → IsOpening (get_or (nodes_of texts tags numbers) at nodes.Null)
+    → TextsFit count tags (slice_set numbers at n)
     × (nodes_of texts tags (slice_set numbers at n) ≡ slice_set (nodes_of texts tags numbers) at (leading_to n (get_or (nodes_of texts tags numbers) at nodes.Null)))
 leads texts count [] ns at n f h = absurd h
 leads texts count (t ∷ ts) [] at n f h = absurd f
@@ -194,7 +194,7 @@ still_opening (y ∷ ys) x (suc at) h = still_opening ys x at h
 
 -- ---- the node at a place
 
-pub node_at : (texts : Texts) (count : ℕ) (tags : List Tag) (numbers : List ℕ) (at : ℕ) (t : Tag) (n : ℕ) → Fits count tags numbers → at < length tags
+pub node_at : (texts : Texts) (count : ℕ) (tags : List Tag) (numbers : List ℕ) (at : ℕ) (t : Tag) (n : ℕ) → TextsFit count tags numbers → at < length tags
     → (get_or (nodes_of texts tags numbers) at nodes.Null ≡ node_of texts (get_or tags at t) (get_or numbers at n)) × (has_text (get_or tags at t) ≡ true → get_or numbers at n < count)
 node_at texts count [] ns at t n f h = let never : ⊥ = omega arith in absurd never
 node_at texts count (x ∷ ts) [] at t n f h = absurd f

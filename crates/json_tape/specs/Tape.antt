@@ -56,14 +56,14 @@ nodes_of texts (t ∷ ts) [] = []
 nodes_of texts (t ∷ ts) (n ∷ ns) = node_of texts t n ∷ nodes_of texts ts ns
 
 -- there are as many numbers as tags, and each text that a number names is one of so many
-abbrev pub Fits : ℕ → List Tag → List ℕ → Type 0
-Fits count [] [] = ⊤
-Fits count [] (n ∷ ns) = ⊥
-Fits count (t ∷ ts) [] = ⊥
-Fits count (t ∷ ts) (n ∷ ns) = (has_text t ≡ true → n < count) × Fits count ts ns
+abbrev pub TextsFit : ℕ → List Tag → List ℕ → Type 0
+TextsFit count [] [] = ⊤
+TextsFit count [] (n ∷ ns) = ⊥
+TextsFit count (t ∷ ts) [] = ⊥
+TextsFit count (t ∷ ts) (n ∷ ns) = (has_text t ≡ true → n < count) × TextsFit count ts ns
 
 pub record AreNodes (texts : List (Bor (List ℕ))) (tags : List Tag) (numbers : List ℕ) : Type 0 where
-  pub fit : Fits (length texts) tags numbers
+  pub fit : TextsFit (length texts) tags numbers
   pub few : length texts ≤ length tags
 
 -- ---- brackets

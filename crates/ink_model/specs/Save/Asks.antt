@@ -2,8 +2,8 @@
 -- (docs/SAVES.md, "What writes and reads").
 use Rattle.std.specs.Prelude.{ℕ, List, Bool, true, false, ◌&&◌, ◌||◌, codes, is_some, Option, Some, None}
 use Rattle.serde_json.specs.Data.{Data, string, array, object, Items, no_items, item, Members, no_members, member}
-use Rattle.ink_model.specs.Path.{read_path}
 use Rattle.ink_model.specs.Save.Unspelled.{any_place_of, choice_of, count_of, format_of, frame_of, int_of, kind_of, list_of, next_named, pair_of, part_of, path_in, place_of, temps_of, text_of, thread_in, truth_of, value_of}
+use Rattle.ink_model.specs.Story.Path.{read_path}
 
 -- nothing is kept
 abbrev pub none_asks : {A : Type 0} → A → Bool

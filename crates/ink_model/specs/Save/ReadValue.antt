@@ -1,9 +1,9 @@
--- Values that JSON spells: what ink_model's ValueJson.antt says of how they are spelled, read back.
+-- Values that JSON spells: what Protocol/ValueJson.antt says of how they are spelled, read back.
 use Rattle.std.specs.Prelude.{ℕ, pos, negsuc, ℤ, List, bytes_eq, codes, if◌then◌else◌, Option, Some, None, option_and_then}
 use Rattle.std.specs.Option.{option_map, option_or}
 use Rattle.serde_json.specs.Data.{Num, unsigned, negative, float, Data, null, boolean, number, string, array, object, Members, no_members, member}
-use Rattle.ink_model.specs.Leaves.{is_small}
-use Rattle.ink_model.specs.Path.{path_text, read_path}
+use Rattle.ink_model.specs.Story.Leaves.{is_small}
+use Rattle.ink_model.specs.Story.Path.{path_text, read_path}
 use Rattle.ink_model.specs.declared.place.Path.{Path}
 use Rattle.ink_model.specs.declared.value.Value.{Value}
 use Rattle.ink_model.specs.declared.value.Value.TheVariants as value

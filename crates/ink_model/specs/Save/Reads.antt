@@ -1,11 +1,11 @@
 -- As which game a JSON value reads (docs/SAVES.md).
 use Rattle.std.specs.Prelude.{◌≡◌, ◌⊎◌}
 use Rattle.serde_json.specs.Data.{Data}
-use Rattle.ink_model.specs.Configuration.{Configuration, settled}
-use Rattle.ink_model.specs.Tree.{StoryTree}
-use Rattle.ink_model.specs.Flows.{Game, one_flow}
+use Rattle.ink_model.specs.Run.Configuration.{Configuration, settled}
+use Rattle.ink_model.specs.Run.Flows.{Game, one_flow}
 use Rattle.ink_model.specs.Save.Sound.{AsideFits, Sound}
 use Rattle.ink_model.specs.Save.Spelling.{old_spelling, spelling}
+use Rattle.ink_model.specs.Story.Tree.{StoryTree}
 
 -- as a command leaves it: nothing is being written, and no frame has the number of an Enter
 abbrev pub Rests : Configuration → Type 0

@@ -1,22 +1,22 @@
 -- What is asked of a game that is saved or loaded (docs/SAVES.md). Each one that a session comes to has it.
 use Rattle.std.specs.Prelude.{◌≡◌, ℕ, ◌≤◌, ℤ, pos, negsuc, List, [], ◌∷◌, length, Bool, true, false, not, ◌&&◌, IsTrue, Option, Some, None, is_some}
 use Rattle.std.specs.List.{AllByRecursion as Each}
-use Rattle.ink_model.specs.Bases.{BaseFirst}
-use Rattle.ink_model.specs.Bytes.{fits_text}
-use Rattle.ink_model.specs.Configuration.{ChoiceOf, Configuration, FlowOf, SharedOf, unnumbered_flow}
-use Rattle.ink_model.specs.Counts.{CountsOf}
-use Rattle.ink_model.specs.Entered.{flags_at}
-use Rattle.ink_model.specs.Flags.{counts_visits, notes_turns}
-use Rattle.ink_model.specs.Flows.{Aside, begins_with_default, holes, is_flow_name}
-use Rattle.ink_model.specs.Frames.{FrameOf, ThreadOf, ThreadsOf, place_in}
-use Rattle.ink_model.specs.Leaves.{is_small}
-use Rattle.ink_model.specs.Named.{once}
-use Rattle.ink_model.specs.Page.{Page}
-use Rattle.ink_model.specs.Path.{is_place, path_text, read_path, target}
-use Rattle.ink_model.specs.Rows.{name_order, place_order, rows_rise}
-use Rattle.ink_model.specs.Store.{Values, stored}
-use Rattle.ink_model.specs.Threads.{frame_count, thread_count}
-use Rattle.ink_model.specs.Tree.{StoryTree, at}
+use Rattle.ink_model.specs.Flow.Bases.{BaseFirst}
+use Rattle.ink_model.specs.Flow.Frames.{FrameOf, ThreadOf, ThreadsOf, place_in}
+use Rattle.ink_model.specs.Flow.Threads.{frame_count, thread_count}
+use Rattle.ink_model.specs.Run.Configuration.{ChoiceOf, Configuration, FlowOf, SharedOf, unnumbered_flow}
+use Rattle.ink_model.specs.Run.Entered.{flags_at}
+use Rattle.ink_model.specs.Run.Flows.{Aside, begins_with_default, holes, is_flow_name}
+use Rattle.ink_model.specs.Story.Flags.{counts_visits, notes_turns}
+use Rattle.ink_model.specs.Story.Leaves.{is_small}
+use Rattle.ink_model.specs.Story.Path.{is_place, path_text, read_path, target}
+use Rattle.ink_model.specs.Story.Tree.{StoryTree, at}
+use Rattle.ink_model.specs.Text.Bytes.{fits_text}
+use Rattle.ink_model.specs.Text.Page.{Page}
+use Rattle.ink_model.specs.Variables.Counts.{CountsOf}
+use Rattle.ink_model.specs.Variables.Named.{once}
+use Rattle.ink_model.specs.Variables.Rows.{name_order, place_order, rows_rise}
+use Rattle.ink_model.specs.Variables.Store.{Values, stored}
 use Rattle.ink_model.specs.declared.limits.TheConstants.{MAX_CHOICES, MAX_COUNT, MAX_FLOWS, MAX_FRAMES, MAX_SECTIONS, MAX_STACK, MAX_THREADS}
 use Rattle.ink_model.specs.declared.place.Part.{Part}
 use Rattle.ink_model.specs.declared.place.Path.{Path}

@@ -2,11 +2,11 @@
 use Rattle.std.specs.Prelude.{ℕ, pos, List, [], ◌∷◌, map, reverse, codes, Option, Some, None}
 use Rattle.serde_json.specs.Data.{Data, null, boolean, number, string, array, object, Members, no_members, member, put}
 use Rattle.serde_json.specs.Find.{of_integer}
-use Rattle.ink_model.specs.Configuration.{ChoiceOf, Configuration, FlowOf}
-use Rattle.ink_model.specs.Events.{items_of}
-use Rattle.ink_model.specs.Flows.{Game, all_flows, current_name}
-use Rattle.ink_model.specs.Frames.{FrameOf, ThreadOf, ThreadsOf}
-use Rattle.ink_model.specs.ValueJson.{value_data}
+use Rattle.ink_model.specs.Flow.Frames.{FrameOf, ThreadOf, ThreadsOf}
+use Rattle.ink_model.specs.Host.Events.{items_of}
+use Rattle.ink_model.specs.Protocol.ValueJson.{value_data}
+use Rattle.ink_model.specs.Run.Configuration.{ChoiceOf, Configuration, FlowOf}
+use Rattle.ink_model.specs.Run.Flows.{Game, all_flows, current_name}
 use Rattle.ink_model.specs.declared.frame.FrameKind.{FrameKind}
 use Rattle.ink_model.specs.declared.frame.FrameKind.TheVariants.{Base, Function, Tunnel}
 use Rattle.ink_model.specs.declared.place.Part.{Part}

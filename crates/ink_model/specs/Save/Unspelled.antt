@@ -2,11 +2,11 @@
 use Rattle.std.specs.Prelude.{ℕ, ◌^◌, List, [], ◌∷◌, map, reverse, Bool, bytes_eq, codes, nat_lt, ◌==◌, if◌then◌else◌, Option, Some, None, option_and_then}
 use Rattle.std.specs.Option.{option_map, option_or}
 use Rattle.serde_json.specs.Data.{Num, unsigned, negative, float, Data, null, boolean, number, string, array, object, Items, no_items, item, Members, no_members, member}
-use Rattle.ink_model.specs.Configuration.{ChoiceOf, Configuration, FlowOf, SharedOf}
-use Rattle.ink_model.specs.Flows.{Aside, Game, alone}
-use Rattle.ink_model.specs.Frames.{FrameOf, ThreadOf, ThreadsOf}
-use Rattle.ink_model.specs.Named.{Rows, at}
-use Rattle.ink_model.specs.Output.{empty_page}
+use Rattle.ink_model.specs.Flow.Frames.{FrameOf, ThreadOf, ThreadsOf}
+use Rattle.ink_model.specs.Run.Configuration.{ChoiceOf, Configuration, FlowOf, SharedOf}
+use Rattle.ink_model.specs.Run.Flows.{Aside, Game, alone}
+use Rattle.ink_model.specs.Text.Output.{empty_page}
+use Rattle.ink_model.specs.Variables.Named.{Rows, at}
 use Rattle.ink_model.specs.declared.frame.FrameKind.{FrameKind}
 use Rattle.ink_model.specs.declared.frame.FrameKind.TheVariants.{Base, Function, Tunnel}
 use Rattle.ink_model.specs.declared.place.Part.{Part}

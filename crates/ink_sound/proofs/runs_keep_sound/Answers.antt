@@ -1,5 +1,5 @@
 use Rattle.std.proofs.Common.{[]}
-use Rattle.ink_model.specs.Run.{At}
+use Rattle.ink_model.specs.Run.Moments.{At}
 use Rattle.ink_sound.proofs.Steps.{run_fits}
 use Rattle.ink_sound.proofs.runs_keep_sound.Goals as goal
 

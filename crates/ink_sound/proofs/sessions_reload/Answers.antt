@@ -1,5 +1,5 @@
 use Rattle.std.proofs.Common.{inl, refl, subst}
-use Rattle.ink_model.specs.Flows.{Game}
+use Rattle.ink_model.specs.Run.Flows.{Game}
 use Rattle.ink_model.specs.Save.Reads.{Reads}
 use Rattle.ink_model.specs.Save.Spelling.{spelling}
 use Rattle.ink_sound.specs.Kept.{ConditionFits}

@@ -1,9 +1,9 @@
 use Rattle.std.proofs.Common.{◌≤◌, ◌∙◌, ◌∷◌, [], ap, length, arith, rules}
 use Rattle.std.proofs.lemmas.List.{length-append}
 use Rattle.std.proofs.lemmas.Result.{err_from_is_err_and}
-use Rattle.ink_model.specs.Acceptance.{counted_container, written_target}
-use Rattle.ink_model.specs.Places.{places}
-use Rattle.ink_model.specs.Tree.{at}
+use Rattle.ink_model.specs.Story.Acceptance.{counted_container, written_target}
+use Rattle.ink_model.specs.Story.Places.{places}
+use Rattle.ink_model.specs.Story.Tree.{at}
 use Rattle.ink_tree.specs.Nodes.{story_tree}
 use Rattle.ink_check.specs.Links.{counted_place, number_of, pushed_of, pushed_path, target_place}
 use Rattle.ink_check.specs.Names.{variable_number}

@@ -1,10 +1,10 @@
 use Rattle.std.proofs.Common.{◌≡◌, length, map, take}
-use Rattle.ink_model.specs.Acceptance.{bad_places, counted_container, written_target}
-use Rattle.ink_model.specs.Places.{places}
+use Rattle.ink_model.specs.Story.Acceptance.{bad_places, counted_container, written_target}
+use Rattle.ink_model.specs.Story.Places.{places}
 use Rattle.ink_tree.specs.Nodes as nodes
 use Rattle.ink_check.specs.Links.{counted_place, number_of, pushed_of, pushed_path, target_place}
 use Rattle.ink_check.specs.Names.{variable_number}
-use Rattle.ink_model.specs.Tree.{at}
+use Rattle.ink_model.specs.Story.Tree.{at}
 use Rattle.ink_check.proofs.Checked.{bad_from}
 use Rattle.ink_check.proofs.checking.links_of.Given as goal
 

@@ -1,5 +1,5 @@
 use Rattle.std.proofs.Common.{◌≡◌, drop}
-use Rattle.ink_model.specs.Places.{places}
+use Rattle.ink_model.specs.Story.Places.{places}
 use Rattle.ink_tree.specs.Nodes.{story_tree}
 use Rattle.ink_check.specs.Names.{names, names_from}
 use Rattle.ink_check.proofs.names.variable_names.Given as goal

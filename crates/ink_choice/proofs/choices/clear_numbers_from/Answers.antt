@@ -1,4 +1,4 @@
-use Rattle.ink_model.specs.Configuration.{unnumbered_choice}
+use Rattle.ink_model.specs.Run.Configuration.{unnumbered_choice}
 use Rattle.ink_choice.proofs.Settling.{walked-end}
 use Rattle.ink_choice.proofs.choices.clear_numbers_from.Goals as goal
 

@@ -1,5 +1,5 @@
 use Rattle.std.proofs.Common.{◌∙◌, ap, arith, sym}
-use Rattle.ink_model.specs.Configuration.{unnumbered_choice}
+use Rattle.ink_model.specs.Run.Configuration.{unnumbered_choice}
 use Rattle.ink_choice.proofs.Settling.{walked-all, walked-on}
 use Rattle.ink_choice.proofs.choices.clear_numbers_of.Goals as goal
 

@@ -1,5 +1,5 @@
 use Rattle.std.proofs.Common.{◌≡◌, ◌++◌, drop, map, take}
-use Rattle.ink_model.specs.Configuration.{unnumbered_choice}
+use Rattle.ink_model.specs.Run.Configuration.{unnumbered_choice}
 use Rattle.ink_choice.proofs.choices.clear_numbers_of.Given as goal
 
 abbrev pub invariant-loop-choice : goal.invariant-loop-choice

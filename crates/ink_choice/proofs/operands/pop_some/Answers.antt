@@ -1,5 +1,5 @@
 use Rattle.std.proofs.Common.{◌∙◌, List, ap, option_map, subst, sym}
-use Rattle.ink_model.specs.Step.Host.{arguments_on}
+use Rattle.ink_model.specs.Run.Step.Host.{arguments_on}
 use Rattle.ink_model.specs.declared.value.Value.{Value}
 use Rattle.ink_trail.proofs.Undoing.{trails-after}
 use Rattle.ink_trail.specs.Undo.{Trails}

@@ -1,5 +1,5 @@
 use Rattle.std.proofs.Common.{◌≡◌, ◌≤◌, ◌++◌, drop, length, reverse}
-use Rattle.ink_model.specs.Choices.{tags_first}
+use Rattle.ink_model.specs.Choices.Making.{tags_first}
 use Rattle.ink_choice.proofs.operands.push_tags.Given as goal
 
 abbrev pub invariant-loop-depth : goal.invariant-loop-depth

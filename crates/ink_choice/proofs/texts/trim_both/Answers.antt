@@ -1,5 +1,5 @@
 use Rattle.std.proofs.Common.{◌≡◌, ◌∙◌, ◌++◌, ap, sym}
-use Rattle.ink_model.specs.Bytes.{is_blank, trimmed, without}
+use Rattle.ink_model.specs.Text.Bytes.{is_blank, trimmed, without}
 use Rattle.ink_choice.proofs.Ends.{end_first, end_second, start_first, start_second}
 use Rattle.ink_choice.proofs.texts.trim_both.Goals.{then-is_empty, else-is_empty, then-is_empty-2, else-is_empty-2}
 use Rattle.ink_choice.proofs.texts.trim_both.Goals as goal

@@ -1,7 +1,7 @@
 use Rattle.std.proofs.Common.{sym, ◌-◌, length, arith}
 use Rattle.std.proofs.Math.Nat.{sub-zero}
 use Rattle.std.proofs.lemmas.List.Sums.{suffix_len-le-length}
-use Rattle.ink_model.specs.Bytes.{is_blank}
+use Rattle.ink_model.specs.Text.Bytes.{is_blank}
 use Rattle.ink_model.proofs.Ends.{blank_ascii, cut_at_end, trimmed_is}
 use Rattle.ink_choice.proofs.texts.trim_end.Goals as goal
 

@@ -1,5 +1,5 @@
 use Rattle.std.proofs.Common.{sym, arith}
-use Rattle.ink_model.specs.Bytes.{is_blank}
+use Rattle.ink_model.specs.Text.Bytes.{is_blank}
 use Rattle.ink_model.proofs.Ends.{blank_ascii, cut_at_start, without_is}
 use Rattle.ink_choice.proofs.texts.trim_start.Goals as goal
 

@@ -1,7 +1,7 @@
 use Rattle.std.proofs.Common.{◌∙◌, [], false, refl, sym, true}
-use Rattle.ink_model.specs.Answer.{Acts, Refuses}
+use Rattle.ink_model.specs.Protocol.Answer.{Acts, Refuses}
 use Rattle.ink_model.specs.declared.fault.Refusal.TheVariants as refusal
-use Rattle.ink_step.specs.Words.{game_of}
+use Rattle.ink_step.specs.Standing.{game_of}
 use Rattle.ink_commands.specs.States.{state_in}
 use Rattle.ink_commands.proofs.Going.{drop-broken, dropped-there, drops-none, drops-some}
 use Rattle.ink_commands.proofs.flows.drop_flow.Goals as goal

@@ -1,9 +1,9 @@
 use Rattle.std.proofs.Common.{◌∙◌, [], false, refl, sym, true}
-use Rattle.ink_check.specs.Words.{story_tree}
-use Rattle.ink_model.specs.Answer.{Acts, Refuses}
-use Rattle.ink_model.specs.Flows.{has_room}
+use Rattle.ink_check.specs.Standing.{story_tree}
+use Rattle.ink_model.specs.Protocol.Answer.{Acts, Refuses}
+use Rattle.ink_model.specs.Run.Flows.{has_room}
 use Rattle.ink_model.specs.declared.fault.Refusal.TheVariants as refusal
-use Rattle.ink_step.specs.Words.{game_of}
+use Rattle.ink_step.specs.Standing.{game_of}
 use Rattle.ink_commands.specs.States.{state_in}
 use Rattle.ink_commands.proofs.Going.{flow-broken, goes-by, goes-short, goes-there}
 use Rattle.ink_commands.proofs.flows.go_to_flow.Goals as goal

@@ -1,6 +1,6 @@
 use Rattle.std.proofs.Common.{◌∙◌, ◌||◌, ap, length, nat_lt, sym}
 use Rattle.ink_model.specs.declared.limits.TheConstants.{MAX_FLOWS}
-use Rattle.ink_step.specs.Words.{game_of}
+use Rattle.ink_step.specs.Standing.{game_of}
 use Rattle.ink_commands.proofs.flows.has_room.Goals as goal
 
 pub returns-then-has_flow : goal.returns-then-has_flow

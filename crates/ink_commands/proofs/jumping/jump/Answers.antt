@@ -1,10 +1,10 @@
 use Rattle.std.proofs.Common.{◌∙◌, [], length, subst, sym}
-use Rattle.ink_check.specs.Words.{story_tree}
-use Rattle.ink_model.specs.Answer.{Acts, Refuses}
-use Rattle.ink_model.specs.Choosing.{jumped}
-use Rattle.ink_model.specs.Visits.{around, entering_asks}
+use Rattle.ink_check.specs.Standing.{story_tree}
+use Rattle.ink_model.specs.Protocol.Answer.{Acts, Refuses}
+use Rattle.ink_model.specs.Choices.Choosing.{jumped}
+use Rattle.ink_model.specs.Run.Visits.{around, entering_asks}
 use Rattle.ink_model.specs.declared.fault.Refusal.TheVariants as refusal
-use Rattle.ink_step.specs.Words.{aside_in, aside_of, config_of}
+use Rattle.ink_step.specs.Standing.{aside_in, aside_of, config_of}
 use Rattle.ink_tree.specs.Nodes.{place_of}
 use Rattle.ink_commands.specs.Paths.{JumpsTo}
 use Rattle.ink_commands.specs.States.{at_stamp, condition_by, state_in}

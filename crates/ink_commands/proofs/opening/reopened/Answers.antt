@@ -1,5 +1,5 @@
 use Rattle.std.proofs.Common.{refl}
-use Rattle.ink_check.specs.Words.{story_tree}
+use Rattle.ink_check.specs.Standing.{story_tree}
 use Rattle.ink_commands.proofs.Openings.{opens-short}
 use Rattle.ink_commands.proofs.opening.reopened.Goals as goal
 

@@ -1,7 +1,7 @@
 use Rattle.std.proofs.Common.{◌∙◌, ap}
 use Rattle.ink_host.specs.Desk.{watches}
-use Rattle.ink_model.specs.Told.{told}
-use Rattle.ink_step.specs.Words.{globals_of}
+use Rattle.ink_model.specs.Host.Told.{told}
+use Rattle.ink_step.specs.Standing.{globals_of}
 use Rattle.ink_commands.proofs.Tellings.{tells-all}
 use Rattle.ink_commands.proofs.telling.tell_between.Goals as goal
 

@@ -2,10 +2,10 @@ use Rattle.std.proofs.Common.{◌∙◌, [], List, true, subst, sym}
 use Rattle.ink_host.proofs.Laws.{grew-none}
 use Rattle.ink_host.specs.Desk.{Grew}
 use Rattle.ink_host.specs.Telling.{IsRound, log_of}
-use Rattle.ink_model.specs.Told.{ToldAs}
+use Rattle.ink_model.specs.Host.Told.{ToldAs}
 use Rattle.ink_model.specs.declared.host.Event.{Event}
 use Rattle.ink_told.proofs.Telling.{told_nobody}
-use Rattle.ink_step.specs.Words.{globals_of, start_of}
+use Rattle.ink_step.specs.Standing.{globals_of, start_of}
 use Rattle.ink_commands.proofs.Tellings.{nobody-round, nobody-told}
 use Rattle.ink_commands.proofs.telling.tell_changed.Goals as goal
 

@@ -2,9 +2,9 @@ use Rattle.std.proofs.Common.{◌∙◌, [], ◌∷◌, List, true, rules, subst
 use Rattle.ink_host.proofs.Laws.{grew-none}
 use Rattle.ink_host.specs.Desk.{Grew, watches}
 use Rattle.ink_host.specs.Telling.{IsRound, log_of}
-use Rattle.ink_model.specs.Told.{ToldAs}
+use Rattle.ink_model.specs.Host.Told.{ToldAs}
 use Rattle.ink_model.specs.declared.host.Event.{Event}
-use Rattle.ink_step.specs.Words.{globals_of}
+use Rattle.ink_step.specs.Standing.{globals_of}
 use Rattle.ink_commands.proofs.Tellings.{nobody-round, nobody-told, told-nothing, told-one, told-some, tells-all}
 use Rattle.ink_commands.proofs.telling.tell_one.Goals as goal
 

@@ -1,5 +1,5 @@
 use Rattle.std.proofs.Common.{◌∙◌}
-use Rattle.ink_step.specs.Words.{globals_of, start_of}
+use Rattle.ink_step.specs.Standing.{globals_of, start_of}
 use Rattle.ink_commands.proofs.Tellings.{tells-all}
 use Rattle.ink_commands.proofs.telling.tell_watchers.Goals as goal
 

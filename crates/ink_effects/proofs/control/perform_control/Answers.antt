@@ -1,10 +1,10 @@
 use Rattle.std.proofs.Common.{subst, sym}
-use Rattle.ink_check.specs.Words.{story_tree}
-use Rattle.ink_model.specs.Frames.{fresh_depth}
-use Rattle.ink_model.specs.Memory.{control_asks}
-use Rattle.ink_model.specs.Step.{control_effect}
+use Rattle.ink_check.specs.Standing.{story_tree}
+use Rattle.ink_model.specs.Flow.Frames.{fresh_depth}
+use Rattle.ink_model.specs.Memory.Refusals.{control_asks}
+use Rattle.ink_model.specs.Run.Step.{control_effect}
 use Rattle.ink_effects.specs.Performs.{Performs, fields, fields_in, leading}
-use Rattle.ink_effects.specs.Words.{rest_in, seen_by}
+use Rattle.ink_effects.specs.Standing.{rest_in, seen_by}
 use Rattle.ink_effects.proofs.control.perform_control.Goals as goal
 use Rattle.ink_tree.specs.Nodes.{place_of}
 

@@ -1,7 +1,7 @@
 use Rattle.std.proofs.Common.{rules}
-use Rattle.ink_check.specs.Words.{story_tree}
-use Rattle.ink_model.specs.Frames.{fresh_depth}
-use Rattle.ink_effects.specs.Words.{rest_in}
+use Rattle.ink_check.specs.Standing.{story_tree}
+use Rattle.ink_model.specs.Flow.Frames.{fresh_depth}
+use Rattle.ink_effects.specs.Standing.{rest_in}
 use Rattle.ink_effects.proofs.control.perform_in_mode.Goals as goal
 
 pub returns-in-Turn-clause-effect : goal.returns-in-Turn-clause-effect

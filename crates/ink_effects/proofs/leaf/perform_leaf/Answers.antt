@@ -1,20 +1,20 @@
 use Rattle.std.proofs.Common.{◌≡◌, ◌∙◌, ◌&&◌, ◌||◌, List, OnOk, Result, Some, ap, inl, inr, is_some, of_z, refl, rules, subst, sym, to_z, to_z-of_z, w32}
-use Rattle.ink_check.specs.Words.{story_tree}
-use Rattle.ink_model.specs.Configuration.{ChoiceOf}
-use Rattle.ink_model.specs.Effect.{Fields}
-use Rattle.ink_model.specs.Frames.{ThreadsOf}
-use Rattle.ink_model.specs.Memory.{leaf_asks}
-use Rattle.ink_model.specs.Page.{Page}
-use Rattle.ink_model.specs.Step.{leaf_effect}
-use Rattle.ink_model.specs.Store.{Values}
-use Rattle.ink_model.specs.Tree.{StoryTree, leaf}
+use Rattle.ink_check.specs.Standing.{story_tree}
+use Rattle.ink_model.specs.Run.Configuration.{ChoiceOf}
+use Rattle.ink_model.specs.Run.Effect.{Fields}
+use Rattle.ink_model.specs.Flow.Frames.{ThreadsOf}
+use Rattle.ink_model.specs.Memory.Refusals.{leaf_asks}
+use Rattle.ink_model.specs.Text.Page.{Page}
+use Rattle.ink_model.specs.Run.Step.{leaf_effect}
+use Rattle.ink_model.specs.Variables.Store.{Values}
+use Rattle.ink_model.specs.Story.Tree.{StoryTree, leaf}
 use Rattle.ink_model.specs.declared.content.Leaf.{Leaf}
 use Rattle.ink_model.specs.declared.fault.Fault.{Fault}
 use Rattle.ink_model.specs.declared.scope.Scope.TheVariants.{Global, Temporary}
 use Rattle.ink_model.specs.declared.value.Value.{Value}
 use Rattle.ink_effects.specs.Marks.{takes_value}
-use Rattle.ink_effects.specs.Performs.{Keeps, KeepsChoices, Performs, fields_in, leading}
-use Rattle.ink_effects.specs.Words.{Rest, rest_in, seen_by}
+use Rattle.ink_effects.specs.Performs.{KeepsThreads, KeepsChoices, Performs, fields_in, leading}
+use Rattle.ink_effects.specs.Standing.{Rest, rest_in, seen_by}
 use Rattle.ink_effects.specs.declared.transfer.Transfer.{Transfer}
 use Rattle.ink_effects.proofs.Landings.{leaf_landing}
 use Rattle.ink_effects.proofs.Stored.{fields_kept}
@@ -59,7 +59,7 @@ module _ (c : Start) where
 
   module _ {A : Type 0} where
     abbrev KeptBy : Leaf → ThreadsOf Spot → Result A Fault → Type 0
-    KeptBy l after r = OnOk r (Keeps tree (leaf_effect tree (place_of tree c.args.here) (seen_by tree before rest) l old) before after)
+    KeptBy l after r = OnOk r (KeepsThreads tree (leaf_effect tree (place_of tree c.args.here) (seen_by tree before rest) l old) before after)
 
     keeps : (l k : Leaf) (after : ThreadsOf Spot) (r : Result A Fault) → l ≡ k → KeptBy k after r → KeptBy l after r
     keeps l k after r is h = subst (λ x. KeptBy x after r) (sym is) h

@@ -1,6 +1,6 @@
 use Rattle.std.proofs.Common.{◌≡◌, ◌+◌}
 use Rattle.std.specs.Option.{option_map}
-use Rattle.ink_flows.specs.Words.{hole_in, parts_of}
+use Rattle.ink_flows.specs.Standing.{hole_in, parts_of}
 use Rattle.ink_flows.proofs.rows.hole.Given as goal
 
 abbrev pub invariant-loop-index : goal.invariant-loop-index

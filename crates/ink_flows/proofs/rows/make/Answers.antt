@@ -1,7 +1,7 @@
 use Rattle.std.proofs.Common.{◌∙◌, Some, ap}
 use Rattle.ink_host.proofs.Entries.{kept}
-use Rattle.ink_model.specs.Named.{put}
-use Rattle.ink_flows.specs.Words.{listed, rows_of}
+use Rattle.ink_model.specs.Variables.Named.{put}
+use Rattle.ink_flows.specs.Standing.{listed, rows_of}
 use Rattle.ink_flows.proofs.Laws.{put_absent}
 use Rattle.ink_flows.proofs.rows.make.Goals as goal
 

@@ -2,14 +2,14 @@ use Rattle.std.proofs.Common.{◌≡◌, ◌∙◌, List, [], ◌∷◌, ◌++�
 use Rattle.std.proofs.lemmas.Iterator.Adapters.{YieldsList-from_vec}
 use Rattle.std.proofs.lemmas.Iterator.Consumers.{YieldsList-end, YieldsList-turn}
 use Rattle.std.proofs.lemmas.List.{append-nil, length_push}
-use Rattle.ink_model.specs.Events.{after}
+use Rattle.ink_model.specs.Host.Events.{after}
 use Rattle.ink_model.specs.declared.host.Event.TheVariants.{Saw}
 use Rattle.ink_host.proofs.Laws.{has_room, succeeded}
 use Rattle.ink_host.proofs.TellingLoops.{heard-refused, heard-taken, later-more, map-same, stamp-taken, stand-heard, stand-told, tells-next, tells-none, tells-not}
 use Rattle.ink_host.specs.Desk.{Rows}
 use Rattle.ink_model.specs.declared.host.Change.{Change}
-use Rattle.ink_host.specs.Telling.{Stand, Watching, change, heard, refused, standing, taken}
-use Rattle.ink_model.specs.Told.{ToldAs}
+use Rattle.ink_host.specs.Telling.{Stand, Watching, change, heard, refused, standing, change_taken}
+use Rattle.ink_model.specs.Host.Told.{ToldAs}
 use Rattle.ink_host.proofs.telling.change_all.Goals as goal
 
 pub loop-change-init : goal.loop-change-init
@@ -82,9 +82,9 @@ loop-change-preserved-in-Ok g c =
       c.note.ensures.items ∙ ap (λ xs. xs ++ e ∷ []) inv.4 ∙ append_assoc c.args.events.now.items inv.2 (e ∷ []),
       c.note.ensures.next ∙ ap after inv.5 ∙ sym (later-more c.args.next.now inv.2 e),
       c.in-Ok.ensures.told
-          ∙ ap (λ n. change n (taken (record { stamp = next; name = n; value = x.value })) rows) c.as_str.ensures
-          ∙ ap (change x.name (taken (record { stamp = next; name = x.name; value = x.value }))) inv.6
-          ∙ ap (λ k. change x.name (taken (record { stamp = k; name = x.name; value = x.value })) (heard c.args.next.now c.loop-change.yielded inv.3.answers first)) (inv.5 ∙ stamp-taken c.args.next.now c.loop-change.yielded (is_ok c.loop-change.outcome) inv.2 inv.3)
+          ∙ ap (λ n. change n (change_taken (record { stamp = next; name = n; value = x.value })) rows) c.as_str.ensures
+          ∙ ap (change x.name (change_taken (record { stamp = next; name = x.name; value = x.value }))) inv.6
+          ∙ ap (λ k. change x.name (change_taken (record { stamp = k; name = x.name; value = x.value })) (heard c.args.next.now c.loop-change.yielded inv.3.answers first)) (inv.5 ∙ stamp-taken c.args.next.now c.loop-change.yielded (is_ok c.loop-change.outcome) inv.2 inv.3)
           ∙ heard-taken c.args.next.now c.loop-change.yielded inv.3.answers x first inv.3.one_each,
     )
 

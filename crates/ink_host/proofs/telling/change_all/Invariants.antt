@@ -1,9 +1,9 @@
 use Rattle.std.proofs.Common.{◌≡◌, ◌≢◌, ◌+◌, ◌≤◌, ◌++◌, Err, List, is_ok, length, string_bytes, vec_capacity, vec_len}
-use Rattle.ink_model.specs.Events.{later}
+use Rattle.ink_model.specs.Host.Events.{later}
 use Rattle.ink_model.specs.declared.host.Event.{Event}
 use Rattle.ink_host.specs.Telling.{heard, standing}
 use Rattle.ink_host.specs.declared.telling.TellFault.TheVariants.{NoRoom}
-use Rattle.ink_model.specs.Told.{ToldAs}
+use Rattle.ink_model.specs.Host.Told.{ToldAs}
 use Rattle.ink_host.proofs.telling.change_all.Given as goal
 
 abbrev pub invariant-loop-change : goal.invariant-loop-change

@@ -3,7 +3,7 @@ use Rattle.std.proofs.lemmas.List.{append-nil}
 use Rattle.ink_host.proofs.TellingLoops.{filter-next, found-watched, watched-some}
 use Rattle.ink_host.proofs.TellingRows.{if_err}
 use Rattle.ink_model.specs.declared.host.Change.{Change}
-use Rattle.ink_host.specs.Desk.{shown, watches}
+use Rattle.ink_host.specs.Desk.{entries_as_rows, watches}
 use Rattle.ink_host.proofs.telling.watched_among.Goals.{then-contains_key+in_ok-copied+in_ok-push, else-contains_key}
 use Rattle.ink_host.proofs.telling.watched_among.Goals as goal
 
@@ -26,8 +26,8 @@ loop-change-preserved g c =
     let cs = c.args.changes.now in
     let i = c.loop-change.change-index in
     let inside : i < length cs = omega arith in
-    let test = λ (d : Change). watches (shown string_bytes (λ w. w) es) d.name in
-    let same : test x ≡ c.contains_key.result = ap (watches (shown string_bytes (λ w. w) es)) (sym c.as_str.ensures) ∙ sym (found-watched c.as_str.result.now es) ∙ sym c.contains_key.ensures in
+    let test = λ (d : Change). watches (entries_as_rows string_bytes (λ w. w) es) d.name in
+    let same : test x ≡ c.contains_key.result = ap (watches (entries_as_rows string_bytes (λ w. w) es)) (sym c.as_str.ensures) ∙ sym (found-watched c.as_str.result.now es) ∙ sym c.contains_key.ensures in
     let next = filter-next test cs i x inside c.change-item.is in
     elim c.if-contains_key.branch [
       | then-contains_key+in_ok-copied+in_ok-push w ↦

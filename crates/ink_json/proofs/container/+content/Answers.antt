@@ -5,9 +5,9 @@ use Rattle.serde_json.specs.Data.{array, item}
 use Rattle.json_tape.specs.Size.{items_size, members_size}
 use Rattle.json_tape.specs.Value.{json_data, items_left, members_of, Entry, members_data}
 use Rattle.json_tape.proofs.Counts.{size_positive}
-use Rattle.ink_model.specs.Grammar.{with_name, name_of, name_in, flags_of, own_of, own_after, content, content_of, tree_of, faults_inside, faults_keyed, faults_by, keyed_in, keyed_last, keyed_by, first}
-use Rattle.ink_model.specs.Tree.{container, count, key, tree, no_keys}
-use Rattle.ink_model.specs.View.{count_keys}
+use Rattle.ink_model.specs.Story.Grammar.{with_name, name_of, name_in, flags_of, own_of, own_after, content, content_of, tree_of, faults_inside, faults_keyed, faults_by, keyed_in, keyed_last, keyed_by, first}
+use Rattle.ink_model.specs.Story.Tree.{container, count, key, tree, no_keys}
+use Rattle.ink_model.specs.Story.View.{count_keys}
 use Rattle.ink_model.specs.declared.content.Leaf.{Leaf}
 use Rattle.ink_json.specs.Listing.{Lists, nodes_from, nodes_by_key, nodes_inside}
 use Rattle.ink_json.specs.Reading.{IsFirst, is_whole}

@@ -1,5 +1,5 @@
 use Rattle.std.proofs.Common.{◌-◌}
-use Rattle.ink_model.specs.Tree.{down}
+use Rattle.ink_model.specs.Story.Tree.{down}
 use Rattle.ink_json.specs.Descent.{tree_at}
 use Rattle.ink_json.specs.Order.{key_part}
 use Rattle.ink_json.proofs.Downward.{Walk}

@@ -1,6 +1,6 @@
 use Rattle.std.proofs.Common.{subst}
 use Rattle.json_tape.specs.Value.{json_data}
-use Rattle.ink_model.specs.Leaves.{value_readings}
+use Rattle.ink_model.specs.Story.Leaves.{value_readings}
 use Rattle.ink_json.specs.Heads.{Counts}
 use Rattle.ink_json.proofs.Adding.{one_by_one}
 use Rattle.ink_json.proofs.heads.add_values.Goals as goal

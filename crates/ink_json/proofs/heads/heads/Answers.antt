@@ -1,6 +1,6 @@
 use Rattle.std.proofs.Common.{[], refl, append_assoc}
 use Rattle.json_tape.specs.Value.{json_data}
-use Rattle.ink_model.specs.Leaves.{jump_readings, value_readings, store_readings}
+use Rattle.ink_model.specs.Story.Leaves.{jump_readings, value_readings, store_readings}
 use Rattle.ink_json.proofs.heads.heads.Goals as goal
 
 pub returns : goal.returns

@@ -1,6 +1,6 @@
 use Rattle.std.proofs.Common.{◌≡◌, length, option_map}
 use Rattle.json_tape.specs.Value.{json_data, items_left}
-use Rattle.ink_model.specs.Grammar.{own_of}
+use Rattle.ink_model.specs.Story.Grammar.{own_of}
 use Rattle.ink_json.proofs.Lasts.{last_with}
 use Rattle.ink_json.proofs.own.last_item.Given as goal
 

@@ -1,6 +1,6 @@
 use Rattle.std.proofs.Common.{ap, ◌∙◌}
 use Rattle.json_tape.specs.Value.{json_data}
-use Rattle.ink_model.specs.Grammar.{is_blank_object}
+use Rattle.ink_model.specs.Story.Grammar.{is_blank_object}
 use Rattle.ink_json.proofs.Blank.{blank_is}
 use Rattle.ink_json.proofs.reading.has_no_lists.Goals as goal
 

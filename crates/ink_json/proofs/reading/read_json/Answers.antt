@@ -1,6 +1,6 @@
 use Rattle.std.proofs.Common.{length, ap, subst, arith}
 use Rattle.json_tape.proofs.Spelled.{text_refused}
-use Rattle.ink_model.specs.Grammar.{of_json}
+use Rattle.ink_model.specs.Story.Grammar.{of_json}
 use Rattle.ink_json.specs.Listing.{rebuilt}
 use Rattle.ink_json.specs.Reading.{Reads, is_parsable}
 use Rattle.ink_json.proofs.Bytes.{no_text, no_json, empty, parsable, reads_or, tape_json, tape_size}

@@ -1,7 +1,7 @@
 use Rattle.std.proofs.Common.{◌≡◌, false, Ok, Some, ap, sym, ◌∙◌}
 use Rattle.serde_json.specs.Data.{array}
 use Rattle.json_tape.specs.Value.{json_data, items_left}
-use Rattle.ink_model.specs.Grammar.{content, root_of}
+use Rattle.ink_model.specs.Story.Grammar.{content, root_of}
 use Rattle.ink_json.proofs.Growing.{root_listed}
 use Rattle.ink_json.proofs.reading.read_root.Goals as goal
 

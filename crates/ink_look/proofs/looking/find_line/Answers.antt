@@ -1,5 +1,5 @@
 use Rattle.std.proofs.Common.{◌≡◌, ◌∙◌, ◌+◌, ap, arith, refl, rules, subst, sym, Err, inl}
-use Rattle.ink_check.specs.Words.{story_tree}
+use Rattle.ink_check.specs.Standing.{story_tree}
 use Rattle.ink_host.specs.Telling.{log_of}
 use Rattle.ink_look.specs.Looking.{Waits, waiting_after}
 use Rattle.ink_look.specs.declared.looking.Looked.TheVariants as after
@@ -10,7 +10,7 @@ use Rattle.ink_look.proofs.looking.find_line.Goals.{in-Nothing, in-Newline}
 use Rattle.ink_effects.proofs.Refusals.{keeps_all, keeps_then, run_stops}
 use Rattle.ink_step.specs.Marks.{config_back}
 use Rattle.ink_effects.specs.Refusals.{RunStopsAtRefusal}
-use Rattle.ink_step.specs.Words.{config_of}
+use Rattle.ink_step.specs.Standing.{config_of}
 
 pub loop-step-init : goal.loop-step-init
 loop-step-init g c =

@@ -1,12 +1,12 @@
 use Rattle.std.proofs.Common.{◌≡◌}
-use Rattle.ink_check.specs.Words.{story_tree}
+use Rattle.ink_check.specs.Standing.{story_tree}
 use Rattle.ink_host.specs.Telling.{log_of}
 use Rattle.ink_look.specs.Looking.{Waits, search_at}
 use Rattle.ink_look.proofs.Searches.{Ran}
 use Rattle.ink_look.proofs.looking.find_line.Given as goal
 use Rattle.ink_step.specs.Marks.{config_back}
 use Rattle.ink_effects.specs.Refusals.{KeepsRefusals}
-use Rattle.ink_step.specs.Words.{aside_in, config_of, start_of}
+use Rattle.ink_step.specs.Standing.{aside_in, config_of, start_of}
 
 -- the search got here and is not over
 abbrev pub invariant-loop-step : goal.invariant-loop-step

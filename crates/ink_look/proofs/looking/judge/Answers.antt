@@ -3,7 +3,7 @@ use Rattle.ink_line.proofs.Moments.{some_same}
 use Rattle.ink_look.proofs.Steps.{stands_last, stands_past}
 use Rattle.ink_look.proofs.looking.judge.Goals.{in-Some+else-last-newline, in_default}
 use Rattle.ink_look.proofs.looking.judge.Goals as goal
-use Rattle.ink_model.specs.Shown.{open_newline}
+use Rattle.ink_model.specs.Text.Shown.{open_newline}
 
 pub returns-then-last-newline : goal.returns-then-last-newline
 returns-then-last-newline c = stands_last c.args.output.now.page.line c.in-Some.last c.args.newline c.in-Some.ensures c.if-last-newline.true

@@ -1,6 +1,6 @@
 use Rattle.ink_look.proofs.Settling.{passage_is}
 use Rattle.ink_look.proofs.passages.passage_of.Goals as goal
-use Rattle.ink_step.specs.Words.{config_of}
+use Rattle.ink_step.specs.Standing.{config_of}
 
 pub returns-clause-passage : goal.returns-clause-passage
 returns-clause-passage c s =

@@ -1,6 +1,6 @@
 use Rattle.ink_look.proofs.Saying.{asks_tags, asks_text, on_error, said_is}
 use Rattle.ink_look.proofs.said.said_by.Goals as goal
-use Rattle.ink_step.specs.Words.{config_of}
+use Rattle.ink_step.specs.Standing.{config_of}
 
 pub returns-clause-said : goal.returns-clause-said
 returns-clause-said c s = said_is (config_of s c.args.machine.now) _ _ (c.in_ok-text.ensures.text s) (rw c.said_text.ensures.same at c.in_ok-tags.ensures.tags s)

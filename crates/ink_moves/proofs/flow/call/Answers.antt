@@ -1,10 +1,10 @@
 use Rattle.std.proofs.Common.{◌≡◌, List, rules, Ok, Err}
-use Rattle.ink_model.specs.Flow.{Written, depth_of}
-use Rattle.ink_model.specs.Frames.{is_function, map_threads}
-use Rattle.ink_model.specs.Threads.{pushed, top_result}
+use Rattle.ink_model.specs.Flow.Transfers.{Written, depth_of}
+use Rattle.ink_model.specs.Flow.Frames.{is_function, map_threads}
+use Rattle.ink_model.specs.Flow.Threads.{frame_pushed, top_result}
 use Rattle.ink_model.specs.declared.value.Value.{Value}
 use Rattle.ink_stack.specs.Calls.{frame_kind}
-use Rattle.ink_stack.specs.Words.{Grows}
+use Rattle.ink_stack.specs.Outcomes.{Grows}
 use Rattle.ink_moves.proofs.Calling.{call_breaks, call_lands}
 use Rattle.ink_moves.proofs.Passing.{pushes}
 use Rattle.ink_moves.proofs.flow.call.Goals as goal
@@ -13,7 +13,7 @@ use Rattle.ink_tree.specs.Nodes.{place_of}
 
 -- the frame that was pushed
 pushing : (c : In_ok-push_frame) (values : List Value) → let w : Written = record { stack = values; page = c.args.output.now.page } in let old = c.args.threads.now.threads in
-    Grows (top_result (pushed (frame_kind c.args.kind) (depth_of w) old.thread) old) old c.push_frame.new.self.threads (Ok c.in_ok-push_frame.field-0)
+    Grows (top_result (frame_pushed (frame_kind c.args.kind) (depth_of w) old.thread) old) old c.push_frame.new.self.threads (Ok c.in_ok-push_frame.field-0)
 pushing c values = rw c.depth.ensures at c.in_ok-push_frame.ensures.threads
 
 pub returns-clause-flow : goal.returns-clause-flow

@@ -1,7 +1,7 @@
 use Rattle.std.proofs.Common.{Ok, refl, sym}
-use Rattle.ink_model.specs.Frames.{map_threads}
-use Rattle.ink_model.specs.MoveMemory.{moved_asks}
-use Rattle.ink_model.specs.Place.{next_place}
+use Rattle.ink_model.specs.Flow.Frames.{map_threads}
+use Rattle.ink_model.specs.Memory.Moves.{moved_asks}
+use Rattle.ink_model.specs.Run.Place.{next_place}
 use Rattle.ink_moves.proofs.Turns.{reached}
 use Rattle.ink_moves.proofs.flow.move_on.Goals as goal
 use Rattle.ink_moves.specs.Reaches.{written}

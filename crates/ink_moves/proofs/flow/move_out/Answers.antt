@@ -1,5 +1,5 @@
 use Rattle.std.proofs.Common.{arith, rules, Err, ◌≡◌, ◌≤◌, ◌∙◌, ap, sym, Ok}
-use Rattle.ink_model.specs.Place.{next_place}
+use Rattle.ink_model.specs.Run.Place.{next_place}
 use Rattle.ink_model.specs.declared.frame.FrameKind.TheVariants.{Function}
 use Rattle.ink_stack.specs.Undo.{threads_spare}
 use Rattle.ink_moves.proofs.Turns.{function_broke, function_ended, reached}

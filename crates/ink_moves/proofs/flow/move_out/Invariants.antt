@@ -1,7 +1,7 @@
 use Rattle.std.proofs.Common.{◌≡◌, ◌≤◌, ◌+◌}
-use Rattle.ink_model.specs.Frames.{map_threads}
-use Rattle.ink_model.specs.Place.{next_place}
-use Rattle.ink_model.specs.Threads.{thread_count}
+use Rattle.ink_model.specs.Flow.Frames.{map_threads}
+use Rattle.ink_model.specs.Run.Place.{next_place}
+use Rattle.ink_model.specs.Flow.Threads.{thread_count}
 use Rattle.ink_model.specs.declared.limits.TheConstants.{MAX_THREADS}
 use Rattle.ink_out.specs.Undo.{output_stood}
 use Rattle.ink_stack.specs.Undo.{threads_spare, threads_stood}

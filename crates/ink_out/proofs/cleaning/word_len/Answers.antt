@@ -1,5 +1,5 @@
 use Rattle.ink_out.proofs.Ends.{prefix_here, prefix_more}
-use Rattle.ink_model.specs.Bytes.{is_white}
+use Rattle.ink_model.specs.Text.Bytes.{is_white}
 use Rattle.std.proofs.Common.{◌∙◌, ap, not, sym}
 use Rattle.ink_out.proofs.cleaning.word_len.Goals as goal
 

@@ -1,7 +1,7 @@
 use Rattle.std.proofs.Common.{refl, sym, ◌-◌, arith, rules}
 use Rattle.std.proofs.Math.Nat.{sub-zero}
 use Rattle.std.proofs.lemmas.List.Sums.{prefix_len-le-length, suffix_len-le-length}
-use Rattle.ink_model.specs.Bytes.{is_blank, is_white}
+use Rattle.ink_model.specs.Text.Bytes.{is_blank, is_white}
 use Rattle.ink_model.proofs.Ends.{cut_at_start, leading_is}
 use Rattle.ink_out.proofs.WhiteEnds.{blanks_le_white, start_has, white_ascii, start_after}
 use Rattle.ink_out.proofs.cutting.split_start.Goals as goal

@@ -1,6 +1,6 @@
 use Rattle.std.proofs.Common.{◌≡◌, ◌∙◌, ◌+◌, ap, drop, sym, true, [], ◌∷◌, ◌++◌}
 use Rattle.std.proofs.lemmas.List.{append_assoc}
-use Rattle.ink_model.specs.Clean.{clean}
+use Rattle.ink_model.specs.Text.Clean.{clean}
 use Rattle.ink_out.specs.Joined.{texts_of}
 use Rattle.ink_out.specs.Kept.{mark_of, said}
 use Rattle.ink_out.proofs.Joined.{all_joined, not_said, one_left}

@@ -1,6 +1,6 @@
 use Rattle.std.proofs.Common.{◌≡◌, drop}
 use Rattle.std.specs.List.{list_all}
-use Rattle.ink_model.specs.Output.{is_text}
+use Rattle.ink_model.specs.Text.Output.{is_text}
 use Rattle.ink_out.proofs.joining.texts_len.Given as goal
 
 abbrev pub invariant-loop-mark : goal.invariant-loop-mark

@@ -3,7 +3,7 @@ use Rattle.ink_out.proofs.Closing.{asks_mark, unchanged}
 use Rattle.std.proofs.Common.{◌≡◌, ◌∙◌, ◌<◌, ◌≤◌, ◌-◌, ℕ, List, [], get_or, set, length, map, ap, arith, refl, subst, sym, inl}
 use Rattle.std.proofs.lemmas.Grind.{common_steps}
 use Rattle.std.proofs.lemmas.List.{length-set, nil_from_length}
-use Rattle.ink_model.specs.Configuration.{Section}
+use Rattle.ink_model.specs.Run.Configuration.{Section}
 use Rattle.ink_model.specs.declared.mark.Mark.{Mark}
 use Rattle.ink_model.specs.declared.limits.TheConstants.{MAX_MARKS}
 use Rattle.ink_out.specs.Cutting.{piece_mark}

@@ -1,7 +1,7 @@
 use Rattle.std.proofs.Common.{◌-◌, ◌++◌, length, drop, ap, ◌∙◌, List}
 use Rattle.std.proofs.lemmas.List.{take-append-drop}
 use Rattle.std.proofs.lemmas.Result.{on_err_weaker}
-use Rattle.ink_model.specs.Configuration.{Section}
+use Rattle.ink_model.specs.Run.Configuration.{Section}
 use Rattle.ink_out.proofs.opened.note_below.Goals as goal
 
 pub returns-clause-err : goal.returns-clause-err

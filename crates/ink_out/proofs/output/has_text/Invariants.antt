@@ -1,6 +1,6 @@
 use Rattle.std.proofs.Common.{◌≡◌, drop, map}
 use Rattle.std.specs.List.{list_any}
-use Rattle.ink_model.specs.Output.{is_text}
+use Rattle.ink_model.specs.Text.Output.{is_text}
 use Rattle.ink_out.specs.Cutting.{piece_mark}
 use Rattle.ink_out.proofs.output.has_text.Given as goal
 

@@ -1,7 +1,7 @@
 use Rattle.std.proofs.Common.{◌≡◌, ◌∙◌, ap, length, subst, sym}
 use Rattle.std.proofs.lemmas.List.{length-map}
-use Rattle.ink_model.specs.Mark.{cut}
-use Rattle.ink_model.specs.Output.{let_through}
+use Rattle.ink_model.specs.Text.Mark.{cut}
+use Rattle.ink_model.specs.Text.Output.{let_through}
 use Rattle.ink_out.specs.Cutting.{piece_mark}
 use Rattle.ink_out.specs.Undo.{output_back}
 use Rattle.ink_out.specs.Writing.{page_of}

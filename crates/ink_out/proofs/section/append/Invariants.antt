@@ -1,5 +1,5 @@
 use Rattle.std.proofs.Common.{◌≡◌, ◌≤◌, ◌+◌, ◌-◌, ◌++◌, ℕ, length, map, vec_len, vec_capacity}
-use Rattle.ink_model.specs.Configuration.{Page}
+use Rattle.ink_model.specs.Run.Configuration.{Page}
 use Rattle.ink_out.specs.Cutting.{piece_mark}
 use Rattle.ink_out.specs.Stands.{Sees}
 use Rattle.ink_out.specs.Undo.{GoesBack, Held, output_back, with_open}

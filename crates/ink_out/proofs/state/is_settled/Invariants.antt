@@ -1,5 +1,5 @@
 use Rattle.std.proofs.Common.{◌≡◌, ℕ, ◌≤◌, length, reverse, take}
-use Rattle.ink_model.specs.Shown.{is_among}
+use Rattle.ink_model.specs.Text.Shown.{is_among}
 use Rattle.ink_out.specs.Stands.{Falling}
 use Rattle.ink_out.proofs.state.is_settled.Given as goal
 

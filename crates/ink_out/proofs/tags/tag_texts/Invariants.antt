@@ -1,5 +1,5 @@
 use Rattle.std.proofs.Common.{◌≡◌, ◌++◌, drop}
-use Rattle.ink_model.specs.Mark.{tags}
+use Rattle.ink_model.specs.Text.Mark.{tags}
 use Rattle.ink_out.proofs.tags.tag_texts.Given as goal
 
 abbrev pub invariant-loop-mark : goal.invariant-loop-mark

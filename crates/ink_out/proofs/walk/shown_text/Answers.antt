@@ -1,6 +1,6 @@
 use Rattle.std.proofs.Common.{◌≡◌, ◌+◌, ℕ, Bool, List, Result, Ok, Err, IfOk, [], reverse, take}
 use Rattle.std.proofs.lemmas.List.{take_all}
-use Rattle.ink_model.specs.Shown.{text_before}
+use Rattle.ink_model.specs.Text.Shown.{text_before}
 use Rattle.ink_model.specs.declared.mark.Mark.{Mark}
 use Rattle.ink_out.specs.Cleaning.{shown_as}
 use Rattle.ink_out.specs.Walks.{Walks}

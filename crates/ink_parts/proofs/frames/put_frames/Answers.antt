@@ -1,5 +1,5 @@
 use Rattle.std.proofs.Common.{◌∷◌, refl, reverse}
-use Rattle.ink_model.specs.Frames.{map_frame}
+use Rattle.ink_model.specs.Flow.Frames.{map_frame}
 use Rattle.ink_model.specs.Save.Spelling.{frame_data}
 use Rattle.ink_tokens.proofs.Adding.{finally}
 use Rattle.ink_tree.specs.Nodes.{place_of, story_tree}

@@ -1,6 +1,6 @@
 use Rattle.std.proofs.Common.{◌≡◌, ◌∷◌, IfOk, refl, reverse, subst}
 use Rattle.serde_json.specs.View.{view}
-use Rattle.ink_model.specs.Frames.{map_frame}
+use Rattle.ink_model.specs.Flow.Frames.{map_frame}
 use Rattle.ink_model.specs.Save.Spelling.{frame_data}
 use Rattle.ink_tree.specs.Nodes.{place_of, story_tree}
 use Rattle.ink_parts.proofs.Arrays.{list_mapped}

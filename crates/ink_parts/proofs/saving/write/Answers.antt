@@ -1,9 +1,9 @@
 use Rattle.std.proofs.Common.{◌∙◌, ap}
-use Rattle.ink_flows.specs.Words.{aside_of, flow_of}
+use Rattle.ink_flows.specs.Standing.{aside_of, flow_of}
 use Rattle.ink_tree.specs.Nodes.{story_tree}
 use Rattle.ink_parts.proofs.Arrays.{object_made}
 use Rattle.ink_parts.specs.Parts.{flows_members, kept_as}
-use Rattle.ink_parts.specs.Words.{shared_members}
+use Rattle.ink_parts.specs.Written.{shared_members}
 use Rattle.ink_parts.proofs.saving.write.Goals as goal
 
 pub returns : goal.returns

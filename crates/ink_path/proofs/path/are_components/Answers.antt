@@ -1,7 +1,7 @@
 use Rattle.std.proofs.Common.{◌∙◌, sym, ap, ◌&&◌, is_some, Some, None, lit<}
 use Rattle.std.proofs.lemmas.Str.Pattern.{split_parts}
-use Rattle.ink_model.specs.Bytes.{pieces, is_dot}
-use Rattle.ink_model.specs.Path.{components}
+use Rattle.ink_model.specs.Text.Bytes.{pieces, is_dot}
+use Rattle.ink_model.specs.Story.Path.{components}
 use Rattle.ink_path.proofs.Reading.{utf8_behind, both_stand, last_stands}
 use Rattle.ink_path.proofs.path.are_components.Goals as goal
 

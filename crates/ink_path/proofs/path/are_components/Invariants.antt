@@ -1,8 +1,8 @@
 use Rattle.std.proofs.Common.{◌≡◌, is_some, length}
 use denote.Text.{Utf8}
 use denote.Shadow.{shadow}
-use Rattle.ink_model.specs.Bytes.{pieces, is_dot}
-use Rattle.ink_model.specs.Path as rules
+use Rattle.ink_model.specs.Text.Bytes.{pieces, is_dot}
+use Rattle.ink_model.specs.Story.Path as rules
 use Rattle.ink_path.proofs.path.are_components.Given as goal
 
 abbrev pub invariant-loop-first : goal.invariant-loop-first

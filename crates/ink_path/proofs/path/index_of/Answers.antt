@@ -1,7 +1,7 @@
 use Rattle.std.proofs.Common.{ℕ, Ok, Err, inl, inr, arith}
 use Rattle.std.proofs.lemmas.Bool.{cases_lt}
 use Rattle.std.proofs.lemmas.Str.Parse.{parse_digits}
-use Rattle.ink_model.specs.Bytes.{number_from}
+use Rattle.ink_model.specs.Text.Bytes.{number_from}
 use Rattle.ink_path.proofs.Reading.{numerals, small_index, large_index}
 use Rattle.ink_path.proofs.path.index_of.Goals as goal
 

@@ -1,7 +1,7 @@
 use Rattle.std.proofs.Common.{◌≢◌, [], map, subst}
 use Rattle.std.proofs.lemmas.Result.{err_from_is_err_and}
-use Rattle.ink_model.specs.Bytes.{joined}
-use Rattle.ink_model.specs.Path.{part_text}
+use Rattle.ink_model.specs.Text.Bytes.{joined}
+use Rattle.ink_model.specs.Story.Path.{part_text}
 use Rattle.ink_path.proofs.Back.{reads_back}
 use Rattle.ink_path.proofs.Writing.{relative_written, text_written}
 use Rattle.ink_path.proofs.path.print_path.Goals as goal

@@ -1,6 +1,6 @@
 use Rattle.std.proofs.Common.{◌≡◌, ◌++◌, map, take, string_bytes}
-use Rattle.ink_model.specs.Path.{part_text}
-use Rattle.ink_model.specs.Bytes.{joined}
+use Rattle.ink_model.specs.Story.Path.{part_text}
+use Rattle.ink_model.specs.Text.Bytes.{joined}
 use Rattle.ink_path.proofs.path.push_parts.Given as goal
 
 abbrev pub invariant-loop-index : goal.invariant-loop-index

@@ -1,4 +1,4 @@
-use Rattle.ink_check.specs.Words.{story_tree}
+use Rattle.ink_check.specs.Standing.{story_tree}
 use Rattle.ink_player.proofs.Refusing.{unread, unaccepted_as, all_accepted_as}
 use Rattle.ink_player.proofs.playing.accepted_story.Goals as goal
 

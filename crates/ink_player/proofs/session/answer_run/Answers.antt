@@ -1,4 +1,4 @@
-use Rattle.ink_model.specs.Answer.{Tells, reply_of_halt}
+use Rattle.ink_model.specs.Protocol.Answer.{Tells, reply_of_halt}
 use Rattle.ink_player.proofs.Sessions.{answered_by, runs_by}
 use Rattle.ink_player.proofs.session.answer_run.Goals as goal
 

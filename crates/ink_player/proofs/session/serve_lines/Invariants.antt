@@ -1,7 +1,7 @@
 use Rattle.std.proofs.Common.{◌≡◌, ℕ, List, Option, Result}
 use Rattle.ink_host.specs.Desk.{Resting}
 use Rattle.ink_host.specs.Telling.{rests}
-use Rattle.ink_player.specs.Words.{Scene, bindings, desk_of, scene_of, story_of}
+use Rattle.ink_player.specs.Standing.{Scene, bindings, desk_of, scene_of, story_of}
 use Rattle.ink_player.specs.Serving.{Runs}
 use Rattle.ink_protocol.specs.declared.fault.RunFault.{RunFault}
 use Rattle.ink_player.proofs.session.serve_lines.Given as goal

@@ -1,5 +1,5 @@
 use Rattle.std.proofs.Common.{refl}
-use Rattle.ink_model.specs.Answer.{Tells}
+use Rattle.ink_model.specs.Protocol.Answer.{Tells}
 use Rattle.ink_player.proofs.Sessions.{made_as}
 use Rattle.ink_player.proofs.session.tell_passage.Goals as goal
 

@@ -1,7 +1,7 @@
 use Rattle.std.proofs.Common.{◌∙◌, map}
 use Rattle.serde_json.specs.Data.{array}
-use Rattle.ink_model.specs.Answer.{items_of}
-use Rattle.ink_model.specs.ValueJson.{value_data}
+use Rattle.ink_model.specs.Protocol.Answer.{items_of}
+use Rattle.ink_model.specs.Protocol.ValueJson.{value_data}
 use Rattle.ink_tokens.proofs.Adding.{text_from_tokens}
 use Rattle.ink_protocol.proofs.answer.print_values.Goals as goal
 

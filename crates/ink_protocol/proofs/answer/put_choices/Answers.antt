@@ -1,6 +1,6 @@
 use Rattle.std.proofs.Common.{◌∙◌, ◌++◌, ap, codes, false, map, sym, List, ℕ}
 use Rattle.serde_json.specs.Written.{items_text}
-use Rattle.ink_model.specs.Answer.{items_of, shown_data}
+use Rattle.ink_model.specs.Protocol.Answer.{items_of, shown_data}
 use Rattle.ink_protocol.proofs.Answering.{made_as}
 use Rattle.ink_protocol.proofs.answer.put_choices.Goals as goal
 

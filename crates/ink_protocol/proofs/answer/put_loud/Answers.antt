@@ -1,5 +1,5 @@
 use Rattle.std.proofs.Common.{◌∙◌, refl, sym}
-use Rattle.ink_model.specs.Answer.{Tells}
+use Rattle.ink_model.specs.Protocol.Answer.{Tells}
 use Rattle.ink_protocol.proofs.Answering.{answer_from_tokens, made_as}
 use Rattle.ink_protocol.proofs.answer.put_loud.Goals as goal
 

@@ -1,6 +1,6 @@
 use Rattle.std.proofs.Common.{◌≡◌, ◌++◌, drop, false, map}
 use Rattle.serde_json.specs.Written.{items_text}
-use Rattle.ink_model.specs.Answer.{items_of, shown_data}
+use Rattle.ink_model.specs.Protocol.Answer.{items_of, shown_data}
 use Rattle.ink_protocol.proofs.answer.put_shown_all.Given as goal
 
 -- what is still to come from here is what was to come at the start

@@ -1,4 +1,4 @@
-use Rattle.ink_model.specs.Answer.{shown_data}
+use Rattle.ink_model.specs.Protocol.Answer.{shown_data}
 use Rattle.ink_protocol.proofs.Answering.{text_behind}
 use Rattle.ink_protocol.proofs.answer.shown_behind.Goals as goal
 

@@ -2,7 +2,7 @@ use Rattle.std.proofs.Common.{rules, ◌≡◌, ◌∙◌, ◌++◌, ap, sym, co
 use Rattle.std.proofs.lemmas.Int.{to_z-of_z}
 use Rattle.std.specs.Prelude.{FitsSigned}
 use Rattle.std.specs.Fmt.{signed_decimal}
-use Rattle.ink_model.specs.Answer.{answer, Counts, Shows}
+use Rattle.ink_model.specs.Protocol.Answer.{answer, Counts, Shows}
 use Rattle.ink_model.specs.declared.value.Value.TheVariants as value
 use Rattle.ink_protocol.specs.Replies.{reply_by}
 use Rattle.ink_protocol.proofs.Answering.{number_answer, visits_answer}

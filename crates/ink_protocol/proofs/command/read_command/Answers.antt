@@ -1,5 +1,5 @@
 use Rattle.std.proofs.Common.{rules, codes, ◌≡◌, IfOk, OnErr, subst, sym, ap, true, ◌∙◌, option_map}
-use Rattle.ink_model.specs.Command.{command_asks, command_word}
+use Rattle.ink_model.specs.Protocol.Command.{command_asks, command_word}
 use Rattle.ink_protocol.specs.Commands.{command_by}
 use Rattle.ink_protocol.proofs.Commands.{asks_on_err, command_of_text, command_of_no_text, continue_line}
 use Rattle.ink_protocol.proofs.command.read_command.Goals as goal

@@ -1,7 +1,7 @@
 use Rattle.std.proofs.Common.{ℕ, List, Err, None, Ok, Some, refl, subst, sym}
 use Rattle.std.proofs.lemmas.Result.{MatchResult-weaker}
 use Rattle.ink_reader.specs.Kept.{Fetches}
-use Rattle.ink_reader.specs.Words.{NoSave, NotRead}
+use Rattle.ink_reader.specs.Notices.{NoSave, NotRead}
 use Rattle.ink_reader.specs.declared.shelf.NotKept.{NotKept}
 use Rattle.ink_reader.proofs.saving.fetch_save.Goals as goal
 

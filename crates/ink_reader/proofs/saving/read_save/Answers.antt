@@ -2,7 +2,7 @@ use Rattle.std.proofs.Common.{◌≡◌, ◌↔◌, ℕ, List, Bool, true, false
 use Rattle.serde_json.specs.Read.{read}
 use Rattle.ink_model.specs.declared.fault.Refusal.TheVariants as refusal
 use Rattle.ink_reader.specs.Course.{IsUnread}
-use Rattle.ink_reader.specs.Words.{BadSave, Refused}
+use Rattle.ink_reader.specs.Notices.{BadSave, Refused}
 use Rattle.ink_reader.proofs.saving.read_save.Goals as goal
 
 unread : (lacks : Bool) (text : List ℕ) (M : Type 0) → IsTrue lacks ↔ M → ((M → ⊥) → read text ≡ None) → IsUnread text (if lacks then Refused refusal.OutOfMemory else BadSave)

@@ -1,6 +1,6 @@
 use Rattle.std.proofs.Common.{List, [], ◌∙◌, refl, sym}
-use Rattle.ink_model.specs.Answer.{Tells, reply_of_halt}
-use Rattle.ink_player.specs.Words.{bindings, desk_of, state_of, story_of}
+use Rattle.ink_model.specs.Protocol.Answer.{Tells, reply_of_halt}
+use Rattle.ink_player.specs.Standing.{bindings, desk_of, state_of, story_of}
 use Rattle.ink_player.proofs.Tellings.{if-ok}
 use Rattle.ink_reader.specs.Deeds.{Deed}
 use Rattle.ink_reader.specs.Steps.{break_told}

@@ -1,5 +1,5 @@
 use Rattle.ink_page.specs.Showing.{said}
-use Rattle.ink_reader.specs.Words.{Began, PlaceUntold, word_text}
+use Rattle.ink_reader.specs.Notices.{Began, PlaceUntold, word_text}
 use Rattle.ink_reader.proofs.Playing.{last-written}
 use Rattle.ink_reader.proofs.telling.tell_path.Goals as goal
 

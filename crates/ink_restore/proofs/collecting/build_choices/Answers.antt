@@ -2,7 +2,7 @@ use Rattle.std.proofs.Common.{map, refl}
 use Rattle.std.specs.List.{AllByRecursion}
 use Rattle.std.specs.declared.alloc.Global.{Global}
 use Rattle.std.specs.declared.vec.Vec.{Vec}
-use Rattle.ink_model.specs.Configuration.{ChoiceOf, map_choice}
+use Rattle.ink_model.specs.Run.Configuration.{ChoiceOf, map_choice}
 use Rattle.ink_restore.proofs.Limits.{choices_built}
 use Rattle.ink_restore.proofs.Making.{built}
 use Rattle.ink_model.specs.Save.Sound.{ChoiceFits}

@@ -1,5 +1,5 @@
 use Rattle.std.proofs.Common.{◌∙◌, ◌+◌, ap, drop, get_or, inl, is_some, subst, sym}
-use Rattle.ink_model.specs.Store.{store, stored}
+use Rattle.ink_model.specs.Variables.Store.{store, stored}
 use Rattle.ink_model.specs.declared.value.Value.{Value}
 use Rattle.ink_restore.proofs.Limits.{Collects, collects_all, collects_more, name_refused, value_refused}
 use Rattle.ink_restore.proofs.Making.{built, never}

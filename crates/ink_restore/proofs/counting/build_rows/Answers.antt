@@ -1,5 +1,5 @@
 use Rattle.std.proofs.Common.{◌≡◌, ◌∙◌, ◌<◌, ◌≤◌, arith, get_or, inl, length, subst, sym}
-use Rattle.ink_model.specs.Places.{places}
+use Rattle.ink_model.specs.Story.Places.{places}
 use Rattle.ink_model.specs.Save.Sound.{RowCounts}
 use Rattle.ink_model.specs.declared.limits.TheConstants.{MAX_COUNT}
 use Rattle.ink_restore.specs.Counted.{flag_of, least_of, row_at, rows_at}

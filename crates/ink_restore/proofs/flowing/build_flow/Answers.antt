@@ -1,6 +1,6 @@
 use Rattle.std.proofs.Common.{◌∙◌, ap, map, subst}
 use Rattle.ink_choice.specs.Choices.{ChoicesView}
-use Rattle.ink_model.specs.Configuration.{map_choice}
+use Rattle.ink_model.specs.Run.Configuration.{map_choice}
 use Rattle.ink_model.specs.Save.Sound.{ChoiceFits, ChoicesFit, StackFits, ValueFits}
 use Rattle.ink_restore.specs.Building.{ChoiceAsks, FirstAsks, ListAsks, ThreadsAsk}
 use Rattle.ink_restore.proofs.Asking.{choice_asks, list_later, list_now}

@@ -1,7 +1,7 @@
 use Rattle.std.proofs.Common.{◌∙◌, ◌&&◌, ap, get_or, inl, inr, is_none, subst, sym}
-use Rattle.ink_flows.specs.Words.{flow_of, rows_of}
-use Rattle.ink_model.specs.Flows.{is_flow_name}
-use Rattle.ink_model.specs.Named.{at}
+use Rattle.ink_flows.specs.Standing.{flow_of, rows_of}
+use Rattle.ink_model.specs.Run.Flows.{is_flow_name}
+use Rattle.ink_model.specs.Variables.Named.{at}
 use Rattle.ink_model.specs.Save.Sound.{FlowSound}
 use Rattle.ink_restore.proofs.Gathers.{gathers_all, gathers_barred, gathers_more, gathers_refused}
 use Rattle.ink_restore.proofs.Making.{built, never}

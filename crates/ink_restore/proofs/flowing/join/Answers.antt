@@ -1,8 +1,8 @@
 use Rattle.std.proofs.Common.{◌≡◌, ◌∙◌, ◌++◌, ◌∷◌, [], None, Some, ap, bytes_eq, false, if◌then◌else◌, sym, true}
 use Rattle.ink_flows.proofs.Laws.{put_absent}
-use Rattle.ink_flows.specs.Words.{rows_of}
+use Rattle.ink_flows.specs.Standing.{rows_of}
 use Rattle.ink_host.proofs.Entries.{kept}
-use Rattle.ink_model.specs.Named.{put}
+use Rattle.ink_model.specs.Variables.Named.{put}
 use Rattle.ink_restore.proofs.flowing.join.Goals as goal
 
 pub returns-in_ok-insert-clause-rows : goal.returns-in_ok-insert-clause-rows

@@ -1,5 +1,5 @@
 use Rattle.std.proofs.Common.{ap, subst}
-use Rattle.ink_flows.specs.Words.{flow_of}
+use Rattle.ink_flows.specs.Standing.{flow_of}
 use Rattle.ink_model.specs.Save.Sound.{FlowSound, SharedSound}
 use Rattle.ink_tree.specs.Nodes.{story_tree}
 use Rattle.ink_restore.proofs.Making.{built}

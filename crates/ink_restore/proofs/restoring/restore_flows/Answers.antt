@@ -1,7 +1,7 @@
 use Rattle.std.proofs.Common.{◌≡◌, ◌∙◌, None, ap, refl, subst, sym, true}
 use Rattle.std.specs.List.{AllByRecursion}
-use Rattle.ink_flows.specs.Words.{rows_of}
-use Rattle.ink_model.specs.Named.{at}
+use Rattle.ink_flows.specs.Standing.{rows_of}
+use Rattle.ink_model.specs.Variables.Named.{at}
 use Rattle.ink_model.specs.Save.Unspelled.{aside_but}
 use Rattle.ink_tree.specs.Nodes.{story_tree}
 use Rattle.ink_restore.proofs.Making.{built, never}

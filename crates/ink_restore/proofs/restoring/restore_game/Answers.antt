@@ -1,5 +1,5 @@
 use Rattle.std.proofs.Common.{◌≡◌, IfSome, ap, refl, subst, true}
-use Rattle.ink_model.specs.Named.{at}
+use Rattle.ink_model.specs.Variables.Named.{at}
 use Rattle.ink_model.specs.Save.Sound.{SharedSound}
 use Rattle.ink_model.specs.Save.Unspelled.{aside_but}
 use Rattle.ink_tree.specs.Nodes.{story_tree}

@@ -1,5 +1,5 @@
 use Rattle.std.proofs.Common.{◌∙◌, Some, ap, option_map, sym}
-use Rattle.ink_flows.specs.Words.{rows_of}
+use Rattle.ink_flows.specs.Standing.{rows_of}
 use Rattle.ink_restore.specs.Gathered.{with_rows}
 use Rattle.ink_restore.proofs.restoring.with_aside.Goals as goal
 

@@ -1,4 +1,4 @@
-use Rattle.ink_check.specs.Words.{story_tree}
+use Rattle.ink_check.specs.Standing.{story_tree}
 use Rattle.ink_tree.specs.Nodes as nodes
 use Rattle.ink_save.proofs.Reading.{reads_found, reads_none}
 use Rattle.ink_save.proofs.loading.read.Goals as goal

@@ -1,8 +1,8 @@
 use Rattle.std.proofs.Common.{◌∙◌, ap, sym}
-use Rattle.ink_flows.specs.Words.{aside_of, flow_of}
-use Rattle.ink_model.specs.Output.{empty_page}
+use Rattle.ink_flows.specs.Standing.{aside_of, flow_of}
+use Rattle.ink_model.specs.Text.Output.{empty_page}
 use Rattle.ink_parts.specs.Counted.{rows_at}
-use Rattle.ink_step.specs.Words.{rows_in}
+use Rattle.ink_step.specs.Standing.{rows_in}
 use Rattle.ink_tree.specs.Nodes.{story_tree}
 use Rattle.ink_save.proofs.saving.kept_of.Goals as goal
 

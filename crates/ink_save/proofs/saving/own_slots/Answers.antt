@@ -1,5 +1,5 @@
 use Rattle.std.proofs.Common.{◌≤◌, ◌∙◌, ap, arith, length, sym, take}
-use Rattle.ink_model.specs.Places.{places}
+use Rattle.ink_model.specs.Story.Places.{places}
 use Rattle.ink_save.proofs.Below.{all_below, first_below}
 use Rattle.ink_tree.specs.Nodes.{story_tree}
 use Rattle.ink_vars.specs.Slots.{rows_from}

@@ -1,6 +1,6 @@
 use Rattle.std.proofs.Common.{◌≡◌, IfOk, subst}
 use Rattle.serde_json.specs.View.{view}
-use Rattle.ink_check.specs.Words.{story_tree}
+use Rattle.ink_check.specs.Standing.{story_tree}
 use Rattle.ink_save.proofs.Keeping.{kept_game}
 use Rattle.ink_save.proofs.saving.write.Goals as goal
 

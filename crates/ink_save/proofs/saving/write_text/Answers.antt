@@ -1,6 +1,6 @@
 use Rattle.std.proofs.Common.{◌≡◌, IfOk, subst}
 use Rattle.serde_json.specs.Written.{compact_text}
-use Rattle.ink_check.specs.Words.{story_tree}
+use Rattle.ink_check.specs.Standing.{story_tree}
 use Rattle.ink_save.proofs.Keeping.{kept_game, read_again}
 use Rattle.ink_sound.proofs.Stories.{spelled_fits}
 use Rattle.ink_save.proofs.saving.write_text.Goals as goal

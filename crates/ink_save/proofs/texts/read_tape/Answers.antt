@@ -1,5 +1,5 @@
 use Rattle.std.proofs.Common.{◌∙◌, Some, ap, sym}
-use Rattle.ink_check.specs.Words.{story_tree}
+use Rattle.ink_check.specs.Standing.{story_tree}
 use Rattle.ink_save.proofs.TextReads.{text-bad, text-read}
 use Rattle.json_tape.specs.Spelled.{data_of}
 use Rattle.json_tape.specs.Value.{json_data}

@@ -1,6 +1,6 @@
 use Rattle.std.proofs.Common.{subst}
 use Rattle.json_tape.specs.Text.{IsParsed}
-use Rattle.ink_check.specs.Words.{story_tree}
+use Rattle.ink_check.specs.Standing.{story_tree}
 use Rattle.ink_save.proofs.TextReads.{text-bad}
 use Rattle.ink_save.proofs.texts.read_text.Goals as goal
 

@@ -1,6 +1,6 @@
 use Rattle.std.proofs.Common.{◌∙◌, sym, true≢false}
 use Rattle.serde_json.specs.View.{view}
-use Rattle.ink_check.specs.Words.{story_tree}
+use Rattle.ink_check.specs.Standing.{story_tree}
 use Rattle.ink_save.proofs.TextReads.{text-bad, text-read, text-short}
 use Rattle.ink_save.proofs.texts.read_tree.Goals as goal
 

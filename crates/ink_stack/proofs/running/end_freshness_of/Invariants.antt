@@ -1,5 +1,5 @@
 use Rattle.std.proofs.Common.{◌≡◌, ◌≤◌, length, reverse}
-use Rattle.ink_model.specs.Threads.{stale_run}
+use Rattle.ink_model.specs.Flow.Threads.{stale_run}
 use Rattle.ink_stack.proofs.Quietness.{QuietSoFar}
 use Rattle.ink_stack.proofs.Runs.{run_at}
 use Rattle.ink_stack.proofs.running.end_freshness_of.Given as goal

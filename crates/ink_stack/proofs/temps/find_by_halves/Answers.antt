@@ -1,6 +1,6 @@
 use Rattle.std.proofs.Common.{rules}
 use Rattle.std.proofs.lemmas.Fn.{always_returns_same}
-use Rattle.ink_model.specs.Rows.{name_order}
+use Rattle.ink_model.specs.Variables.Rows.{name_order}
 use Rattle.ink_stack.proofs.Searching.{found}
 use Rattle.ink_stack.proofs.temps.find_by_halves.Goals as goal
 

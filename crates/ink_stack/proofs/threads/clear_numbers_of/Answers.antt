@@ -1,5 +1,5 @@
 use Rattle.std.proofs.Common.{◌∙◌, ◌<◌, arith, length, refl}
-use Rattle.ink_model.specs.Frames.{unnumbered_thread}
+use Rattle.ink_model.specs.Flow.Frames.{unnumbered_thread}
 use Rattle.ink_stack.proofs.Mapping.{map_step, map_done}
 use Rattle.ink_stack.proofs.threads.clear_numbers_of.Goals as goal
 

@@ -1,5 +1,5 @@
 use Rattle.std.proofs.Common.{◌≡◌, ◌++◌, drop, map, take}
-use Rattle.ink_model.specs.Frames.{unnumbered_thread}
+use Rattle.ink_model.specs.Flow.Frames.{unnumbered_thread}
 use Rattle.ink_stack.proofs.threads.clear_numbers_of.Given as goal
 
 abbrev pub invariant-loop-thread : goal.invariant-loop-thread

@@ -1,6 +1,6 @@
 use Rattle.std.proofs.Common.{◌≡◌, ◌∙◌, ◌+◌, ap, arith, length, subst, sym, vec_capacity}
 use Rattle.std.proofs.lemmas.Bool.{OnTrue_at}
-use Rattle.ink_model.specs.Threads.{frame_count, stale, stale_run, staled}
+use Rattle.ink_model.specs.Flow.Threads.{frame_count, stale, stale_run, staled}
 use Rattle.ink_trail.proofs.Undoing.{trails-more, trails-trails}
 use Rattle.ink_trail.specs.Undo.{Trails, trail_of}
 use Rattle.ink_stack.specs.Quiet.{IsQuiet}

@@ -1,5 +1,5 @@
 use Rattle.std.proofs.Common.{ap, arith, reverse}
-use Rattle.ink_model.specs.Threads.{stale}
+use Rattle.ink_model.specs.Flow.Threads.{stale}
 use Rattle.ink_trail.proofs.Undoing.{trails-one}
 use Rattle.ink_trail.specs.Undo.{trail_of}
 use Rattle.ink_stack.specs.Running.{threads_in}

@@ -1,5 +1,5 @@
 use Rattle.std.proofs.Common.{◌≡◌, ◌∙◌, ◌-◌, ◌+◌, ◌≤◌, true, false, ap, arith, length, refl, sym}
-use Rattle.ink_model.specs.Threads.{stale, stale_run}
+use Rattle.ink_model.specs.Flow.Threads.{stale, stale_run}
 use Rattle.ink_trail.proofs.Undoing.{trails-more, trails-none, trails-trails}
 use Rattle.ink_stack.specs.Undo.{threads_back}
 use Rattle.ink_stack.proofs.Framing.{length-changed}

@@ -1,5 +1,5 @@
 use Rattle.std.proofs.Common.{◌≡◌, ◌≤◌, ◌-◌, length, vec_capacity}
-use Rattle.ink_model.specs.Threads.{stale_run}
+use Rattle.ink_model.specs.Flow.Threads.{stale_run}
 use Rattle.ink_trail.specs.Undo.{Trails, spare, trail_of}
 use Rattle.ink_stack.specs.Running.{threads_in}
 use Rattle.ink_stack.specs.Undo.{StaysHeld, threads_back}

@@ -1,8 +1,8 @@
 use Rattle.std.proofs.Common.{◌≡◌, ◌≢◌, ◌∙◌, ◌++◌, ◌∷◌, [], ap, arith, sym, take, true, false}
 use Rattle.std.proofs.lemmas.List.{take_all}
 use Rattle.ink_host.specs.Desk.{watches}
-use Rattle.ink_model.specs.Store.{stored}
-use Rattle.ink_model.specs.Told.{change_of, is_other, told}
+use Rattle.ink_model.specs.Variables.Store.{stored}
+use Rattle.ink_model.specs.Host.Told.{change_of, is_other, told}
 use Rattle.ink_vars.proofs.Noting.{on_error}
 use Rattle.ink_told.proofs.Telling.{told_past, told_same, told_some, told_there, told_unwatched}
 use Rattle.ink_told.proofs.told.told_between.Goals.{in-Some+then-watches+then-is_other+in_ok-add_change, in-Some+else-watches, else-watches-via-then-watches+else-is_other, else-watches-via-else-watches, in_default}

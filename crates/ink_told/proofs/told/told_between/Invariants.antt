@@ -1,6 +1,6 @@
 use Rattle.std.proofs.Common.{◌≡◌, take}
 use Rattle.ink_host.specs.Desk.{watches}
-use Rattle.ink_model.specs.Told.{told}
+use Rattle.ink_model.specs.Host.Told.{told}
 use Rattle.ink_told.proofs.told.told_between.Given as goal
 
 abbrev pub invariant-loop-number : goal.invariant-loop-number

@@ -1,7 +1,7 @@
 use Rattle.std.proofs.Common.{◌≡◌, ◌≢◌, ◌<◌, ◌≤◌, ◌∙◌, ℕ, List, [], Some, None, ap, arith, length, rules, sym}
 use Rattle.std.proofs.lemmas.List.{append-nil, take_all}
 use Rattle.ink_host.specs.Desk.{watches}
-use Rattle.ink_model.specs.Told.{told}
+use Rattle.ink_model.specs.Host.Told.{told}
 use Rattle.ink_model.specs.declared.value.Value.{Value}
 use Rattle.ink_vars.proofs.Noting.{on_error}
 use Rattle.ink_told.proofs.Telling.{told_at, told_changed, told_next, told_nobody, told_some_at, told_some_of}

@@ -1,5 +1,5 @@
 use Rattle.std.proofs.Common.{◌≡◌, ◌∙◌, ap, arith, length, rules, sym}
-use Rattle.ink_model.specs.Joining.{makes_text}
+use Rattle.ink_model.specs.Values.Joining.{makes_text}
 use Rattle.ink_value.proofs.Operands.{gives_two, two_values, without_memory}
 use Rattle.ink_value.proofs.operate.apply.Goals as goal
 

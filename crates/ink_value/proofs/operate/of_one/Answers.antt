@@ -2,8 +2,8 @@ use Rattle.std.proofs.Common.{rules, ◌≡◌, Some, sym, ap, ◌∙◌}
 use Rattle.std.specs.Int.{w32}
 use Rattle.std.specs.Int.RustNames.{FitsSigned}
 use Rattle.std.proofs.lemmas.Int.{to_z-of_z}
-use Rattle.ink_model.specs.Operator as operators
-use Rattle.ink_value.specs.Words.{number_of, number_text}
+use Rattle.ink_model.specs.Values.Operator as operators
+use Rattle.ink_value.specs.Standing.{number_of, number_text}
 use Rattle.ink_value.proofs.Operands.{operand_number}
 use Rattle.ink_value.proofs.operate.of_one.Goals as goal
 

@@ -1,5 +1,5 @@
 use Rattle.std.proofs.Common.{rules, ◌≡◌}
-use Rattle.ink_model.specs.Same.{same_value}
+use Rattle.ink_model.specs.Values.Same.{same_value}
 use Rattle.ink_value.proofs.SameValues.{values_are}
 use Rattle.ink_value.proofs.same.same_value.Goals as goal
 

@@ -1,5 +1,5 @@
 use Rattle.std.proofs.Common.{◌≡◌, drop}
-use Rattle.ink_model.specs.Value as values
+use Rattle.ink_model.specs.Values.Value as values
 use Rattle.ink_value.proofs.targets.same_parts.Given as goal
 
 abbrev pub invariant-loop-i : goal.invariant-loop-i

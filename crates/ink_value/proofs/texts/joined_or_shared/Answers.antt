@@ -1,4 +1,4 @@
-use Rattle.std.proofs.Common.{◌≡◌, ◌∙◌, ◌≤◌, [], ap, length, subst, sym}
+use Rattle.std.proofs.Common.{◌≡◌, ◌∙◌, ◌≤◌, [], length, subst, sym}
 use Rattle.ink_model.specs.declared.limits.TheConstants.{MAX_TEXT}
 use Rattle.ink_value.proofs.Joined.{is_empty, joins_one, one_fits, with_none, with_none_before}
 use Rattle.ink_value.proofs.texts.joined_or_shared.Goals as goal

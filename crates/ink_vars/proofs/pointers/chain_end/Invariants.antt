@@ -1,5 +1,5 @@
 use Rattle.std.proofs.Common.{◌≡◌}
-use Rattle.ink_model.specs.Variables.{chain_end, last_pointer}
+use Rattle.ink_model.specs.Variables.Access.{chain_end, last_pointer}
 use Rattle.ink_vars.proofs.pointers.chain_end.Given as goal
 
 abbrev pub invariant-loop-left : goal.invariant-loop-left

@@ -1,5 +1,5 @@
 use Rattle.std.proofs.Common.{◌≡◌, Some, rules, sym, to_z-of_z}
-use Rattle.ink_model.specs.Variables.{chain_end, held}
+use Rattle.ink_model.specs.Variables.Access.{chain_end, held}
 use Rattle.ink_vars.proofs.Chains.{read_at_end}
 use Rattle.ink_vars.proofs.variables.look_at.Goals as goal
 

@@ -1,5 +1,5 @@
 use Rattle.std.proofs.Common.{◌≡◌, Some, inr, pos, refl, rules, to_z-of_z}
-use Rattle.ink_model.specs.Variables.{chain_end, held}
+use Rattle.ink_model.specs.Variables.Access.{chain_end, held}
 use Rattle.ink_vars.specs.declared.places.Name.TheVariants.{Pointed}
 use Rattle.ink_vars.specs.declared.places.Variable.{Variable}
 use Rattle.ink_vars.proofs.Chains.{leads_into}

@@ -1,6 +1,6 @@
 use Rattle.std.proofs.Common.{refl}
-use Rattle.ink_model.specs.Acceptance.{counted_container, written_target}
-use Rattle.ink_model.specs.Tree.{at}
+use Rattle.ink_model.specs.Story.Acceptance.{counted_container, written_target}
+use Rattle.ink_model.specs.Story.Tree.{at}
 use Rattle.ink_check.specs.Links.{counted_place, number_of, pushed_of, pushed_path, target_place}
 use Rattle.ink_check.specs.Names.{variable_number}
 use Rattle.ink_check.proofs.Checked.{lent_of}

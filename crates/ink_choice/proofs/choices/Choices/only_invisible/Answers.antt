@@ -1,5 +1,5 @@
 use Rattle.std.proofs.Common.{◌∙◌, ap, sym, vec_len}
-use Rattle.ink_model.specs.Choices.{none_visible}
+use Rattle.ink_model.specs.Choices.Making.{none_visible}
 use Rattle.ink_choice.proofs.Lists.{only_hidden}
 use Rattle.ink_choice.proofs.choices.Choices.only_invisible.Goals as goal
 

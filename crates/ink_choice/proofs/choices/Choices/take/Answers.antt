@@ -1,7 +1,7 @@
 use Rattle.std.proofs.Common.{◌≡◌, ◌∙◌, ◌<◌, ◌⊎◌, ◌||◌, None, Some, ap, arith, not, refl, subst, sym, true, length}
 use Rattle.ink_choice.specs.Undo.{choices_back, choices_spare}
-use Rattle.ink_choice.specs.Words.{FindsIndex}
-use Rattle.ink_model.specs.Choices.{none_visible, option_asks}
+use Rattle.ink_choice.specs.Outcomes.{FindsIndex}
+use Rattle.ink_model.specs.Choices.Making.{none_visible, option_asks}
 use Rattle.ink_trail.proofs.Undoing.{trails-kept}
 use Rattle.ink_choice.proofs.Lists.{taken_at, took, took_none, took_nothing}
 use Rattle.ink_choice.proofs.choices.Choices.take.Goals as goal

@@ -4,7 +4,7 @@ use Rattle.std.proofs.lemmas.Result.{err_from_is_err_and}
 use Rattle.std.specs.List.{insert}
 use Rattle.ink_trail.proofs.Undoing.{spare-kept, stood-kept, stood-trails, trails-after, trails-one}
 use Rattle.ink_trail.specs.Undo.{trail_of}
-use Rattle.ink_model.specs.Choices.{option_asks}
+use Rattle.ink_model.specs.Choices.Making.{option_asks}
 use Rattle.ink_choice.specs.Undo.{choices_back, choices_spare, choices_stood}
 use Rattle.ink_choice.specs.declared.undo.ChoicePair.TheVariants.{Taken}
 use Rattle.ink_choice.proofs.Settling.{settled-removed}

@@ -1,6 +1,6 @@
 use Rattle.std.proofs.Common.{◌≢◌, ◌<◌, ◌∙◌, [], arith, length, sym, ◌≡◌, ap}
 use Rattle.std.proofs.lemmas.Result.{err_from_is_err_and}
-use Rattle.ink_model.specs.Choices.{visible}
+use Rattle.ink_model.specs.Choices.Making.{visible}
 use Rattle.ink_choice.proofs.Lists.{shows_none, shows_one, some_shown, all_shown}
 use Rattle.ink_choice.proofs.choices.Choices.visible.Goals.{then-is_visible+in_ok-shown_choice+in_ok-push, else-is_visible}
 use Rattle.ink_choice.proofs.choices.Choices.visible.Goals as goal

@@ -1,5 +1,5 @@
 use Rattle.std.proofs.Common.{◌≡◌, ◌++◌, drop}
-use Rattle.ink_model.specs.Choices.{shown}
+use Rattle.ink_model.specs.Choices.Making.{shown}
 use Rattle.ink_choice.proofs.choices.Choices.visible.Given as goal
 
 abbrev pub invariant-loop-choice : goal.invariant-loop-choice

@@ -1,5 +1,5 @@
 use Rattle.std.proofs.Common.{◌∙◌, ap, sym}
-use Rattle.ink_model.specs.Flows.{current_name}
+use Rattle.ink_model.specs.Run.Flows.{current_name}
 use Rattle.ink_flows.proofs.Current.{current_default, current_named}
 use Rattle.ink_flows.proofs.aside.Aside.current_name.Goals as goal
 

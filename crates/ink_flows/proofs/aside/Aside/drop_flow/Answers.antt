@@ -1,6 +1,6 @@
 use Rattle.std.proofs.Common.{◌≡◌, ◌∙◌, ap, bytes_eq, refl, sym, Bool, true, false, not}
-use Rattle.ink_model.specs.Flows.{current_name, default_flow}
-use Rattle.ink_flows.specs.Words.{flows_of}
+use Rattle.ink_model.specs.Run.Flows.{current_name, default_flow}
+use Rattle.ink_flows.specs.Standing.{flows_of}
 use Rattle.ink_flows.proofs.Going.{current_dropped, other_dropped}
 use Rattle.ink_flows.proofs.Laws.{other_way}
 use Rattle.ink_flows.proofs.aside.Aside.drop_flow.Goals as goal

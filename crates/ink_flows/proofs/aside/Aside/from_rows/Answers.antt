@@ -1,5 +1,5 @@
 use Rattle.std.proofs.Common.{◌∙◌, ap, sym, subst, unwrap_or}
-use Rattle.ink_flows.specs.Words.{CurrentAt, rows_of, shown_rows}
+use Rattle.ink_flows.specs.Standing.{CurrentAt, rows_of, shown_rows}
 use Rattle.ink_flows.proofs.Going.{begins_listed}
 use Rattle.ink_flows.proofs.Indexes.{hole_or}
 use Rattle.ink_flows.proofs.aside.Aside.from_rows.Goals as goal

@@ -1,10 +1,10 @@
 use Rattle.std.proofs.Common.{◌≡◌, ◌∙◌, ◌++◌, [], ◌∷◌, None, Some, ap, is_some, length, sym, subst}
 use Rattle.ink_host.proofs.Entries.{not-there}
-use Rattle.ink_model.specs.Configuration.{fresh_flow}
-use Rattle.ink_model.specs.Flows.{goes_to}
-use Rattle.ink_model.specs.Named.{at}
+use Rattle.ink_model.specs.Run.Configuration.{fresh_flow}
+use Rattle.ink_model.specs.Run.Flows.{goes_to}
+use Rattle.ink_model.specs.Variables.Named.{at}
 use Rattle.ink_tree.specs.Nodes.{place_of}
-use Rattle.ink_flows.specs.Words.{NamedAt, flows_of, listed, shown_rows}
+use Rattle.ink_flows.specs.Standing.{NamedAt, flows_of, listed, shown_rows}
 use Rattle.ink_flows.proofs.Current.{current_more, named_last}
 use Rattle.ink_flows.proofs.Going.{gone_made}
 use Rattle.ink_flows.proofs.Laws.{begins_more}

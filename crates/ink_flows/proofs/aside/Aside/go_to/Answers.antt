@@ -1,7 +1,7 @@
 use Rattle.std.proofs.Common.{◌∙◌, ap, sym, subst, IsTrue, Some, None}
 use Rattle.indexmap.specs.IndexMap.{set_value_at}
-use Rattle.ink_model.specs.Flows.{begins_with_default, current_name, goes_to}
-use Rattle.ink_flows.specs.Words.{CurrentAt, NamedAt, flows_of, rows_of, shown_rows}
+use Rattle.ink_model.specs.Run.Flows.{begins_with_default, current_name, goes_to}
+use Rattle.ink_flows.specs.Standing.{CurrentAt, NamedAt, flows_of, rows_of, shown_rows}
 use Rattle.ink_flows.proofs.Current.{at_named, current_is, moved_current, moved_named, moved_rows, moved_shown, none_written, part_shown, same_index, set_begins}
 use Rattle.ink_flows.proofs.Going.{default_at, gone_at, stayed}
 use Rattle.ink_flows.proofs.aside.Aside.go_to.Goals as goal

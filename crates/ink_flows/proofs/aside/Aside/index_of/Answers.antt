@@ -1,7 +1,7 @@
 use Rattle.std.proofs.Common.{◌∙◌, ap, is_some, IfSome, sym, subst}
 use Rattle.ink_host.proofs.Entries.{found}
-use Rattle.ink_model.specs.Named.{at}
-use Rattle.ink_flows.specs.Words.{NamedAt}
+use Rattle.ink_model.specs.Variables.Named.{at}
+use Rattle.ink_flows.specs.Standing.{NamedAt}
 use Rattle.ink_flows.proofs.Current.{found_some}
 use Rattle.ink_flows.proofs.Listed.{listed_more}
 use Rattle.ink_flows.proofs.aside.Aside.index_of.Goals as goal

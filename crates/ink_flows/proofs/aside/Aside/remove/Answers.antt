@@ -1,9 +1,9 @@
 use Rattle.std.proofs.Common.{◌∙◌, ap, bytes_eq, sym}
 use Rattle.std.specs.Option.{option_map}
 use Rattle.ink_host.proofs.Entries.{removed}
-use Rattle.ink_model.specs.Flows.{current_name}
-use Rattle.ink_model.specs.Named.{without}
-use Rattle.ink_flows.specs.Words.{listed, rows_of, shown_rows}
+use Rattle.ink_model.specs.Run.Flows.{current_name}
+use Rattle.ink_model.specs.Variables.Named.{without}
+use Rattle.ink_flows.specs.Standing.{listed, rows_of, shown_rows}
 use Rattle.ink_flows.proofs.Current.{found_at, one_earlier, one_later}
 use Rattle.ink_flows.proofs.Going.{without_listed}
 use Rattle.ink_flows.proofs.Laws.{begins_without}

@@ -1,5 +1,5 @@
 use Rattle.std.proofs.Common.{◌≡◌, drop}
-use Rattle.ink_model.specs.Tree.{at}
+use Rattle.ink_model.specs.Story.Tree.{at}
 use Rattle.ink_json.specs.Descent.{tree_at, Stands}
 use Rattle.ink_json.specs.Story.{tree}
 use Rattle.ink_json.proofs.story.RawStory.at.Given as goal

@@ -1,5 +1,5 @@
 use Rattle.std.proofs.Common.{◌≡◌, ◌∙◌, ap, inl, inr, refl, sym, ◌<◌, arith, length, reverse, subst}
-use Rattle.ink_model.specs.Output.{closes_string}
+use Rattle.ink_model.specs.Text.Output.{closes_string}
 use Rattle.ink_model.specs.declared.fault.Fault.TheVariants.{OutOfMemory}
 use Rattle.ink_out.specs.Writing.{page_of}
 use Rattle.ink_out.proofs.Closing.{hands_nothing, no_string, none_closed, nothing_open, on_top, string_asks, string_closed, string_refused, close_asks}

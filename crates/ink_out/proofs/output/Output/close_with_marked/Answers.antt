@@ -1,8 +1,8 @@
 use Rattle.std.proofs.Common.{◌≡◌, ◌∙◌, List, [], ◌∷◌, Err, ap, arith, inl, length, refl, subst, sym, vec_capacity}
 use Rattle.std.proofs.lemmas.List.{length-reverse}
-use Rattle.ink_model.specs.Configuration.{Page, Section}
-use Rattle.ink_model.specs.Memory.{Gives}
-use Rattle.ink_model.specs.Output.{writes_marks}
+use Rattle.ink_model.specs.Run.Configuration.{Page, Section}
+use Rattle.ink_model.specs.Memory.Refusals.{Gives}
+use Rattle.ink_model.specs.Text.Output.{writes_marks}
 use Rattle.ink_model.specs.declared.fault.Fault.TheVariants.{OutOfMemory}
 use Rattle.ink_out.specs.Undo.{Held, output_back}
 use Rattle.ink_out.specs.Writing.{closed, page_of}

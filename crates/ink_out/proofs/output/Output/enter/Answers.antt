@@ -1,6 +1,6 @@
-use Rattle.ink_model.specs.Output.{begins_function}
-use Rattle.ink_model.specs.Memory.{Gives}
-use Rattle.ink_model.specs.Configuration.{Page}
+use Rattle.ink_model.specs.Text.Output.{begins_function}
+use Rattle.ink_model.specs.Memory.Refusals.{Gives}
+use Rattle.ink_model.specs.Run.Configuration.{Page}
 use Rattle.std.proofs.Common.{arith, refl, vec_capacity, Err, subst, sym, ap}
 use Rattle.ink_out.specs.Undo.{output_back, output_spare, output_stood}
 use Rattle.ink_out.specs.Writing.{page_of}

@@ -1,5 +1,5 @@
 use Rattle.std.proofs.Common.{◌∙◌, ap, refl, sym}
-use Rattle.ink_model.specs.Step.Text.{in_string}
+use Rattle.ink_model.specs.Run.Step.Text.{in_string}
 use Rattle.ink_out.proofs.Closing.{nothing_open, on_top}
 use Rattle.ink_out.proofs.output.Output.is_string.Goals as goal
 

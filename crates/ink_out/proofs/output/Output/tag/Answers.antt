@@ -1,4 +1,4 @@
-use Rattle.ink_model.specs.Output.{writes_tag}
+use Rattle.ink_model.specs.Text.Output.{writes_tag}
 use Rattle.ink_out.proofs.Closing.{hands_nothing, whole_refused}
 use Rattle.ink_trail.proofs.Undoing.{trails-none}
 use Rattle.ink_out.specs.Undo.{output_back}

@@ -1,8 +1,8 @@
 use Rattle.std.proofs.Common.{[], refl, rules, w32}
 use Rattle.std.proofs.lemmas.Int.{to_z-of_z}
 use Rattle.std.specs.Prelude.{FitsSigned}
-use Rattle.ink_model.specs.Mark.{cut}
-use Rattle.ink_model.specs.Value.{printed}
+use Rattle.ink_model.specs.Text.Mark.{cut}
+use Rattle.ink_model.specs.Values.Value.{printed}
 use Rattle.ink_out.proofs.Noting.{empty_text}
 use Rattle.ink_out.proofs.Printed.{number_cut, truth_cut}
 use Rattle.ink_out.proofs.output.Output.write.Goals as goal

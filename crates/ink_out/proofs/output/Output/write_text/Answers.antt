@@ -1,8 +1,8 @@
 use Rattle.std.proofs.Common.{◌≡◌, ◌≢◌, ℕ, true, false, not, cond, List, [], ◌∷◌, length, refl, arith, rules, vec_capacity}
 use Rattle.std.specs.List.{list_any}
 use Rattle.std.proofs.lemmas.List.{nil_from_length}
-use Rattle.ink_model.specs.Bytes.{is_blank}
-use Rattle.ink_model.specs.Mark.{cut, piece}
+use Rattle.ink_model.specs.Text.Bytes.{is_blank}
+use Rattle.ink_model.specs.Text.Mark.{cut, piece}
 use Rattle.ink_model.specs.declared.mark.Mark.TheVariants.{Blank, Text}
 use Rattle.ink_out.proofs.Closing.{refilled}
 use Rattle.ink_out.proofs.Noting.{empty_text, whole_cut, let_through-piece}

@@ -1,5 +1,5 @@
 use Rattle.std.proofs.Common.{◌≡◌, length, reverse, ap, ◌∙◌, rules}
-use Rattle.ink_model.specs.Shown.{is_among, is_shown}
+use Rattle.ink_model.specs.Text.Shown.{is_among, is_shown}
 use Rattle.ink_out.proofs.Answering.{shown_other, shown_none}
 use Rattle.ink_out.proofs.Standing.{settled_fall}
 use Rattle.ink_out.proofs.section.Section.is_shown.Goals as goal

@@ -1,5 +1,5 @@
 use Rattle.std.proofs.Common.{reverse, ap, ◌∙◌}
-use Rattle.ink_model.specs.Shown.{more_from}
+use Rattle.ink_model.specs.Text.Shown.{more_from}
 use Rattle.ink_out.proofs.Answering.{more_of}
 use Rattle.ink_out.proofs.section.Section.more_from.Goals as goal
 

@@ -1,5 +1,5 @@
 use Rattle.std.proofs.Common.{◌≡◌, None, reverse, ap, ◌∙◌, arith}
-use Rattle.ink_model.specs.Shown.{open_newline}
+use Rattle.ink_model.specs.Text.Shown.{open_newline}
 use Rattle.ink_out.proofs.Answering.{open_waiting, open_tagged, open_nothing}
 use Rattle.ink_out.proofs.section.Section.open.Goals as goal
 

@@ -1,6 +1,6 @@
 use Rattle.std.proofs.Common.{◌≡◌, ◌∙◌, ◌||◌, ap, false, true, is_some, reverse, sym}
 use Rattle.std.specs.List.{list_any}
-use Rattle.ink_model.specs.Shown.{is_filled_blank, shows_more}
+use Rattle.ink_model.specs.Text.Shown.{is_filled_blank, shows_more}
 use Rattle.ink_out.proofs.Blanks.{more_is}
 use Rattle.ink_out.proofs.section.Section.shows_more.Goals as goal
 

@@ -1,6 +1,6 @@
 use Rattle.std.proofs.Common.{◌≡◌, ◌∙◌, ap, sym, ℕ, List, [], ◌∷◌, ◌++◌, Result, Ok, Err, IfOk, OnErr}
-use Rattle.ink_model.specs.Clean.{clean}
-use Rattle.ink_model.specs.Shown.{shown_text}
+use Rattle.ink_model.specs.Text.Clean.{clean}
+use Rattle.ink_model.specs.Text.Shown.{shown_text}
 use Rattle.ink_model.specs.declared.mark.Mark.{Mark}
 use Rattle.ink_model.specs.declared.mark.Mark.TheVariants.{Text, Newline}
 use Rattle.ink_out.proofs.Blanks.{nothing_more}

@@ -2,13 +2,13 @@ use Rattle.std.proofs.Common.{◌∙◌, ap, sym}
 use Rattle.std.proofs.lemmas.List.{map-id}
 use Rattle.std.proofs.lemmas.Iterator.{YieldsList-from_chars}
 use Rattle.std.proofs.lemmas.Iterator.Consumers.{YieldsList-end}
-use Rattle.ink_page.specs.Sheet.{laid, shown}
+use Rattle.ink_page.specs.Sheet.{laid, with_character}
 use Rattle.ink_page.proofs.Laying.{laid-push}
 use Rattle.ink_page.proofs.sheet.Sheet.show.Goals as goal
 
 pub loop-letter-preserved : goal.loop-letter-preserved
 loop-letter-preserved c =
-    c.in_ok-put.ensures ∙ (ap (shown c.in-Some.letter) c.loop-letter.invariant ∙ sym (laid-push c.loop-letter.yielded c.in-Some.letter c.args.self.now))
+    c.in_ok-put.ensures ∙ (ap (with_character c.in-Some.letter) c.loop-letter.invariant ∙ sym (laid-push c.loop-letter.yielded c.in-Some.letter c.args.self.now))
 
 pub returns : goal.returns
 returns c =

@@ -1,7 +1,7 @@
-use Rattle.ink_model.specs.Configuration.{map_choice}
+use Rattle.ink_model.specs.Run.Configuration.{map_choice}
 use Rattle.ink_tree.specs.Nodes.{place_of, story_tree}
 use Rattle.ink_parts.proofs.Arrays.{object_made}
-use Rattle.ink_parts.specs.Words.{choice_members}
+use Rattle.ink_parts.specs.Written.{choice_members}
 use Rattle.ink_parts.proofs.choices.ChoiceSpotWritten.write.Goals as goal
 
 pub returns : goal.returns

@@ -1,6 +1,6 @@
 use Rattle.std.proofs.Common.{◌∙◌, ap}
 use Rattle.serde_json.specs.Data.{Data}
-use Rattle.ink_model.specs.Configuration.{ChoiceOf, map_choice}
+use Rattle.ink_model.specs.Run.Configuration.{ChoiceOf, map_choice}
 use Rattle.ink_model.specs.Save.Spelling.{choice_data, list_data}
 use Rattle.ink_tree.specs.Nodes.{place_of, story_tree}
 use Rattle.ink_tree.specs.declared.spot.Spot.{Spot}

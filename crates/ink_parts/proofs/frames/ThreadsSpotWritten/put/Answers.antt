@@ -1,5 +1,5 @@
 use Rattle.std.proofs.Common.{◌≡◌, ◌∙◌, ◌∷◌, refl, reverse}
-use Rattle.ink_model.specs.Frames.{map_thread}
+use Rattle.ink_model.specs.Flow.Frames.{map_thread}
 use Rattle.ink_model.specs.Save.Spelling.{list_data, thread_data}
 use Rattle.ink_tree.specs.Nodes.{place_of, story_tree}
 use Rattle.ink_parts.proofs.Texts.{value_as}

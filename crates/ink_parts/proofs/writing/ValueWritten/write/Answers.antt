@@ -1,5 +1,5 @@
 use Rattle.std.proofs.Common.{◌∙◌, ap, sym}
-use Rattle.ink_model.specs.ValueJson.{value_data}
+use Rattle.ink_model.specs.Protocol.ValueJson.{value_data}
 use Rattle.ink_parts.proofs.Arrays.{view-Bool, view-Null}
 use Rattle.ink_parts.proofs.writing.ValueWritten.write.Goals as goal
 

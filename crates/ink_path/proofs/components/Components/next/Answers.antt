@@ -1,6 +1,6 @@
 use Rattle.std.proofs.Common.{◌∙◌, ap, arith, length, sym, Some, None, lit<}
 use Rattle.std.proofs.lemmas.Str.Pattern.{split_parts}
-use Rattle.ink_model.specs.Bytes.{pieces, is_dot}
+use Rattle.ink_model.specs.Text.Bytes.{pieces, is_dot}
 use Rattle.ink_path.specs.Components.{texts_of}
 use Rattle.ink_path.proofs.Reading.{first_piece, one_piece}
 use Rattle.ink_path.proofs.components.Components.next.Goals as goal

@@ -1,6 +1,6 @@
 use Rattle.std.proofs.Common.{refl, sym}
-use Rattle.ink_check.specs.Words.{story_tree}
-use Rattle.ink_model.specs.Command as command
+use Rattle.ink_check.specs.Standing.{story_tree}
+use Rattle.ink_model.specs.Protocol.Command as command
 use Rattle.ink_player.proofs.Standing.{stands-after}
 use Rattle.ink_player.proofs.player.Player.flow.Goals as goal
 

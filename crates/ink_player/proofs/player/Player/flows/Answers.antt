@@ -1,7 +1,7 @@
 use Rattle.std.proofs.Common.{◌∙◌, Ok, ap, inl}
-use Rattle.ink_check.specs.Words.{story_tree}
-use Rattle.ink_model.specs.Named.{names}
-use Rattle.ink_player.specs.Words.{state_of}
+use Rattle.ink_check.specs.Standing.{story_tree}
+use Rattle.ink_model.specs.Variables.Named.{names}
+use Rattle.ink_player.specs.Standing.{state_of}
 use Rattle.ink_player.proofs.player.Player.flows.Goals as goal
 
 pub returns-in-Ok : goal.returns-in-Ok

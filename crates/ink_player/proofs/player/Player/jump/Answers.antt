@@ -1,5 +1,5 @@
 use Rattle.std.proofs.Common.{sym}
-use Rattle.ink_check.specs.Words.{story_tree}
+use Rattle.ink_check.specs.Standing.{story_tree}
 use Rattle.ink_player.proofs.Standing.{stands-jumped}
 use Rattle.ink_player.proofs.player.Player.jump.Goals as goal
 

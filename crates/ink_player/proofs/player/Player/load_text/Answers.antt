@@ -1,9 +1,9 @@
 use Rattle.std.proofs.Common.{[], IfOk, ap, subst, sym}
-use Rattle.ink_check.specs.Words.{story_tree}
-use Rattle.ink_model.specs.Answer.{reply_of_events}
+use Rattle.ink_check.specs.Standing.{story_tree}
+use Rattle.ink_model.specs.Protocol.Answer.{reply_of_events}
 use Rattle.ink_player.specs.Loading.{TextReadsAsState}
-use Rattle.ink_player.specs.Words.{PlayerView, bindings, desk_of, state_of, story_of}
-use Rattle.ink_step.specs.Words.{config_of, game_of, globals_of}
+use Rattle.ink_player.specs.Standing.{PlayerView, bindings, desk_of, state_of, story_of}
+use Rattle.ink_step.specs.Standing.{config_of, game_of, globals_of}
 use Rattle.ink_player.proofs.Saves.{load-read}
 use Rattle.ink_player.proofs.Standing.{game-as}
 use Rattle.ink_player.proofs.Tellings.{globals-by, once-none}

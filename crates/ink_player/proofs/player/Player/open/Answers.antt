@@ -1,7 +1,7 @@
 use Rattle.std.proofs.Common.{ap, is_ok}
-use Rattle.ink_check.specs.Words.{story_tree}
-use Rattle.ink_step.specs.Words.{config_of}
-use Rattle.ink_player.specs.Words.{is_empty}
+use Rattle.ink_check.specs.Standing.{story_tree}
+use Rattle.ink_step.specs.Standing.{config_of}
+use Rattle.ink_player.specs.Standing.{is_empty}
 use Rattle.ink_sound.proofs.Sessions.{opened_fits}
 use Rattle.ink_player.proofs.Standing.{alone-fits}
 use Rattle.ink_player.proofs.player.Player.open.Goals as goal

@@ -1,7 +1,7 @@
 use Rattle.std.proofs.Common.{sym}
 use Rattle.serde_json.specs.Data.{null}
-use Rattle.ink_player.specs.Words.{PlayerView, aside_seen, desk_of, story_of}
-use Rattle.ink_step.specs.Words.{config_of}
+use Rattle.ink_player.specs.Standing.{PlayerView, aside_seen, desk_of, story_of}
+use Rattle.ink_step.specs.Standing.{config_of}
 use Rattle.ink_player.proofs.Saves.{saves-broken, text-back, text-only, text-reads, texts-free}
 use Rattle.ink_player.proofs.player.Player.save_text.Goals as goal
 

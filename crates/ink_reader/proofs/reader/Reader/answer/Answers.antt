@@ -1,11 +1,11 @@
 use Rattle.std.proofs.Common.{[], ◌∷◌, ap, refl}
 use Rattle.std.proofs.lemmas.Result.{err_from_is_err_and}
-use Rattle.ink_model.specs.Command as command
+use Rattle.ink_model.specs.Protocol.Command as command
 use Rattle.ink_page.specs.Typed as asks
 use Rattle.ink_page.specs.Typed.{asked_by}
 use Rattle.ink_reader.specs.Course.{places_of}
 use Rattle.ink_reader.specs.Deeds.{Gives, Says}
-use Rattle.ink_reader.specs.Words.{Help, Unclear}
+use Rattle.ink_reader.specs.Notices.{Help, Unclear}
 use Rattle.ink_reader.proofs.Courses.{goes-as, up-lost, up-well, up-whole}
 use Rattle.ink_reader.proofs.Playing.{played-lost, played-none, played-says, played-well}
 use Rattle.ink_reader.proofs.reader.Reader.answer.Goals as goal

@@ -5,7 +5,7 @@ use Rattle.ink_page.specs.Showing.{said}
 use Rattle.ink_page.specs.declared.page.Look.{Look}
 use Rattle.ink_reader.specs.Course.{saving_told, unsaved_told}
 use Rattle.ink_reader.specs.Deeds.{Deed, deeds_shown}
-use Rattle.ink_reader.specs.Words.{Saved, word_text}
+use Rattle.ink_reader.specs.Notices.{Saved, word_text}
 use Rattle.ink_reader.specs.declared.shelf.NotKept.{NotKept}
 use Rattle.ink_reader.proofs.Playing.{last-written, more-written, played-saving, played-well}
 use Rattle.ink_reader.proofs.reader.Reader.keep.Goals as goal

@@ -1,6 +1,6 @@
 use Rattle.std.proofs.Common.{◌∙◌, [], ◌∷◌, ◌++◌, ap, inl, inr, refl, sym}
 use Rattle.std.proofs.lemmas.Result.{MatchResult-weaker}
-use Rattle.ink_reader.specs.Words.{FirstPlace}
+use Rattle.ink_reader.specs.Notices.{FirstPlace}
 use Rattle.ink_reader.proofs.reader.Reader.last_place.Goals as goal
 
 pub returns-in_default : goal.returns-in_default

@@ -3,7 +3,7 @@ use Rattle.std.proofs.lemmas.Result.{err_from_is_err_and}
 use Rattle.ink_reader.specs.Course.{places_of}
 use Rattle.ink_reader.specs.Deeds.{Asks, Says}
 use Rattle.ink_reader.specs.Session.{IsNext, IsOffer, Starts, declines}
-use Rattle.ink_reader.specs.Words.{Offer}
+use Rattle.ink_reader.specs.Notices.{Offer}
 use Rattle.ink_reader.proofs.Playing.{played-asks, played-lost, played-played, played-says, played-well, written}
 use Rattle.ink_reader.proofs.Sessions.{part-read, read-behind}
 use Rattle.ink_reader.proofs.reader.Reader.offer.Goals as goal

@@ -1,10 +1,10 @@
 use Rattle.std.proofs.Common.{◌∙◌, [], ◌∷◌, refl, subst, sym}
-use Rattle.ink_model.specs.Answer.{Refuses, Saves}
-use Rattle.ink_model.specs.Command as command
-use Rattle.ink_player.specs.Words.{state_of, story_of}
+use Rattle.ink_model.specs.Protocol.Answer.{Refuses, Saves}
+use Rattle.ink_model.specs.Protocol.Command as command
+use Rattle.ink_player.specs.Standing.{state_of, story_of}
 use Rattle.ink_reader.specs.Course.{SavesItself}
 use Rattle.ink_reader.specs.Deeds.{Gives, Says}
-use Rattle.ink_reader.specs.Words.{Refused}
+use Rattle.ink_reader.specs.Notices.{Refused}
 use Rattle.ink_reader.proofs.Courses.{ends-at, ends-none, up-whole}
 use Rattle.ink_reader.proofs.Keeping.{kept-saved}
 use Rattle.ink_reader.proofs.Playing.{played-hushed, played-none, played-played, played-says}

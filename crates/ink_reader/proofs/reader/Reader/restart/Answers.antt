@@ -1,7 +1,7 @@
 use Rattle.std.proofs.Common.{◌∙◌, [], ◌∷◌, sym}
 use Rattle.std.proofs.lemmas.Result.{err_from_is_err_and}
-use Rattle.ink_model.specs.Answer.{reply_of_events}
-use Rattle.ink_model.specs.Command as command
+use Rattle.ink_model.specs.Protocol.Answer.{reply_of_events}
+use Rattle.ink_model.specs.Protocol.Command as command
 use Rattle.ink_reader.specs.Course.{places_of}
 use Rattle.ink_reader.specs.Deeds.{Gives}
 use Rattle.ink_reader.proofs.Courses.{then-goes, then-goes-part, then-stays, up-part, up-whole}

@@ -1,4 +1,4 @@
-use Rattle.ink_model.specs.Answer.{reply_of_events}
+use Rattle.ink_model.specs.Protocol.Answer.{reply_of_events}
 use Rattle.ink_reader.proofs.Playing.{played-gives}
 use Rattle.ink_reader.proofs.reader.Reader.stand_at.Goals as goal
 

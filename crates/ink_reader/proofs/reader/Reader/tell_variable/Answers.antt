@@ -1,4 +1,4 @@
-use Rattle.ink_model.specs.Answer.{Refuses, Shows}
+use Rattle.ink_model.specs.Protocol.Answer.{Refuses, Shows}
 use Rattle.ink_reader.proofs.Playing.{played-gives}
 use Rattle.ink_reader.proofs.reader.Reader.tell_variable.Goals as goal
 

@@ -3,7 +3,7 @@ use Rattle.std.proofs.lemmas.Result.{IfOk-weaker}
 use Rattle.std.specs.List.{AllByRecursion, list_all}
 use Rattle.std.specs.declared.alloc.Global.{Global}
 use Rattle.std.specs.declared.vec.Vec.{Vec}
-use Rattle.ink_model.specs.Frames.{FrameOf, ThreadOf, map_frame, map_thread}
+use Rattle.ink_model.specs.Flow.Frames.{FrameOf, ThreadOf, map_frame, map_thread}
 use Rattle.ink_model.specs.declared.place.Part.{Part}
 use Rattle.ink_restore.specs.Building.{Builds, FirstAsks, FrameAsks, FrameBuilds, ThreadAsks, ThreadBuilds}
 use Rattle.ink_restore.proofs.Making.{built, never}

@@ -2,9 +2,9 @@ use Rattle.std.proofs.Common.{◌∙◌, ℕ, List, Some, ap, map, refl, subst, 
 use Rattle.std.specs.List.{AllByRecursion}
 use Rattle.std.specs.declared.alloc.Global.{Global}
 use Rattle.std.specs.declared.vec.Vec.{Vec}
-use Rattle.ink_model.specs.Bytes.{fits_text}
-use Rattle.ink_model.specs.Configuration.{ChoiceOf, map_choice}
-use Rattle.ink_model.specs.Frames.{map_thread}
+use Rattle.ink_model.specs.Text.Bytes.{fits_text}
+use Rattle.ink_model.specs.Run.Configuration.{ChoiceOf, map_choice}
+use Rattle.ink_model.specs.Flow.Frames.{map_thread}
 use Rattle.ink_model.specs.Save.Sound.{ChoiceFits, ThreadStands}
 use Rattle.ink_restore.specs.Building.{Builds, ChoiceAsks, ThreadAsks}
 use Rattle.ink_restore.proofs.Asking.{list_later, stands_asks}

@@ -2,7 +2,7 @@ use Rattle.std.proofs.Common.{◌∙◌, ap, inl, inr, map, refl, subst, sym}
 use Rattle.std.specs.List.{AllByRecursion, list_all}
 use Rattle.std.specs.declared.alloc.Global.{Global}
 use Rattle.std.specs.declared.vec.Vec.{Vec}
-use Rattle.ink_model.specs.Frames.{ThreadOf, map_thread, map_threads}
+use Rattle.ink_model.specs.Flow.Frames.{ThreadOf, map_thread, map_threads}
 use Rattle.ink_restore.specs.Building.{Builds, FirstAsks, ThreadAsks, ThreadBuilds, ThreadsAsk, flows, placed}
 use Rattle.ink_restore.proofs.Gathering.{below_refused, flow_refused, placed_refused, threads_built, top_refused}
 use Rattle.ink_restore.proofs.Making.{built, never}

@@ -1,5 +1,5 @@
 use Rattle.std.proofs.Common.{◌∙◌, ap, arith, length, sym}
-use Rattle.ink_model.specs.Frames.{is_function}
+use Rattle.ink_model.specs.Flow.Frames.{is_function}
 use Rattle.ink_stack.proofs.Flat.{framed_at, framed_length}
 use Rattle.ink_stack.proofs.frames.Frames.is_function.Goals as goal
 

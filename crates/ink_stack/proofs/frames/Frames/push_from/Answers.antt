@@ -1,7 +1,7 @@
 use Rattle.std.proofs.Common.{◌≡◌, ◌∙◌, ◌++◌, [], ◌∷◌, false, ap, arith, reverse, subst, sym}
 use Rattle.ink_stack.specs.Frames.{FitsIn, frame_with, framed, is_bare}
 use Rattle.ink_stack.proofs.Flat.{bare_none, framed_bare, framed_put, room_more, room_with, put_within}
-use Rattle.ink_model.specs.Frames.{FrameOf}
+use Rattle.ink_model.specs.Flow.Frames.{FrameOf}
 use Rattle.ink_stack.proofs.frames.Frames.push_from.Goals as goal
 
 pub push_reserved-requires : goal.push_reserved-requires

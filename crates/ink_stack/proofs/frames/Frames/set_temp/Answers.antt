@@ -2,7 +2,7 @@ use Rattle.std.proofs.Common.{rules, ◌≡◌, ◌∙◌, ◌<◌, ◌+◌, ◌
 use Rattle.std.proofs.lemmas.Bool.Decides.{nat_tests}
 use Rattle.std.proofs.lemmas.List.{length-append, length-replicate, set-get_or}
 use Rattle.std.proofs.lemmas.Result.{IfOk-weaker, err_from_is_err_and, on_err_weaker, on_ok_weaker}
-use Rattle.ink_model.specs.Rows.{name_order, row, with_row}
+use Rattle.ink_model.specs.Variables.Rows.{name_order, row, with_row}
 use Rattle.ink_stack.specs.Frames.{framed}
 use Rattle.ink_stack.specs.Temps.{text_of}
 use Rattle.ink_stack.proofs.Flat.{framed_length, rows_past, temps_at, temps_filled, temps_put, temps_restored, temps_were, filled_past}

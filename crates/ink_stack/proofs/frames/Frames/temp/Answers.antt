@@ -1,5 +1,5 @@
 use Rattle.std.proofs.Common.{◌∙◌, ap, arith, length, sym}
-use Rattle.ink_model.specs.Rows.{name_order, row}
+use Rattle.ink_model.specs.Variables.Rows.{name_order, row}
 use Rattle.ink_stack.proofs.Flat.{framed_length, rows_got, rows_past, temps_at}
 use Rattle.ink_stack.proofs.frames.Frames.temp.Goals as goal
 

@@ -1,8 +1,8 @@
 use Rattle.std.proofs.Common.{◌≡◌, ◌∙◌, ap, arith, length, refl, reverse, subst, sym}
 use Rattle.std.proofs.lemmas.Bool.{OnTrue_at}
 use Rattle.std.proofs.lemmas.List.{length-reverse}
-use Rattle.ink_model.specs.Bases.{BaseFirst}
-use Rattle.ink_model.specs.Threads.{stale_run}
+use Rattle.ink_model.specs.Flow.Bases.{BaseFirst}
+use Rattle.ink_model.specs.Flow.Threads.{stale_run}
 use Rattle.ink_stack.proofs.Bases.{base_same, base_stale, stale_kind}
 use Rattle.ink_stack.proofs.Quietness.{quiet_run}
 use Rattle.ink_stack.proofs.Runs.{length-run}

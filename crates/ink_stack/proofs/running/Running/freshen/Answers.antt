@@ -1,6 +1,6 @@
 use Rattle.std.proofs.Common.{◌≡◌, ◌+◌, ◌≤◌, true, ◌-◌, ap, arith, get_or, length, length-set, refl}
 use Rattle.std.proofs.lemmas.List.{length-reverse}
-use Rattle.ink_model.specs.Threads.{frame_count}
+use Rattle.ink_model.specs.Flow.Threads.{frame_count}
 use Rattle.ink_stack.specs.Cells.{with_fresh}
 use Rattle.ink_stack.proofs.Framing.{base_set, framed_below, framed_none}
 use Rattle.ink_stack.proofs.Unnumbered.{unnumbered_set}

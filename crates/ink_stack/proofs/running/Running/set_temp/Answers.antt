@@ -8,9 +8,9 @@ use Rattle.ink_stack.proofs.Framing.{base_set, unframed_below}
 use Rattle.ink_stack.proofs.Numbers.{memory_along, quiet_set, row_kept, row_made, set_either, temp_along, number_below, some_number}
 use Rattle.ink_stack.proofs.Unnumbered.{unnumbered_set}
 use Rattle.ink_stack.proofs.Tops.{back_top, memory_top, temp_top}
-use Rattle.ink_model.specs.Frames.{ThreadOf}
-use Rattle.ink_model.specs.Bases.{BaseFirst}
-use Rattle.ink_model.specs.Threads.{frame_count, with_row_in, with_temp}
+use Rattle.ink_model.specs.Flow.Frames.{ThreadOf}
+use Rattle.ink_model.specs.Flow.Bases.{BaseFirst}
+use Rattle.ink_model.specs.Flow.Threads.{frame_count, with_row_in, with_temp}
 use Rattle.ink_stack.specs.Quiet.{IsQuiet, is_unnumbered}
 use Rattle.ink_stack.proofs.running.Running.set_temp.Goals as goal
 

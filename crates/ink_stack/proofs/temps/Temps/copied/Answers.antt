@@ -1,6 +1,6 @@
 use Rattle.std.proofs.Common.{◌∙◌, ◌≤◌, length, subst, ap, sym}
 use Rattle.std.proofs.lemmas.List.{take_all}
-use Rattle.ink_model.specs.Rows.{name_order, rows_rise}
+use Rattle.ink_model.specs.Variables.Rows.{name_order, rows_rise}
 use Rattle.ink_stack.proofs.temps.Temps.copied.Goals as goal
 
 pub returns-clause-copy : goal.returns-clause-copy

@@ -1,5 +1,5 @@
 use Rattle.std.proofs.Common.{◌≡◌, ◌∙◌, ◌∷◌, ◌++◌, Ok, Err, Some, ap, drop, set, subst, sym, take, true}
-use Rattle.ink_model.specs.Rows.{name_order, rows_rise}
+use Rattle.ink_model.specs.Variables.Rows.{name_order, rows_rise}
 use Rattle.ink_stack.specs.Cells.{temps_back}
 use Rattle.ink_stack.specs.Rows.{FindsName}
 use Rattle.std.specs.List.{remove}

@@ -1,5 +1,5 @@
 use Rattle.std.proofs.Common.{◌≡◌, ◌∙◌, ◌<◌, ◌≤◌, arith, ap, length, set, subst, sym, true}
-use Rattle.ink_model.specs.Rows.{name_order, rows_rise}
+use Rattle.ink_model.specs.Variables.Rows.{name_order, rows_rise}
 use Rattle.ink_stack.specs.Cells.{value_at}
 use Rattle.ink_stack.proofs.Cells.{value_is, value_past, value_rises}
 use Rattle.ink_stack.proofs.temps.Temps.swap.Goals as goal

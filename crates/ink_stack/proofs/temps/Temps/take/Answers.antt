@@ -1,5 +1,5 @@
 use Rattle.std.proofs.Common.{◌≡◌, ◌≤◌, arith, length, subst, sym, true}
-use Rattle.ink_model.specs.Rows.{name_order, rows_rise}
+use Rattle.ink_model.specs.Variables.Rows.{name_order, rows_rise}
 use Rattle.ink_stack.proofs.Cells.{removed_past, removed_rises}
 use Rattle.ink_stack.proofs.temps.Temps.take.Goals as goal
 

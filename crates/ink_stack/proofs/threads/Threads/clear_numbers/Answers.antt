@@ -1,6 +1,6 @@
 use Rattle.std.proofs.Common.{◌≡◌, ◌∙◌, ap, arith, false, is_some, length, map, refl, vec_len}
 use Rattle.std.proofs.lemmas.List.{length-map, length-reverse, with_items_is}
-use Rattle.ink_model.specs.Frames.{unnumbered_thread}
+use Rattle.ink_model.specs.Flow.Frames.{unnumbered_thread}
 use Rattle.ink_trail.specs.Undo.{trail_of}
 use Rattle.ink_stack.specs.Running.{threads_in}
 use Rattle.ink_stack.specs.Undo.{threads_spare}

@@ -1,5 +1,5 @@
 use Rattle.std.proofs.Common.{arith, refl}
-use Rattle.ink_model.specs.Frames.{gone, on_top}
+use Rattle.ink_model.specs.Flow.Frames.{gone, on_top}
 use Rattle.ink_trail.proofs.Undoing.{notes-trails, trails-one}
 use Rattle.ink_stack.specs.Running.{threads_in}
 use Rattle.ink_stack.specs.Undo.{threads_back}

@@ -1,5 +1,5 @@
 use Rattle.std.proofs.Common.{◌∙◌, sym}
-use Rattle.ink_model.specs.Threads.{popped, top_result}
+use Rattle.ink_model.specs.Flow.Threads.{frame_popped, top_result}
 use Rattle.ink_stack.specs.Running.{threads_in}
 use Rattle.ink_stack.proofs.Bases.{top_changes}
 use Rattle.ink_stack.proofs.Holding.{held-moved}
@@ -13,8 +13,8 @@ invariant_of-self g c =
 pub returns : goal.returns
 returns g c =
     let ts = threads_in c.self.inside.running c.self.inside.below.items in
-    let rule = popped c.args.kind c.args.depth ts.thread in
-    let popped = c.pop_away-popped.result in
-    let threads = top_changes rule ts c.pop_away-popped.new.self.thread popped c.pop_away-popped.ensures.thread in
-    let trail = trails-changed 1 (top_result rule ts) ts _ popped c.self.inside.trail (sym c.is_marked.ensures ∙ c.if-is_marked.false) threads in
-    rw (← c.self.view_is) (record { threads = threads; trail = trail; stood = stood-or popped 1 _ _ trail; spare = spare-or popped 1 _ _ trail })
+    let rule = frame_popped c.args.kind c.args.depth ts.thread in
+    let frame_popped = c.pop_away-popped.result in
+    let threads = top_changes rule ts c.pop_away-popped.new.self.thread frame_popped c.pop_away-popped.ensures.thread in
+    let trail = trails-changed 1 (top_result rule ts) ts _ frame_popped c.self.inside.trail (sym c.is_marked.ensures ∙ c.if-is_marked.false) threads in
+    rw (← c.self.view_is) (record { threads = threads; trail = trail; stood = stood-or frame_popped 1 _ _ trail; spare = spare-or frame_popped 1 _ _ trail })

@@ -1,5 +1,5 @@
 use Rattle.std.proofs.Common.{◌≡◌, ◌∙◌, Err, Ok, ap, arith, refl, reverse}
-use Rattle.ink_model.specs.Threads.{popped}
+use Rattle.ink_model.specs.Flow.Threads.{frame_popped}
 use Rattle.ink_trail.proofs.Undoing.{trails-one}
 use Rattle.ink_stack.specs.Cells.{unpopped}
 use Rattle.ink_stack.specs.Running.{threads_in}
@@ -28,7 +28,7 @@ kept : (g : Over) (c : In-Err g) → threads_in c.pop-popped.new.self c.self.ins
 kept g c =
     let t = c.self.inside.running.thread in
     ap (λ u. record { thread = u; below = reverse c.self.inside.below.items })
-    (changed-kept (popped c.args.kind c.args.depth t) t c.pop-popped.new.self.thread c.pop-popped.result c.in-Err.fault c.in-Err.is c.pop-popped.ensures.thread)
+    (changed-kept (frame_popped c.args.kind c.args.depth t) t c.pop-popped.new.self.thread c.pop-popped.result c.in-Err.fault c.in-Err.is c.pop-popped.ensures.thread)
 
 pub invariant_of-self : goal.invariant_of-self
 invariant_of-self g c =
@@ -45,7 +45,7 @@ invariant_of-self-in-Err g c =
 pub returns-in-Err : goal.returns-in-Err
 returns-in-Err g c =
     let ts = threads_in c.self.inside.running c.self.inside.below.items in
-    let rule = popped c.args.kind c.args.depth ts.thread in
+    let rule = frame_popped c.args.kind c.args.depth ts.thread in
     let new = c.pop-popped.new.self.thread in
     let failed = changed-err Unit rule ts.thread new c.pop-popped.result c.in-Err.fault c.in-Err.is c.pop-popped.ensures.thread in
     let trail = as-it-was _ _ c.self.inside.trail (kept g c) in
@@ -56,7 +56,7 @@ pub returns : goal.returns
 returns g c =
     let ts = threads_in c.self.inside.running c.self.inside.below.items in
     let us = threads_in c.pop-popped.new.self c.self.inside.below.items in
-    let rule = popped c.args.kind c.args.depth ts.thread in
+    let rule = frame_popped c.args.kind c.args.depth ts.thread in
     let made = changed-ok rule ts.thread us.thread c.pop-popped.result c.in-Ok.frame tt c.in-Ok.is c.pop-popped.ensures.thread in
     let trail = trails-one threads_back (FramePopped c.in-Ok.frame) 1 ts us c.self.inside.trail c.note.new.self (omega arith) (back g c) c.note.ensures.undo c.note.ensures.room in
     rw (← c.self.view_is) (record { threads = top_changes rule ts us.thread (Ok tt) made; trail = trail; stood = stood-of 1 _ _ trail; spare = spare-of 1 _ _ trail })

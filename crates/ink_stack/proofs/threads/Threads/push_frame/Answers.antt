@@ -1,5 +1,5 @@
 use Rattle.std.proofs.Common.{◌∙◌, sym}
-use Rattle.ink_model.specs.Threads.{pushed, top_result}
+use Rattle.ink_model.specs.Flow.Threads.{frame_pushed, top_result}
 use Rattle.ink_stack.specs.Calls.{frame_kind}
 use Rattle.ink_stack.specs.Running.{threads_in}
 use Rattle.ink_stack.proofs.Bases.{top_grows}
@@ -14,8 +14,8 @@ invariant_of-self g c =
 pub returns : goal.returns
 returns g c =
     let ts = threads_in c.self.inside.running c.self.inside.below.items in
-    let rule = pushed (frame_kind c.args.kind) c.args.depth ts.thread in
-    let pushed = c.push-pushed.result in
-    let threads = top_grows rule ts c.push-pushed.new.self.thread pushed c.push-pushed.ensures.thread in
-    let trail = trails-grown 1 (top_result rule ts) ts _ pushed c.self.inside.trail (sym c.is_marked.ensures ∙ c.if-is_marked.false) threads in
-    rw (← c.self.view_is) (record { threads = threads; trail = trail; stood = stood-or pushed 1 _ _ trail; spare = spare-or pushed 1 _ _ trail })
+    let rule = frame_pushed (frame_kind c.args.kind) c.args.depth ts.thread in
+    let frame_pushed = c.push-pushed.result in
+    let threads = top_grows rule ts c.push-pushed.new.self.thread frame_pushed c.push-pushed.ensures.thread in
+    let trail = trails-grown 1 (top_result rule ts) ts _ frame_pushed c.self.inside.trail (sym c.is_marked.ensures ∙ c.if-is_marked.false) threads in
+    rw (← c.self.view_is) (record { threads = threads; trail = trail; stood = stood-or frame_pushed 1 _ _ trail; spare = spare-or frame_pushed 1 _ _ trail })

@@ -1,12 +1,12 @@
 use Rattle.std.proofs.Common.{◌≡◌, ◌∙◌, Err, ap, arith, refl, reverse, subst}
-use Rattle.ink_model.specs.Threads.{pushed, top_result}
+use Rattle.ink_model.specs.Flow.Threads.{frame_pushed, top_result}
 use Rattle.ink_model.specs.declared.fault.Fault.TheVariants.{OutOfMemory}
 use Rattle.ink_trail.proofs.Undoing.{trails-one}
 use Rattle.ink_stack.specs.Calls.{frame_kind}
 use Rattle.ink_stack.specs.Running.{threads_in}
 use Rattle.ink_stack.specs.Undo.{threads_back}
 use Rattle.ink_stack.specs.declared.undo.ThreadsPair.TheVariants.{FramePushed}
-use Rattle.ink_stack.specs.Words.{Grows}
+use Rattle.ink_stack.specs.Outcomes.{Grows}
 use Rattle.ink_stack.proofs.Backs.{as-it-was, but-for-room, grown-kept, grown-refused, spare-of, stood-of, stood-same, unpushed-grown}
 use Rattle.ink_stack.proofs.Bases.{top_grows}
 use Rattle.ink_stack.proofs.Holding.{held-as, held-noted, room-as}
@@ -19,7 +19,7 @@ kept : (g : Over) (c : In-Err g) → threads_in c.push-pushed.new.self c.self.in
 kept g c =
     let t = c.self.inside.running.thread in
     ap (λ u. record { thread = u; below = reverse c.self.inside.below.items })
-    (grown-kept (pushed (frame_kind c.args.kind) c.args.depth t) t c.push-pushed.new.self.thread c.push-pushed.result c.in-Err.fault c.in-Err.is c.push-pushed.ensures.thread)
+    (grown-kept (frame_pushed (frame_kind c.args.kind) c.args.depth t) t c.push-pushed.new.self.thread c.push-pushed.result c.in-Err.fault c.in-Err.is c.push-pushed.ensures.thread)
 
 pub invariant_of-self : goal.invariant_of-self
 invariant_of-self g c =
@@ -29,7 +29,7 @@ invariant_of-self g c =
 pub returns-in-Err : goal.returns-in-Err
 returns-in-Err g c =
     let ts = threads_in c.self.inside.running c.self.inside.below.items in
-    let threads = top_grows (pushed (frame_kind c.args.kind) c.args.depth ts.thread) ts c.push-pushed.new.self.thread c.push-pushed.result c.push-pushed.ensures.thread in
+    let threads = top_grows (frame_pushed (frame_kind c.args.kind) c.args.depth ts.thread) ts c.push-pushed.new.self.thread c.push-pushed.result c.push-pushed.ensures.thread in
     let trail = as-it-was _ _ c.self.inside.trail (kept g c) in
     rw (← c.self.view_is) (record { threads = rw (← c.in-Err.is) threads; trail = trail; stood = stood-same _ _ trail; spare = spare-or {A = Unit} (Err c.in-Err.fault) 1 _ _ trail })
 
@@ -51,7 +51,7 @@ invariant_of-self-in_default-add g c =
 pub returns-in_default-add : goal.returns-in_default-add
 returns-in_default-add g c =
     let ts = threads_in c.self.inside.running c.self.inside.below.items in
-    let rule = pushed (frame_kind c.args.kind) c.args.depth ts.thread in
+    let rule = frame_pushed (frame_kind c.args.kind) c.args.depth ts.thread in
     let same = unpushed_threads g c in
     let refused = grown-refused rule ts.thread c.push-pushed.new.self.thread c.unpush.new.self.thread c.push-pushed.result c.in_default.field-0 c.in_default.is (ap (λ us. us.thread) same) c.push-pushed.ensures.thread in
     let trail = but-for-room _ _ c.self.inside.trail c.add.new.self same c.in_default-add.ensures.err in
@@ -68,7 +68,7 @@ pub returns : goal.returns
 returns g c =
     let ts = threads_in c.self.inside.running c.self.inside.below.items in
     let us = threads_in c.push-pushed.new.self c.self.inside.below.items in
-    let rule = pushed (frame_kind c.args.kind) c.args.depth ts.thread in
+    let rule = frame_pushed (frame_kind c.args.kind) c.args.depth ts.thread in
     let threads = subst (λ x. Grows (top_result rule ts) ts us x) c.in_default.is (top_grows rule ts us.thread c.push-pushed.result c.push-pushed.ensures.thread) in
     let trail = trails-one threads_back FramePushed 1 ts us c.self.inside.trail c.add.new.self (omega arith) (back g (goal.at.returns g c).After-add) c.in-Ok.ensures.ok c.add.ensures.room in
     rw (← c.self.view_is) (record { threads = threads; trail = trail; stood = stood-of 1 _ _ trail; spare = spare-of 1 _ _ trail })

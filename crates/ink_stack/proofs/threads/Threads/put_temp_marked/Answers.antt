@@ -7,7 +7,7 @@ use Rattle.ink_stack.specs.declared.undo.ThreadsPair.TheVariants.{Temp}
 use Rattle.ink_stack.proofs.Backs.{but-for-room, few-of, spare-of, stood-of, stood-same}
 use Rattle.ink_stack.proofs.Holding.{held-as, held-noted, more-refl, rooms_at}
 use Rattle.ink_stack.proofs.Unmarked.{spare-or}
-use Rattle.ink_model.specs.Threads.{frame_count}
+use Rattle.ink_model.specs.Flow.Threads.{frame_count}
 use Rattle.ink_stack.proofs.threads.Threads.put_temp_marked.Goals as goal
 
 pub invariant_of-self : goal.invariant_of-self

@@ -1,6 +1,6 @@
 use Rattle.std.proofs.Common.{arith, refl, reverse, subst}
 use Rattle.std.proofs.lemmas.List.{reverse-reverse}
-use Rattle.ink_model.specs.Frames.{mode_in, on_top}
+use Rattle.ink_model.specs.Flow.Frames.{mode_in, on_top}
 use Rattle.ink_trail.proofs.Undoing.{notes-trails, trails-one}
 use Rattle.ink_trail.specs.Undo.{trail_of}
 use Rattle.ink_stack.specs.Running.{threads_in}

@@ -1,6 +1,6 @@
 use Rattle.std.proofs.Common.{arith, refl}
-use Rattle.ink_model.specs.Frames.{on_top}
-use Rattle.ink_model.specs.Threads.{number_in}
+use Rattle.ink_model.specs.Flow.Frames.{on_top}
+use Rattle.ink_model.specs.Flow.Threads.{number_in}
 use Rattle.ink_trail.proofs.Undoing.{trails-one}
 use Rattle.ink_stack.specs.Running.{threads_in}
 use Rattle.ink_stack.specs.Undo.{threads_back}

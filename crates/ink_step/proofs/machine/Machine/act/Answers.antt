@@ -1,17 +1,17 @@
 use Rattle.std.proofs.Common.{◌&&◌, ◌||◌, ◌∙◌, ◌≡◌, Err, Ok, ap, is_some, option_map, rules, subst, sym, true}
-use Rattle.ink_check.specs.Words.{story_tree}
-use Rattle.ink_model.specs.Asks.{acting_asks}
-use Rattle.ink_model.specs.Effect.{context_of, fields_of}
-use Rattle.ink_model.specs.Memory.{content_asks}
-use Rattle.ink_model.specs.Choosing.{following_asks}
-use Rattle.ink_model.specs.Move.{move}
-use Rattle.ink_model.specs.MoveMemory.{move_asks}
-use Rattle.ink_model.specs.Step.{acted, effect}
-use Rattle.ink_model.specs.Tree.{leaf}
+use Rattle.ink_check.specs.Standing.{story_tree}
+use Rattle.ink_model.specs.Memory.Asks.{acting_asks}
+use Rattle.ink_model.specs.Run.Effect.{context_of, fields_of}
+use Rattle.ink_model.specs.Memory.Refusals.{content_asks}
+use Rattle.ink_model.specs.Choices.Choosing.{following_asks}
+use Rattle.ink_model.specs.Run.Move.{move}
+use Rattle.ink_model.specs.Memory.Moves.{move_asks}
+use Rattle.ink_model.specs.Run.Step.{acted, effect}
+use Rattle.ink_model.specs.Story.Tree.{leaf}
 use Rattle.ink_step.specs.Marks.{Stood, keeps_mark, pressed, stood_of, takes_there}
 use Rattle.ink_step.specs.Steps.{StepEnds}
 use Rattle.ink_moves.specs.declared.flow.StepEnd.TheVariants as ends
-use Rattle.ink_step.specs.Words.{config_of}
+use Rattle.ink_step.specs.Standing.{config_of}
 use Rattle.ink_effects.specs.Performs.{AsksToStore, Performs}
 use Rattle.ink_step.proofs.Finished.{finished}
 use Rattle.ink_effects.proofs.Bools.{or_first}

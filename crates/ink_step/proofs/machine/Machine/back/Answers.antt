@@ -1,5 +1,5 @@
 use Rattle.std.proofs.Common.{◌∙◌, ap, refl}
-use Rattle.ink_step.specs.Words.{start_of, aside_in}
+use Rattle.ink_step.specs.Standing.{start_of, aside_in}
 use Rattle.ink_step.proofs.Backs.{OwnAlone, few_pairs, own_goes_back, pairs_from, as_roomy, room_with}
 use Rattle.ink_step.proofs.machine.Machine.back.Goals as goal
 

@@ -1,17 +1,17 @@
 use Rattle.std.proofs.Common.{◌≡◌, ◌∙◌, ◌⊎◌, ◌*◌, ◌||◌, Bool, List, Option, length, ap, refl, rules, subst, sym, true, false, is_some, slice_get, option_map, MatchOption, Some, None, Ok, Err, unwrap_or, arith}
-use Rattle.ink_check.specs.Words.{story_tree}
+use Rattle.ink_check.specs.Standing.{story_tree}
 use Rattle.ink_choice.specs.Undo.{choices_stood}
-use Rattle.ink_choice.specs.Words.{Takes}
-use Rattle.ink_model.specs.Choices.{taken, visible}
-use Rattle.ink_model.specs.Choosing.{open_choice, taken_up}
-use Rattle.ink_model.specs.Configuration.{ChoiceOf, can_go_on, map_choice}
-use Rattle.ink_model.specs.Entered.{entered_places}
-use Rattle.ink_model.specs.Tree.{StoryTree}
-use Rattle.ink_model.specs.Visits.{adds_rows, all_visited}
+use Rattle.ink_choice.specs.Outcomes.{Takes}
+use Rattle.ink_model.specs.Choices.Making.{choice_gone, visible}
+use Rattle.ink_model.specs.Choices.Choosing.{open_choice, taken_up}
+use Rattle.ink_model.specs.Run.Configuration.{ChoiceOf, can_go_on, map_choice}
+use Rattle.ink_model.specs.Run.Entered.{entered_places}
+use Rattle.ink_model.specs.Story.Tree.{StoryTree}
+use Rattle.ink_model.specs.Run.Visits.{adds_rows, all_visited}
 use Rattle.ink_model.specs.declared.place.Part.{Part}
 use Rattle.ink_step.specs.Marks.{choices_lack, choosing_lacks, counts_lack, entered_by, lacks, own_lacks, stood_of, threads_lack, turn_lacks}
 use Rattle.ink_step.specs.Steps.{Chooses}
-use Rattle.ink_step.specs.Words.{config_of, counts_in}
+use Rattle.ink_step.specs.Standing.{config_of, counts_in}
 use Rattle.ink_step.specs.declared.machine.Machine.{Machine}
 use Rattle.ink_step.proofs.Chosen.{asks_or_lacks, chooses_none, chooses_one, chooses_short, chosen_lands, open_alike, takes_any, takes_visible, turn_short}
 use Rattle.ink_effects.proofs.Bools.{or_first, or_more}
@@ -124,7 +124,7 @@ returns-in-Ok-Some-clause-chooses c =
     let cs = c.make_choosing_room.new.self.flow.choices.items in
     let some = open_alike (place_of s) machine.flow.choices.items c.args.number (Some x) c.in-Some.ensures in
     let still = still_there at.After-enter_landed in
-    let takes = subst (λ o. Takes (taken c.args.number cs) cs c.take.new.self.items (Ok o)) c.in-Ok-Some.field-0-is c.in-Ok-Some.ensures.items in
+    let takes = subst (λ o. Takes (choice_gone c.args.number cs) cs c.take.new.self.items (Ok o)) c.in-Ok-Some.field-0-is c.in-Ok-Some.ensures.items in
     let same : y ≡ x = ap (λ o. unwrap_or o x) (takes_visible c.args.number cs c.take.new.self.items x y still takes ∙ sym still) in
     let mid = config_of s c.make_choosing_room.new.self in
     let counts = counts_in s c.enter_landed.new.counts.rows in
@@ -137,7 +137,7 @@ returns-in-Ok-Some-clause-chooses c =
 pub returns-in-Ok-None-clause-chooses : goal.returns-in-Ok-None-clause-chooses
 returns-in-Ok-None-clause-chooses c =
     let cs = c.make_choosing_room.new.self.flow.choices.items in
-    let takes = subst (λ o. Takes (taken c.args.number cs) cs c.take.new.self.items (Ok o)) c.in-Ok-None.field-0-is c.in-Ok-None.ensures.items in
+    let takes = subst (λ o. Takes (choice_gone c.args.number cs) cs c.take.new.self.items (Ok o)) c.in-Ok-None.field-0-is c.in-Ok-None.ensures.items in
     absurd (takes_any c.args.number cs c.take.new.self.items c.in-Some.choice.now (still_there (goal.at.returns-in-Ok-None-clause-chooses c).After-enter_landed) takes)
 
 -- ---- what stays
@@ -154,8 +154,8 @@ returns-in-Ok-Some-clause-aside c = c.take_up_next-in-Ok-Some.ensures.aside ∙ 
 pub returns-in-Ok-Some-clause-mark : goal.returns-in-Ok-Some-clause-mark
 returns-in-Ok-Some-clause-mark c =
     let counted = ap (λ o. record (stood_of c.make_choosing_room.new.self) { counts = o }) c.in-Ok.ensures.mark in
-    let taken = ap (λ o. record (stood_of c.make_choosing_room.new.self) { choices = o; counts = counts_stood c.enter_landed.new.counts }) c.in-Ok-Some.ensures.stood in
-    c.take_up_next-in-Ok-Some.ensures.mark ∙ taken ∙ counted ∙ c.make_choosing_room.ensures.mark
+    let choice_gone = ap (λ o. record (stood_of c.make_choosing_room.new.self) { choices = o; counts = counts_stood c.enter_landed.new.counts }) c.in-Ok-Some.ensures.stood in
+    c.take_up_next-in-Ok-Some.ensures.mark ∙ choice_gone ∙ counted ∙ c.make_choosing_room.ensures.mark
 
 pub returns-in-Err-clause-mark : goal.returns-in-Err-clause-mark
 returns-in-Err-clause-mark c = ap (λ o. record (stood_of c.make_choosing_room.new.self) { counts = o }) c.in-Err.ensures.mark ∙ c.make_choosing_room.ensures.mark
@@ -175,8 +175,8 @@ returns-in-Ok-None-clause-aside c = c.make_choosing_room.ensures.aside
 pub returns-in-Ok-None-clause-mark : goal.returns-in-Ok-None-clause-mark
 returns-in-Ok-None-clause-mark c =
     let counted = ap (λ o. record (stood_of c.make_choosing_room.new.self) { counts = o }) c.in-Ok.ensures.mark in
-    let taken = ap (λ o. record (stood_of c.make_choosing_room.new.self) { choices = o; counts = counts_stood c.enter_landed.new.counts }) c.in-Ok-None.ensures.stood in
-    taken ∙ counted ∙ c.make_choosing_room.ensures.mark
+    let choice_gone = ap (λ o. record (stood_of c.make_choosing_room.new.self) { choices = o; counts = counts_stood c.enter_landed.new.counts }) c.in-Ok-None.ensures.stood in
+    choice_gone ∙ counted ∙ c.make_choosing_room.ensures.mark
 
 pub returns-in-Err-take-clause-start : goal.returns-in-Err-take-clause-start
 returns-in-Err-take-clause-start c = c.make_choosing_room.ensures.start
@@ -187,8 +187,8 @@ returns-in-Err-take-clause-aside c = c.make_choosing_room.ensures.aside
 pub returns-in-Err-take-clause-mark : goal.returns-in-Err-take-clause-mark
 returns-in-Err-take-clause-mark c =
     let counted = ap (λ o. record (stood_of c.make_choosing_room.new.self) { counts = o }) c.in-Ok.ensures.mark in
-    let taken = ap (λ o. record (stood_of c.make_choosing_room.new.self) { choices = o; counts = counts_stood c.enter_landed.new.counts }) c.in-Err-take.ensures.stood in
-    taken ∙ counted ∙ c.make_choosing_room.ensures.mark
+    let choice_gone = ap (λ o. record (stood_of c.make_choosing_room.new.self) { choices = o; counts = counts_stood c.enter_landed.new.counts }) c.in-Err-take.ensures.stood in
+    choice_gone ∙ counted ∙ c.make_choosing_room.ensures.mark
 
 pub returns-in-Err-clause-start : goal.returns-in-Err-clause-start
 returns-in-Err-clause-start c = c.make_choosing_room.ensures.start

@@ -1,6 +1,6 @@
 use Rattle.std.proofs.Common.{◌∙◌, ap}
-use Rattle.ink_model.specs.Flows.{Game, first_flow, with_flows}
-use Rattle.ink_step.specs.Words.{aside_of, config_of, game_of}
+use Rattle.ink_model.specs.Run.Flows.{Game, first_flow, with_flows}
+use Rattle.ink_step.specs.Standing.{aside_of, config_of, game_of}
 use Rattle.ink_step.specs.declared.machine.Machine.{Machine}
 use Rattle.ink_step.proofs.machine.Machine.drop_flow.Goals as goal
 

@@ -1,5 +1,5 @@
 use Rattle.std.proofs.Common.{subst, sym}
-use Rattle.ink_check.specs.Words.{story_tree}
+use Rattle.ink_check.specs.Standing.{story_tree}
 use Rattle.ink_step.specs.Finishes.{Finishes}
 use Rattle.ink_step.proofs.machine.Machine.finish.Goals as goal
 

@@ -1,8 +1,8 @@
 use Rattle.std.proofs.Common.{◌∙◌, ap, is_none, OnErr, Result, Ok, Err}
 use Rattle.std.specs.Option.{option_map}
-use Rattle.ink_check.specs.Words.{story_tree}
+use Rattle.ink_check.specs.Standing.{story_tree}
 use Rattle.ink_flows.proofs.Mapped.{at_seen}
-use Rattle.ink_step.specs.Words.{flow_of}
+use Rattle.ink_step.specs.Standing.{flow_of}
 use Rattle.ink_step.proofs.machine.Machine.flow.Goals as goal
 
 whatever : {A E : Type 0} (r : Result A E) (X : Type 0) → X → OnErr r X

@@ -1,6 +1,6 @@
 use Rattle.std.proofs.Common.{◌∙◌, sym}
 use Rattle.ink_flows.proofs.Mapped.{length_seen}
-use Rattle.ink_step.specs.Words.{flow_of}
+use Rattle.ink_step.specs.Standing.{flow_of}
 use Rattle.ink_step.proofs.machine.Machine.flow_count.Goals as goal
 
 pub returns : goal.returns

@@ -1,14 +1,14 @@
 use Rattle.std.proofs.Common.{[], ◌||◌, ◌∙◌, ◌≡◌, ◌≤◌, Bool, Err, None, Ok, Result, ap, arith, false, refl, rules, subst, sym, true}
-use Rattle.ink_check.specs.Words.{story_tree}
-use Rattle.ink_model.specs.Configuration.{ended, with_safe, with_threads}
-use Rattle.ink_model.specs.Effect.{Effect, fields_of}
-use Rattle.ink_model.specs.Flow.{Written, done, forked, halt, moved_on}
-use Rattle.ink_model.specs.Frames.{base_threads, map_threads}
-use Rattle.ink_model.specs.Move.{going, move, reached_in, written_in}
-use Rattle.ink_model.specs.MoveMemory.{dropped_asks, forked_asks, move_asks, moved_asks}
-use Rattle.ink_model.specs.Place.{next_place}
-use Rattle.ink_model.specs.Threads.{dropped}
-use Rattle.ink_model.specs.Tree.{StoryTree}
+use Rattle.ink_check.specs.Standing.{story_tree}
+use Rattle.ink_model.specs.Run.Configuration.{ended, with_safe, with_threads}
+use Rattle.ink_model.specs.Run.Effect.{Effect, fields_of}
+use Rattle.ink_model.specs.Flow.Transfers.{Written, done, forked, halt, moved_on}
+use Rattle.ink_model.specs.Flow.Frames.{base_threads, map_threads}
+use Rattle.ink_model.specs.Run.Move.{going, move, reached_in, written_in}
+use Rattle.ink_model.specs.Memory.Moves.{dropped_asks, forked_asks, move_asks, moved_asks}
+use Rattle.ink_model.specs.Run.Place.{next_place}
+use Rattle.ink_model.specs.Flow.Threads.{dropped}
+use Rattle.ink_model.specs.Story.Tree.{StoryTree}
 use Rattle.ink_model.specs.declared.fault.Fault.{Fault}
 use Rattle.ink_model.specs.declared.fault.Fault.TheVariants.{OutOfMemory}
 use Rattle.ink_stack.specs.Undo.{threads_spare}
@@ -16,7 +16,7 @@ use Rattle.ink_step.specs.Marks.{pressed, stood_of}
 use Rattle.ink_effects.specs.Performs.{Performs, unstored}
 use Rattle.ink_moves.specs.Reaches.{ReachesAs, written}
 use Rattle.ink_step.specs.Steps.{StepEnds}
-use Rattle.ink_step.specs.Words.{aside_in, config_of, start_of}
+use Rattle.ink_step.specs.Standing.{aside_in, config_of, start_of}
 use Rattle.ink_moves.specs.declared.flow.StepEnd.{StepEnd}
 use Rattle.ink_step.specs.declared.machine.Machine.{Machine}
 use Rattle.ink_effects.proofs.Plain.{when_ok}

@@ -1,13 +1,13 @@
 use Rattle.std.proofs.Common.{◌≡◌, ◌∙◌, ◌||◌, Err, Ok, Some, ap, is_some, map, refl, rules, subst, sym, true}
-use Rattle.ink_check.specs.Words.{story_tree}
-use Rattle.ink_choice.specs.Words.{Takes}
-use Rattle.ink_model.specs.Choices.{only_invisible, taken}
-use Rattle.ink_model.specs.Choosing.{default_asks, default_choice, stopped_by}
-use Rattle.ink_model.specs.Configuration.{map_choice}
-use Rattle.ink_model.specs.Visits.{entering_around, entering_asks}
+use Rattle.ink_check.specs.Standing.{story_tree}
+use Rattle.ink_choice.specs.Outcomes.{Takes}
+use Rattle.ink_model.specs.Choices.Making.{only_invisible, choice_gone}
+use Rattle.ink_model.specs.Choices.Choosing.{default_asks, default_choice, stopped_by}
+use Rattle.ink_model.specs.Run.Configuration.{map_choice}
+use Rattle.ink_model.specs.Run.Visits.{entering_around, entering_asks}
 use Rattle.ink_step.specs.Marks.{landing_lacks, pressed, stood_of}
 use Rattle.ink_step.specs.Steps.{StepEnds}
-use Rattle.ink_step.specs.Words.{config_of}
+use Rattle.ink_step.specs.Standing.{config_of}
 use Rattle.ink_step.proofs.Marks.{pressed_choices, pressed_default, pressed_landing}
 use Rattle.ink_step.proofs.Chosen.{follows_default, is_default, no_default, short_of_default, short_pressed, stays_stopped, takes_none}
 use Rattle.ink_step.proofs.Follows.{or_where}
@@ -20,7 +20,7 @@ is_first : (c : In-Some) → let s = story_tree c.args.story.now in default_choi
 is_first c =
     let cs = c.args.self.now.flow.choices.items in
     is_default (place_of (story_tree c.args.story.now)) cs c.take.new.self.items c.in-Some.choice (sym c.only_invisible.ensures ∙ c.if-not-only_invisible.false)
-    (subst (λ o. Takes (taken 0 cs) cs c.take.new.self.items (Ok o)) c.in-Some.is c.in_ok-choice.ensures.items)
+    (subst (λ o. Takes (choice_gone 0 cs) cs c.take.new.self.items (Ok o)) c.in-Some.is c.in_ok-choice.ensures.items)
 
 pub returns-then-not-only_invisible-clause-ends : goal.returns-then-not-only_invisible-clause-ends
 returns-then-not-only_invisible-clause-ends c =
@@ -36,7 +36,7 @@ returns-in_err-choice-clause-ends c =
     let cs = machine.flow.choices.items in
     let left = record machine { flow = record machine.flow { choices = c.take.new.self } } in
     let f = c.in_err-choice.field-0.0 in
-    let kept = takes_none (taken 0 cs) cs c.take.new.self.items f c.in_err-choice.ensures.items in
+    let kept = takes_none (choice_gone 0 cs) cs c.take.new.self.items f c.in_err-choice.ensures.items in
     let all = ap only_invisible kept.1 ∙ sym c.only_invisible.ensures ∙ c.if-not-only_invisible.false in
     let pressing = pressed_default s left (ap is_some c.in_err-choice.ensures.stood ∙ c.in_err-choice.ensures.memory) all in
     let is : c.from_residual.result ≡ Err f = search rules in

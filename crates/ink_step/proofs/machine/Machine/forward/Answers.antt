@@ -1,11 +1,11 @@
 use Rattle.std.proofs.Common.{subst, sym, Ok}
-use Rattle.ink_check.specs.Words.{story_tree}
+use Rattle.ink_check.specs.Standing.{story_tree}
 use Rattle.ink_host.specs.Desk.{bound_by}
-use Rattle.ink_model.specs.Asks.{asks}
-use Rattle.ink_model.specs.Step.{step}
+use Rattle.ink_model.specs.Memory.Asks.{asks}
+use Rattle.ink_model.specs.Run.Step.{step}
 use Rattle.ink_step.specs.Marks.{presses}
-use Rattle.ink_step.specs.Steps.{StepMakes, ended}
-use Rattle.ink_step.specs.Words.{config_of}
+use Rattle.ink_step.specs.Steps.{StepMakes, step_end}
+use Rattle.ink_step.specs.Standing.{config_of}
 use Rattle.ink_step.proofs.Makes.{makes_went}
 use Rattle.ink_step.proofs.machine.Machine.forward.Goals as goal
 
@@ -19,6 +19,6 @@ returns-in-Ok-clause-step g c =
     let h = c.in-Ok.ensures.step in (
       h.0,
       h.1,
-      subst (λ on. StepMakes s b desk.next (presses s c.args.self.now left) (asks s b before) (step s b before) h.0 before.shared.globals (config_of s left) (ended (Ok on))) (sym c.went.ensures)
+      subst (λ on. StepMakes s b desk.next (presses s c.args.self.now left) (asks s b before) (step s b before) h.0 before.shared.globals (config_of s left) (step_end (Ok on))) (sym c.went.ensures)
           (makes_went s b desk.next (presses s c.args.self.now left) h.0 before.shared.globals (config_of s left) (asks s b before) (step s b before) c.in-Ok.end h.2),
     )

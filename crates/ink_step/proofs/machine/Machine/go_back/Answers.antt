@@ -1,16 +1,16 @@
 use Rattle.std.proofs.Common.{◌&&◌, ◌||◌, ◌∙◌, ◌≡◌, Err, Ok, cond, option_map, refl, rules, subst, sym, true}
-use Rattle.ink_check.specs.Words.{story_tree}
-use Rattle.ink_model.specs.Flow.{returned}
-use Rattle.ink_model.specs.Frames.{map_threads}
-use Rattle.ink_model.specs.Move.{landing, may_enter, place_to, written_in}
-use Rattle.ink_model.specs.MoveMemory.{landed_asks, returned_asks}
-use Rattle.ink_model.specs.Place.{next_place}
+use Rattle.ink_check.specs.Standing.{story_tree}
+use Rattle.ink_model.specs.Flow.Transfers.{returned}
+use Rattle.ink_model.specs.Flow.Frames.{map_threads}
+use Rattle.ink_model.specs.Run.Move.{landing_outcome, may_enter, place_to, written_in}
+use Rattle.ink_model.specs.Memory.Moves.{landed_asks, returned_asks}
+use Rattle.ink_model.specs.Run.Place.{next_place}
 use Rattle.ink_step.specs.Marks.{landing_lacks, pressed, stood_of}
 use Rattle.ink_effects.specs.Performs.{landing_of}
 use Rattle.ink_moves.specs.Reaches.{ReachesAs, written}
 use Rattle.ink_step.specs.Steps.{StepEnds}
-use Rattle.ink_step.specs.Words.{config_of, counts_in}
-use Rattle.ink_model.specs.Visits.{adds_rows, around, entering_around}
+use Rattle.ink_step.specs.Standing.{config_of, counts_in}
+use Rattle.ink_model.specs.Run.Visits.{adds_rows, around, entering_around}
 use Rattle.ink_step.proofs.Marks.{pressed_landing}
 use Rattle.ink_step.proofs.Follows.{or_where}
 use Rattle.ink_step.proofs.Landed.{lands, lands_broken, lands_short, returned_lands}
@@ -24,7 +24,7 @@ returns-in_err-end-clause-ends c =
     let old = config_of s machine in
     let kind = c.args.kind in
     let goal = option_map (landing_of s) c.args.to in
-    let back = c.give_back.new in
+    let back = c.return_frame.new in
     let left = record machine { flow = record machine.flow { threads = back.threads; stack = back.stack }; output = back.output } in
     let new = config_of s left in
     let ts = map_threads (place_of s) back.threads.threads in
@@ -38,7 +38,7 @@ returns-in_err-end-clause-ends c =
     let is : c.from_residual.result ≡ Err f = search rules in
     subst (λ r. StepEnds (pressed s left || (returned_asks (next_place s) kind (place_to goal) old.flow.threads (written_in old)
     || landed_asks s (may_enter goal) old.shared.counts (returned (next_place s) kind (place_to goal) old.flow.threads (written_in old))))
-    (landing s (may_enter goal) (returned (next_place s) kind (place_to goal)) old) machine.shared.globals.rows new r) (sym is)
+    (landing_outcome s (may_enter goal) (returned (next_place s) kind (place_to goal)) old) machine.shared.globals.rows new r) (sym is)
     (lands_broken s _ _ old new machine.shared.globals.rows ts w f refl (may_enter goal) _ reached)
 
 pub returns-in_err-enter_around-clause-ends : goal.returns-in_err-enter_around-clause-ends
@@ -48,7 +48,7 @@ returns-in_err-enter_around-clause-ends c =
     let old = config_of s machine in
     let kind = c.args.kind in
     let goal = option_map (landing_of s) c.args.to in
-    let back = c.give_back.new in
+    let back = c.return_frame.new in
     let mid = record machine { flow = record machine.flow { threads = back.threads; stack = back.stack }; output = back.output } in
     let left = c.enter_around.new.self in
     let new = config_of s left in
@@ -68,7 +68,7 @@ returns-in_err-enter_around-clause-ends c =
     let is : c.from_residual-in_err-enter_around.result ≡ Err f = search rules in
     subst (λ r. StepEnds (pressed s left || (returned_asks (next_place s) kind (place_to goal) old.flow.threads (written_in old)
     || landed_asks s enters old.shared.counts (returned (next_place s) kind (place_to goal) old.flow.threads (written_in old))))
-    (landing s enters (returned (next_place s) kind (place_to goal)) old) machine.shared.globals.rows new r) (sym is)
+    (landing_outcome s enters (returned (next_place s) kind (place_to goal)) old) machine.shared.globals.rows new r) (sym is)
     (lands_short s (pressed s left) _ old new machine.shared.globals.rows ts w f short.globals enters _ end
     (returned_lands (next_place s) kind goal old.flow.threads (written_in old)) reached short.fault adds)
 
@@ -79,7 +79,7 @@ returns-clause-ends c =
     let old = config_of s machine in
     let kind = c.args.kind in
     let goal = option_map (landing_of s) c.args.to in
-    let back = c.give_back.new in
+    let back = c.return_frame.new in
     let mid = record machine { flow = record machine.flow { threads = back.threads; stack = back.stack }; output = back.output } in
     let after = c.enter_around.new.self in
     let ts = map_threads (place_of s) back.threads.threads in
@@ -108,9 +108,9 @@ returns-in_err-enter_around-clause-aside c = c.enter_around.ensures.aside
 pub returns-in_err-enter_around-clause-mark : goal.returns-in_err-enter_around-clause-mark
 returns-in_err-enter_around-clause-mark c =
     let machine = c.args.self.now in
-    let back = c.give_back.new in
+    let back = c.return_frame.new in
     let here : stood_of (record machine { flow = record machine.flow { threads = back.threads; stack = back.stack }; output = back.output }) ≡ stood_of machine =
-    rw (c.give_back.ensures.threads_mark, c.give_back.ensures.stack_mark, c.give_back.ensures.output_mark) refl in
+    rw (c.return_frame.ensures.threads_mark, c.return_frame.ensures.stack_mark, c.return_frame.ensures.output_mark) refl in
     c.enter_around.ensures.mark ∙ here
 
 pub returns-clause-globals : goal.returns-clause-globals
@@ -125,7 +125,7 @@ returns-clause-aside c = c.enter_around.ensures.aside
 pub returns-clause-mark : goal.returns-clause-mark
 returns-clause-mark c =
     let machine = c.args.self.now in
-    let back = c.give_back.new in
+    let back = c.return_frame.new in
     let here : stood_of (record machine { flow = record machine.flow { threads = back.threads; stack = back.stack }; output = back.output }) ≡ stood_of machine =
-    rw (c.give_back.ensures.threads_mark, c.give_back.ensures.stack_mark, c.give_back.ensures.output_mark) refl in
+    rw (c.return_frame.ensures.threads_mark, c.return_frame.ensures.stack_mark, c.return_frame.ensures.output_mark) refl in
     c.enter_around.ensures.mark ∙ here

@@ -1,16 +1,16 @@
 use Rattle.std.proofs.Common.{◌&&◌, ◌||◌, ◌∙◌, ◌≡◌, Err, cond, nat_lt, refl, rules, subst, sym, true}
-use Rattle.ink_check.specs.Words.{story_tree}
-use Rattle.ink_model.specs.Flow.{Written, called}
-use Rattle.ink_model.specs.Frames.{map_threads}
-use Rattle.ink_model.specs.Move.{landing, written_in}
-use Rattle.ink_model.specs.MoveMemory.{landed_asks}
-use Rattle.ink_model.specs.Threads.{frame_count}
-use Rattle.ink_model.specs.Visits.{adds_rows, around, entering_around}
+use Rattle.ink_check.specs.Standing.{story_tree}
+use Rattle.ink_model.specs.Flow.Transfers.{Written, called}
+use Rattle.ink_model.specs.Flow.Frames.{map_threads}
+use Rattle.ink_model.specs.Run.Move.{landing_outcome, written_in}
+use Rattle.ink_model.specs.Memory.Moves.{landed_asks}
+use Rattle.ink_model.specs.Flow.Threads.{frame_count}
+use Rattle.ink_model.specs.Run.Visits.{adds_rows, around, entering_around}
 use Rattle.ink_model.specs.declared.limits.TheConstants.{MAX_FRAMES}
 use Rattle.ink_stack.specs.Calls.{frame_kind}
 use Rattle.ink_step.specs.Marks.{landing_lacks, pressed, stood_of}
 use Rattle.ink_step.specs.Steps.{StepEnds}
-use Rattle.ink_step.specs.Words.{config_of, counts_in}
+use Rattle.ink_step.specs.Standing.{config_of, counts_in}
 use Rattle.ink_step.proofs.Marks.{pressed_landing}
 use Rattle.ink_step.proofs.Follows.{or_where}
 use Rattle.ink_step.proofs.Landed.{called_goes, lands, lands_broken, lands_short}
@@ -29,7 +29,7 @@ returns-in_err-end-clause-ends c =
     let w : Written = record { stack = machine.flow.stack.items; page = c.call.new.output.page } in
     let is : c.from_residual.result ≡ Err f = search rules in
     subst (λ r. StepEnds (pressed s left || (nat_lt (frame_count old.flow.threads.thread) MAX_FRAMES || landed_asks s to.enters old.shared.counts (called (frame_kind c.args.kind) (place_of s to.place) old.flow.threads (written_in old))))
-    (landing s to.enters (called (frame_kind c.args.kind) (place_of s to.place)) old) machine.shared.globals.rows new r) (sym is)
+    (landing_outcome s to.enters (called (frame_kind c.args.kind) (place_of s to.place)) old) machine.shared.globals.rows new r) (sym is)
     (lands_broken s (pressed s left) _ old new machine.shared.globals.rows (map_threads (place_of s) c.call.new.threads.threads) w f refl to.enters _ (c.in_err-end.ensures.flow s machine.flow.stack.items))
 
 pub returns-in_err-enter_around-clause-ends : goal.returns-in_err-enter_around-clause-ends
@@ -48,7 +48,7 @@ returns-in_err-enter_around-clause-ends c =
     let adds = or_where _ (pressed s left) _ (pressed_landing s left) (subst (λ t. (landing_lacks t left || (to.enters && adds_rows t (around t (map_threads (place_of t) called_threads)) (counts_in t machine.shared.counts.rows))) ≡ true) c.tree.ensures.tree short.memory) in
     let is : c.from_residual-in_err-enter_around.result ≡ Err f = search rules in
     subst (λ r. StepEnds (pressed s left || (nat_lt (frame_count old.flow.threads.thread) MAX_FRAMES || landed_asks s to.enters old.shared.counts (called (frame_kind c.args.kind) (place_of s to.place) old.flow.threads (written_in old))))
-    (landing s to.enters (called (frame_kind c.args.kind) (place_of s to.place)) old) machine.shared.globals.rows new r) (sym is)
+    (landing_outcome s to.enters (called (frame_kind c.args.kind) (place_of s to.place)) old) machine.shared.globals.rows new r) (sym is)
     (lands_short s (pressed s left) _ old new machine.shared.globals.rows (map_threads (place_of s) called_threads) w f short.globals to.enters _ c.in_ok-end.end
     (λ e. called_goes (frame_kind c.args.kind) (place_of s to.place) old.flow.threads (written_in old)) (c.in_ok-end.ensures.flow s machine.flow.stack.items) short.fault adds)
 

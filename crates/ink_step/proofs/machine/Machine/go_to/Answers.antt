@@ -1,13 +1,13 @@
 use Rattle.std.proofs.Common.{◌≡◌, ◌&&◌, ◌||◌, cond, false, rules, subst, sym, true, Err, ◌∙◌, ap}
-use Rattle.ink_check.specs.Words.{story_tree}
-use Rattle.ink_model.specs.Flow.{reach}
-use Rattle.ink_model.specs.Frames.{map_threads}
-use Rattle.ink_model.specs.Move.{landing, written_in}
-use Rattle.ink_model.specs.MoveMemory.{landed_asks}
-use Rattle.ink_model.specs.Visits.{adds_rows, around, entering_around}
+use Rattle.ink_check.specs.Standing.{story_tree}
+use Rattle.ink_model.specs.Flow.Transfers.{reach}
+use Rattle.ink_model.specs.Flow.Frames.{map_threads}
+use Rattle.ink_model.specs.Run.Move.{landing_outcome, written_in}
+use Rattle.ink_model.specs.Memory.Moves.{landed_asks}
+use Rattle.ink_model.specs.Run.Visits.{adds_rows, around, entering_around}
 use Rattle.ink_step.specs.Marks.{landing_lacks, pressed, stood_of}
 use Rattle.ink_step.specs.Steps.{StepEnds}
-use Rattle.ink_step.specs.Words.{config_of, counts_in}
+use Rattle.ink_step.specs.Standing.{config_of, counts_in}
 use Rattle.ink_step.proofs.Marks.{pressed_landing}
 use Rattle.ink_step.proofs.Follows.{or_where}
 use Rattle.ink_step.proofs.Landed.{lands, lands_short}
@@ -26,7 +26,7 @@ returns-in_err-enter_around-clause-ends c =
     let short = c.in_err-enter_around.ensures in
     let adds = or_where _ (pressed s left) _ (pressed_landing s left) (subst (λ t. (landing_lacks t left || (to.enters && adds_rows t (around t (map_threads (place_of t) threads)) (counts_in t machine.shared.counts.rows))) ≡ true) c.tree.ensures.tree short.memory) in
     let is : c.from_residual.result ≡ Err c.in_err-enter_around.field-0.0 = search rules in
-    subst (λ r. StepEnds (pressed s left || landed_asks s to.enters old.shared.counts (reach (place_of s to.place) old.flow.threads (written_in old))) (landing s to.enters (reach (place_of s to.place)) old) machine.shared.globals.rows new r) (sym is)
+    subst (λ r. StepEnds (pressed s left || landed_asks s to.enters old.shared.counts (reach (place_of s to.place) old.flow.threads (written_in old))) (landing_outcome s to.enters (reach (place_of s to.place)) old) machine.shared.globals.rows new r) (sym is)
     (lands_short s (pressed s left) false old new machine.shared.globals.rows (map_threads (place_of s) threads) (written_in old) c.in_err-enter_around.field-0.0 short.globals to.enters _ c.land-end.result (λ e. tt)
     (c.land-end.ensures.flow s (written_in old)) short.fault adds)
 

@@ -1,6 +1,6 @@
 use Rattle.std.proofs.Common.{◌∙◌, sym}
 use Rattle.ink_flows.proofs.Mapped.{there_seen}
-use Rattle.ink_step.specs.Words.{flow_of}
+use Rattle.ink_step.specs.Standing.{flow_of}
 use Rattle.ink_step.proofs.machine.Machine.has_flow.Goals as goal
 
 pub returns : goal.returns

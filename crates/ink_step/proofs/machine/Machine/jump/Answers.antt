@@ -1,12 +1,12 @@
 use Rattle.std.proofs.Common.{◌≡◌, ◌∙◌, ◌⊎◌, ◌*◌, ◌||◌, length, ap, subst, true, false, map, None, Some, ◌≤◌, arith, is_err, sym, Result, Ok, Err, OnOk}
-use Rattle.ink_check.specs.Words.{story_tree}
-use Rattle.ink_model.specs.Configuration.{Configuration, map_choice}
-use Rattle.ink_model.specs.Entered.{entered_places}
-use Rattle.ink_model.specs.Frames.{map_threads, on_top, put_in}
-use Rattle.ink_model.specs.Visits.{adds_rows, all_visited}
+use Rattle.ink_check.specs.Standing.{story_tree}
+use Rattle.ink_model.specs.Run.Configuration.{Configuration, map_choice}
+use Rattle.ink_model.specs.Run.Entered.{entered_places}
+use Rattle.ink_model.specs.Flow.Frames.{map_threads, on_top, put_in}
+use Rattle.ink_model.specs.Run.Visits.{adds_rows, all_visited}
 use Rattle.ink_stack.specs.Undo.{threads_stood, threads_spare}
 use Rattle.ink_step.specs.Marks.{choices_lack, counts_lack, lacks, own_lacks, stood_of, threads_lack, turn_lacks, own_spare}
-use Rattle.ink_step.specs.Words.{config_of, counts_in, aside_in}
+use Rattle.ink_step.specs.Standing.{config_of, counts_in, aside_in}
 use Rattle.ink_step.proofs.Chosen.{asks_or_lacks, jump_lands, jumped_in}
 use Rattle.ink_choice.specs.Undo.{choices_spare}
 use Rattle.ink_step.proofs.machine.Machine.jump.Goals.{Else-is_err}

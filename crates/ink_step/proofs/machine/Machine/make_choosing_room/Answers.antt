@@ -1,5 +1,5 @@
 use Rattle.std.proofs.Common.{◌∙◌, ap, refl}
-use Rattle.ink_step.specs.Words.{aside_in, config_of}
+use Rattle.ink_step.specs.Standing.{aside_in, config_of}
 use Rattle.ink_step.specs.declared.machine.Machine.{Machine}
 use Rattle.ink_step.proofs.machine.Machine.make_choosing_room.Goals as goal
 

@@ -1,8 +1,8 @@
 use Rattle.std.proofs.Common.{◌∙◌, ap, option_map, subst, sym}
-use Rattle.ink_check.specs.Words.{story_tree}
-use Rattle.ink_model.specs.Configuration.{start}
+use Rattle.ink_check.specs.Standing.{story_tree}
+use Rattle.ink_model.specs.Run.Configuration.{start}
 use Rattle.ink_step.specs.Steps.{FailsToOpen}
-use Rattle.ink_step.specs.Words.{config_of}
+use Rattle.ink_step.specs.Standing.{config_of}
 use Rattle.ink_step.proofs.Openings.{first_of, opens_plainly, opens, fails}
 use Rattle.ink_step.proofs.machine.Machine.open.Goals as goal
 use Rattle.ink_tree.specs.Nodes.{place_of}

@@ -1,15 +1,15 @@
 use Rattle.std.proofs.Common.{◌≡◌, ◌&&◌, ◌||◌, ap, option_map, rules, subst, sym, Some, Result, Err, ◌∙◌}
-use Rattle.ink_check.specs.Words.{story_tree}
-use Rattle.ink_model.specs.Asks.{acting_asks, asks, content_asks}
-use Rattle.ink_model.specs.Configuration.{Configuration}
-use Rattle.ink_model.specs.Effect.{context_of, fields_of}
-use Rattle.ink_model.specs.Host.{Bound}
-use Rattle.ink_model.specs.Step.{acted, effect, step}
-use Rattle.ink_model.specs.Tree.{leaf}
+use Rattle.ink_check.specs.Standing.{story_tree}
+use Rattle.ink_model.specs.Memory.Asks.{acting_asks, asks, content_asks}
+use Rattle.ink_model.specs.Run.Configuration.{Configuration}
+use Rattle.ink_model.specs.Run.Effect.{context_of, fields_of}
+use Rattle.ink_model.specs.Host.Bindings.{Bound}
+use Rattle.ink_model.specs.Run.Step.{acted, effect, step}
+use Rattle.ink_model.specs.Story.Tree.{leaf}
 use Rattle.ink_model.specs.declared.fault.Fault.{Fault}
 use Rattle.ink_step.specs.Marks.{Stood, keeps_mark, pressed, presses, stood_of, takes_there}
 use Rattle.ink_step.specs.Steps.{EndsPlainly, StepEnds}
-use Rattle.ink_step.specs.Words.{config_of, start_of, aside_in}
+use Rattle.ink_step.specs.Standing.{config_of, start_of, aside_in}
 use Rattle.ink_moves.specs.declared.flow.StepEnd.{StepEnd}
 use Rattle.ink_step.specs.declared.machine.Machine.{Machine}
 use Rattle.ink_step.proofs.Finished.{not_external, passed, takes_here}

@@ -1,12 +1,12 @@
 use Rattle.std.proofs.Common.{◌≡◌, ◌&&◌, ◌||◌, OnOk, Some, ap, is_some, option_map, refl, subst, sym, ◌∙◌}
-use Rattle.ink_check.specs.Words.{story_tree}
-use Rattle.ink_model.specs.Effect.{context_of, fields_of, Moves}
-use Rattle.ink_model.specs.Memory.{content_asks}
-use Rattle.ink_model.specs.Step.{effect}
-use Rattle.ink_model.specs.Tree.{leaf, at}
+use Rattle.ink_check.specs.Standing.{story_tree}
+use Rattle.ink_model.specs.Run.Effect.{context_of, fields_of, Moves}
+use Rattle.ink_model.specs.Memory.Refusals.{content_asks}
+use Rattle.ink_model.specs.Run.Step.{effect}
+use Rattle.ink_model.specs.Story.Tree.{leaf, at}
 use Rattle.ink_step.specs.Marks.{takes_there}
-use Rattle.ink_effects.specs.Performs.{Keeps, KeepsChoices, Performs, fields_in, leading}
-use Rattle.ink_step.specs.Words.{config_of}
+use Rattle.ink_effects.specs.Performs.{KeepsThreads, KeepsChoices, Performs, fields_in, leading}
+use Rattle.ink_step.specs.Standing.{config_of}
 use Rattle.ink_effects.proofs.Plain.{keeps_plain, offers_plain}
 use Rattle.ink_step.proofs.Finished.{leaf_there}
 use Rattle.ink_step.proofs.machine.Machine.perform.Goals as goal
@@ -35,7 +35,7 @@ returns-in-Some-clause-threads c =
     let machine = c.args.self.now in
     let seen = context_of (config_of s machine) in
     let old = fields_of (config_of s machine) in
-    subst (λ o. OnOk c.perform_leaf.result (Keeps s (effect s p o seen old) machine.flow.threads.threads c.perform_leaf.new.threads.threads)) (sym (leaf_found (goal.at.returns-in-Some-clause-threads c).In-Some)) c.perform_leaf.ensures.threads
+    subst (λ o. OnOk c.perform_leaf.result (KeepsThreads s (effect s p o seen old) machine.flow.threads.threads c.perform_leaf.new.threads.threads)) (sym (leaf_found (goal.at.returns-in-Some-clause-threads c).In-Some)) c.perform_leaf.ensures.threads
 
 pub returns-in-Some-clause-choices : goal.returns-in-Some-clause-choices
 returns-in-Some-clause-choices c =
@@ -61,7 +61,7 @@ returns-in-None-clause-threads c =
     let machine = c.args.self.now in
     let before = config_of s machine in
     let ts = machine.flow.threads.threads in
-    subst (λ o. Keeps s (effect s (place_of s c.args.here) (option_map (λ l. leaf l.now) o) (context_of before) (fields_of before)) ts ts) (sym c.in-None.is)
+    subst (λ o. KeepsThreads s (effect s (place_of s c.args.here) (option_map (λ l. leaf l.now) o) (context_of before) (fields_of before)) ts ts) (sym c.in-None.is)
     (keeps_plain s (Moves (fields_of before)) ts ts tt refl)
 
 pub returns-in-None-clause-choices : goal.returns-in-None-clause-choices

@@ -3,11 +3,11 @@ use Rattle.ink_out.specs.Undo.{output_stood}
 use Rattle.ink_step.specs.Marks.{Stood}
 use Rattle.std.proofs.Common.{◌≡◌, None, arith}
 use Rattle.std.proofs.Common.{◌∙◌, ap, map}
-use Rattle.ink_model.specs.Configuration.{map_choice, settled, unnumbered_choice, with_choices, with_threads}
-use Rattle.ink_model.specs.Effect.{with_page}
-use Rattle.ink_model.specs.Frames.{map_threads, unnumbered_threads}
-use Rattle.ink_model.specs.Output.{empty_page}
-use Rattle.ink_step.specs.Words.{config_of}
+use Rattle.ink_model.specs.Run.Configuration.{map_choice, settled, unnumbered_choice, with_choices, with_threads}
+use Rattle.ink_model.specs.Run.Effect.{with_page}
+use Rattle.ink_model.specs.Flow.Frames.{map_threads, unnumbered_threads}
+use Rattle.ink_model.specs.Text.Output.{empty_page}
+use Rattle.ink_step.specs.Standing.{config_of}
 use Rattle.ink_step.proofs.Unnumbered.{choices_alike, threads_alike}
 use Rattle.ink_step.proofs.machine.Machine.settle.Goals as goal
 use Rattle.ink_tree.specs.Nodes.{place_of}

@@ -1,16 +1,16 @@
 use Rattle.std.proofs.Common.{◌≡◌, ◌∙◌, ap, option_map, refl, rules, subst, sym, false, is_some, [], Some, Ok}
-use Rattle.ink_check.specs.Words.{story_tree}
+use Rattle.ink_check.specs.Standing.{story_tree}
 use Rattle.ink_host.proofs.Laws.{grew-none}
 use Rattle.ink_host.specs.Desk.{bound_by}
 use Rattle.ink_host.specs.Telling.{log_of}
-use Rattle.ink_model.specs.Asks.{asks}
-use Rattle.ink_model.specs.Move.{Stop}
-use Rattle.ink_model.specs.Step.{Comes, step}
-use Rattle.ink_model.specs.Step.Host.{call_at}
-use Rattle.ink_model.specs.Tree.{at, leaf}
+use Rattle.ink_model.specs.Memory.Asks.{asks}
+use Rattle.ink_model.specs.Run.Move.{Stop}
+use Rattle.ink_model.specs.Run.Step.{Comes, step}
+use Rattle.ink_model.specs.Run.Step.Host.{call_at}
+use Rattle.ink_model.specs.Story.Tree.{at, leaf}
 use Rattle.ink_step.specs.Marks.{presses}
 use Rattle.ink_step.specs.Steps.{Steps}
-use Rattle.ink_step.specs.Words.{config_of}
+use Rattle.ink_step.specs.Standing.{config_of}
 use Rattle.ink_moves.specs.declared.flow.StepEnd.TheVariants as ends
 use Rattle.ink_step.proofs.Follows.{stands_still}
 use Rattle.ink_step.proofs.Makes.{plainly_never, steps_plainly}

@@ -1,20 +1,20 @@
 use Rattle.std.proofs.Common.{◌≡◌, ◌∙◌, ◌&&◌, ◌||◌, List, Bool, Option, Some, None, Result, ap, option_map, rules, subst, sym, true, refl, [], Err, length, ◌+◌, ◌≤◌}
-use Rattle.ink_check.specs.Words.{story_tree}
+use Rattle.ink_check.specs.Standing.{story_tree}
 use Rattle.ink_host.proofs.Laws.{grew-none}
 use Rattle.ink_host.specs.Desk.{bound_by}
 use Rattle.ink_host.specs.Telling.{log_of}
-use Rattle.ink_model.specs.Asks.{asks, going_in_asks, performing_asks}
-use Rattle.ink_model.specs.Configuration.{Configuration}
-use Rattle.ink_model.specs.Place.{entered}
-use Rattle.ink_model.specs.Step.{Stepped, gone_in, performed, step}
-use Rattle.ink_model.specs.Step.Host.{Call, call_at}
-use Rattle.ink_model.specs.Tree.{at, leaf}
+use Rattle.ink_model.specs.Memory.Asks.{asks, going_in_asks, performing_asks}
+use Rattle.ink_model.specs.Run.Configuration.{Configuration}
+use Rattle.ink_model.specs.Run.Place.{content_place}
+use Rattle.ink_model.specs.Run.Step.{Stepped, gone_in, performed, step}
+use Rattle.ink_model.specs.Run.Step.Host.{Call, call_at}
+use Rattle.ink_model.specs.Story.Tree.{at, leaf}
 use Rattle.ink_model.specs.declared.fault.Fault.{Fault}
 use Rattle.ink_model.specs.declared.host.Event.{Event}
 use Rattle.ink_effects.specs.External.{call_of}
 use Rattle.ink_step.specs.Marks.{counts_lack, keeps_mark, pressed, presses, stood_of, takes_first, takes_there}
 use Rattle.ink_step.specs.Steps.{StepMakes}
-use Rattle.ink_step.specs.Words.{config_of}
+use Rattle.ink_step.specs.Standing.{config_of}
 use Rattle.ink_moves.specs.declared.flow.StepEnd.{StepEnd}
 use Rattle.ink_effects.proofs.Bools.{or_more}
 use Rattle.ink_step.proofs.Follows.{or_where}
@@ -48,7 +48,7 @@ goes_in g c k told short es d r made =
     let found = option_map (λ x. leaf x.now) c.in_ok-here.found in
     let went = c.in_ok-here.ensures in
     let Ending : Bool → Stepped → Type 0 = λ asking o. StepMakes s b desk.next short asking o es before.shared.globals d r in
-    let is_here = subst (λ t. place_of t spot ≡ entered t (place_of t place)) c.tree.ensures.tree went.here in
+    let is_here = subst (λ t. place_of t spot ≡ content_place t (place_of t place)) c.tree.ensures.tree went.here in
     let is_found = found_leaves c.in_ok-here.found (at s p) (subst (λ t. option_map (λ x. x.now) c.in_ok-here.found ≡ leaf_in (at t (place_of t spot))) c.tree.ensures.tree went.found) in
     let is_in = subst (λ t. config_of t inside ≡ gone_in t (place_of t place) (config_of t machine)) c.tree.ensures.tree went.ok in
     let performing = performs_told s b Ending p found k m told (subst (λ vs. StepMakes s b desk.next short (performing_asks s b p found k m) (performed s b p found k m) es vs d r) went.globals made) in
@@ -63,7 +63,7 @@ takes_inside g c =
     let spot = c.in_ok-here.here in
     let p = place_of s spot in
     let went = c.in_ok-here.ensures in
-    let is_here = subst (λ t. place_of t spot ≡ entered t (place_of t c.args.place)) c.tree.ensures.tree went.here in
+    let is_here = subst (λ t. place_of t spot ≡ content_place t (place_of t c.args.place)) c.tree.ensures.tree went.here in
     let is_found = found_leaves c.in_ok-here.found (at s p) (subst (λ t. option_map (λ x. x.now) c.in_ok-here.found ≡ leaf_in (at t (place_of t spot))) c.tree.ensures.tree went.found) in
     takes_at s (place_of s c.args.place) (config_of s c.args.self.now) (at s p) (ap (option_map (place_of s)) c.requires.at) (ap (at s) (sym is_here)) ∙ sym (ap takes_there is_found ∙ takes_alike (at s p))
 

@@ -1,13 +1,13 @@
 use Rattle.std.proofs.Common.{◌≡◌, ◌∙◌, ◌&&◌, ◌||◌, ap, rules, subst, sym, true, false, true≢false, [], Err, Ok}
-use Rattle.ink_check.specs.Words.{story_tree}
+use Rattle.ink_check.specs.Standing.{story_tree}
 use Rattle.ink_host.proofs.Laws.{grew-none}
 use Rattle.ink_host.specs.Desk.{bound_by}
 use Rattle.ink_host.specs.Telling.{log_of}
-use Rattle.ink_model.specs.Asks.{asks}
-use Rattle.ink_model.specs.Step.{step}
+use Rattle.ink_model.specs.Memory.Asks.{asks}
+use Rattle.ink_model.specs.Run.Step.{step}
 use Rattle.ink_step.specs.Marks.{Stood, keeps_mark, pressed, presses, stood_of, takes_first}
 use Rattle.ink_step.specs.Steps.{StepMakes, Steps, wants}
-use Rattle.ink_step.specs.Words.{aside_in, config_of, start_of}
+use Rattle.ink_step.specs.Standing.{aside_in, config_of, start_of}
 use Rattle.ink_moves.specs.declared.flow.StepEnd.TheVariants as ends
 use Rattle.ink_effects.proofs.Bools.{or_first, or_more}
 use Rattle.ink_step.proofs.Follows.{ready_alike}

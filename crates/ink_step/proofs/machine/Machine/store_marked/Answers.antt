@@ -1,13 +1,13 @@
 use Rattle.std.proofs.Common.{◌≡◌, ◌∙◌, refl, ap, subst, is_some, rules, sym, Err}
 use Rattle.ink_step.specs.Marks.{stood_of}
-use Rattle.ink_check.specs.Words.{story_tree}
-use Rattle.ink_model.specs.Stack.{popped}
+use Rattle.ink_check.specs.Standing.{story_tree}
+use Rattle.ink_model.specs.Values.Stack.{popped}
 use Rattle.ink_effects.specs.Stacks.{Pops}
-use Rattle.ink_step.specs.Words.{config_of}
+use Rattle.ink_step.specs.Standing.{config_of}
 use Rattle.ink_step.proofs.AtOnce.{assigns_at_once, declares_at_once, none_there}
-use Rattle.ink_model.specs.Effect.{context_of, fields_of}
-use Rattle.ink_model.specs.Step.{acted}
-use Rattle.ink_model.specs.Step.Variables.{assign, declare}
+use Rattle.ink_model.specs.Run.Effect.{context_of, fields_of}
+use Rattle.ink_model.specs.Run.Step.{acted}
+use Rattle.ink_model.specs.Run.Step.Variables.{assign, declare}
 use Rattle.ink_model.specs.declared.fault.Fault.TheVariants.{OutOfMemory}
 use Rattle.ink_model.specs.declared.scope.Scope.TheVariants.{Global}
 use Rattle.ink_step.specs.Steps.{StepEnds}

@@ -1,5 +1,5 @@
 use Rattle.std.proofs.Common.{◌∙◌, ap}
-use Rattle.ink_step.specs.Words.{aside_in}
+use Rattle.ink_step.specs.Standing.{aside_in}
 use Rattle.ink_step.proofs.machine.Machine.take_up_next.Goals as goal
 
 pub returns-clause-aside : goal.returns-clause-aside

@@ -1,12 +1,12 @@
 use Rattle.std.proofs.Common.{◌≡◌, ◌∙◌, ap, option_map, subst, sym}
-use Rattle.ink_check.specs.Words.{story_tree}
+use Rattle.ink_check.specs.Standing.{story_tree}
 use Rattle.ink_host.specs.Desk.{bound_by}
-use Rattle.ink_model.specs.Effect.{fields_of}
-use Rattle.ink_model.specs.Place.{entered}
-use Rattle.ink_model.specs.Step.{gone_in}
-use Rattle.ink_model.specs.Tree.{at, leaf}
+use Rattle.ink_model.specs.Run.Effect.{fields_of}
+use Rattle.ink_model.specs.Run.Place.{content_place}
+use Rattle.ink_model.specs.Run.Step.{gone_in}
+use Rattle.ink_model.specs.Story.Tree.{at, leaf}
 use Rattle.ink_effects.specs.External.{call_of}
-use Rattle.ink_step.specs.Words.{config_of}
+use Rattle.ink_step.specs.Standing.{config_of}
 use Rattle.ink_step.proofs.Makes.{found_leaves, stands_in, wants_call, wants_none}
 use Rattle.ink_step.proofs.machine.Machine.wants_call.Given as given
 use Rattle.ink_step.proofs.machine.Machine.wants_call.Goals as goal
@@ -16,14 +16,14 @@ use Rattle.ink_tree.specs.Nodes as nodes
 use Rattle.ink_tree.specs.Nodes.{place_of}
 
 -- what was found stands where flow goes in
-stands : (g : given.Over) (c : After-first_leaf g) → let s = story_tree c.args.story.now in option_map (λ x. leaf x.now) c.first_leaf.result.1 ≡ option_map leaf (leaf_in (at s (entered s (place_of s c.args.place))))
+stands : (g : given.Over) (c : After-first_leaf g) → let s = story_tree c.args.story.now in option_map (λ x. leaf x.now) c.first_leaf.result.1 ≡ option_map leaf (leaf_in (at s (content_place s (place_of s c.args.place))))
 stands g c =
     let s = story_tree c.args.story.now in
     let there = nodes.story_tree c.tree.result.now in
     let found = option_map (λ x. x.now) c.first_leaf.result.1 in
-    found_leaves c.first_leaf.result.1 (at s (entered s (place_of s c.args.place)))
-    (subst (λ t. found ≡ leaf_in (at t (entered t (place_of t c.args.place)))) c.tree.ensures.tree
-    (stands_in there (place_of there c.first_leaf.result.0) (entered there (place_of there c.args.place)) found c.first_leaf.ensures.leaf c.first_leaf.ensures.spot))
+    found_leaves c.first_leaf.result.1 (at s (content_place s (place_of s c.args.place)))
+    (subst (λ t. found ≡ leaf_in (at t (content_place t (place_of t c.args.place)))) c.tree.ensures.tree
+    (stands_in there (place_of there c.first_leaf.result.0) (content_place there (place_of there c.args.place)) found c.first_leaf.ensures.leaf c.first_leaf.ensures.spot))
 
 pub returns-in-None : goal.returns-in-None
 returns-in-None g c =

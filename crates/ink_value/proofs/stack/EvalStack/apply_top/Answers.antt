@@ -1,5 +1,5 @@
 use Rattle.std.proofs.Common.{◌≡◌, ◌∙◌, Ok, ap, rules, sym}
-use Rattle.ink_model.specs.Operator.{of_numbers}
+use Rattle.ink_model.specs.Values.Operator.{of_numbers}
 use Rattle.ink_value.proofs.stack.EvalStack.apply_top.Goals as goal
 
 pub returns-in-Ok-clause-stack : goal.returns-in-Ok-clause-stack

@@ -1,7 +1,7 @@
 use Rattle.std.proofs.Common.{◌≡◌, ◌∙◌, ◌+◌, ◌<◌, [], ◌∷◌, ◌++◌, Ok, Err, ap, inl, inr, is_some, length, refl, rules, arith, sym, take}
-use Rattle.ink_model.specs.Asks.{asks_for}
-use Rattle.ink_model.specs.Operator.{takes}
-use Rattle.ink_model.specs.Stack.{applied}
+use Rattle.ink_model.specs.Memory.Asks.{asks_for}
+use Rattle.ink_model.specs.Values.Operator.{takes}
+use Rattle.ink_model.specs.Values.Stack.{applied}
 use Rattle.ink_model.specs.declared.fault.Fault.TheVariants.{OutOfMemory}
 use Rattle.ink_trail.proofs.Undoing.{spare-trails, stood-trails, trails-unmarked}
 use Rattle.ink_value.specs.Undo.{stack_back, stack_spare, stack_stood}

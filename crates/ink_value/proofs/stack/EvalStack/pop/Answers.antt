@@ -1,5 +1,4 @@
-use Rattle.std.proofs.Common.{◌≡◌, ◌∙◌, ◌++◌, ap, sym}
-use Rattle.std.specs.Option.{option_to_list}
+use Rattle.std.proofs.Common.{◌∙◌, ap, sym}
 use Rattle.ink_value.proofs.Tops.{pop_gives}
 use Rattle.ink_value.proofs.stack.EvalStack.pop.Goals as goal
 

@@ -1,7 +1,7 @@
 use Rattle.std.proofs.Common.{◌≡◌, ◌∙◌, Some, ap, arith, inl, inr, sym, vec_capacity}
-use Rattle.ink_model.specs.Memory.{holds_memory}
-use Rattle.ink_model.specs.Stack.{popped}
-use Rattle.ink_model.specs.VariableMemory.{on_popped}
+use Rattle.ink_model.specs.Memory.Refusals.{holds_memory}
+use Rattle.ink_model.specs.Values.Stack.{popped}
+use Rattle.ink_model.specs.Memory.Variables.{on_popped}
 use Rattle.ink_trail.proofs.Undoing.{spare-kept, spare-trails, stood-kept, stood-trails, trails-after, trails-one}
 use Rattle.ink_trail.specs.Undo.{with_pair}
 use Rattle.ink_value.specs.Undo.{stack_back, stack_spare, stack_stood}

@@ -1,5 +1,5 @@
 use Rattle.std.proofs.Common.{◌≡◌, ◌∙◌, Some, ap, is_some, length, subst, sym, ◌<◌}
-use Rattle.ink_model.specs.Store.{stored}
+use Rattle.ink_model.specs.Variables.Store.{stored}
 use Rattle.ink_vars.specs.Changes.{noted_at, number_of}
 use Rattle.ink_vars.specs.Globals.{set_value_at}
 use Rattle.ink_vars.proofs.Noting.{more_noted}

@@ -1,9 +1,9 @@
 use Rattle.std.proofs.Common.{◌≡◌, ◌∙◌, ◌≤◌, ◌+◌, ◌&&◌, Option, ap, arith, length, nat_lt, subst, sym}
 use Rattle.std.proofs.lemmas.List.{with_items_is}
 use Rattle.std.specs.Ordering.{nat_cmp}
-use Rattle.ink_model.specs.Counts.{counts, one_more, visits_at}
-use Rattle.ink_model.specs.Flags.{counts_visits, notes_turns}
-use Rattle.ink_model.specs.Rows.{row}
+use Rattle.ink_model.specs.Variables.Counts.{counts, one_more, visits_at}
+use Rattle.ink_model.specs.Story.Flags.{counts_visits, notes_turns}
+use Rattle.ink_model.specs.Variables.Rows.{row}
 use Rattle.ink_trail.proofs.Undoing.{stood-trails}
 use Rattle.ink_trail.specs.Undo.{Undo, trail_of}
 use Rattle.ink_vars.specs.Slots.{AreCounts, rows_from, with_slot}

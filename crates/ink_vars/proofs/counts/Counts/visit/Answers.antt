@@ -1,8 +1,8 @@
 use Rattle.std.proofs.Common.{◌≡◌, ◌∙◌, Option, ap, arith, if◌then◌else◌, length, subst, sym, unwrap_or, ◌<◌, true}
 use Rattle.std.proofs.lemmas.List.{with_items_is}
 use Rattle.std.specs.Ordering.{nat_cmp}
-use Rattle.ink_model.specs.Counts.{one_more, counts}
-use Rattle.ink_model.specs.Rows.{row, with_row}
+use Rattle.ink_model.specs.Variables.Counts.{one_more, counts}
+use Rattle.ink_model.specs.Variables.Rows.{row, with_row}
 use Rattle.ink_trail.proofs.Undoing.{stood-trails, spare-trails}
 use Rattle.ink_trail.specs.Undo.{Undo, trail_of}
 use Rattle.ink_vars.specs.Undo.{HaveSlots, counts_back, counts_stood, rows_of, with_rows, counts_spare}

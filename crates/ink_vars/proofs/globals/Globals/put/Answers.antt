@@ -1,6 +1,6 @@
 use Rattle.std.proofs.Common.{◌∙◌, ap, inl, inr, is_some, length, sym, ◌≡◌, subst, true}
 use Rattle.std.proofs.lemmas.Result.{on_err_weaker}
-use Rattle.ink_model.specs.Store.{stored}
+use Rattle.ink_model.specs.Variables.Store.{stored}
 use Rattle.ink_vars.specs.Changes.{Tracks, as_they_were}
 use Rattle.ink_trail.proofs.Undoing.{stood-or-kept, stood-marked}
 use Rattle.ink_vars.specs.Undo.{global_back, globals_stood}

@@ -1,5 +1,5 @@
 use Rattle.std.proofs.Common.{◌∙◌, ap}
-use Rattle.ink_model.specs.Store.{stored}
+use Rattle.ink_model.specs.Variables.Store.{stored}
 use Rattle.ink_vars.proofs.Rows.{at_number, got, stored_in}
 use Rattle.ink_vars.proofs.table.Table.get.Goals as goal
 

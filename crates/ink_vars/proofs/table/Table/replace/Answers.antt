@@ -1,5 +1,5 @@
 use Rattle.std.proofs.Common.{◌∙◌, ◌<◌, ap, is_some, subst, sym}
-use Rattle.ink_model.specs.Store.{store, stored}
+use Rattle.ink_model.specs.Variables.Store.{store, stored}
 use Rattle.ink_vars.proofs.Rows.{index_of, is_in, stored_over, within}
 use Rattle.ink_vars.proofs.table.Table.replace.Goals as goal
 

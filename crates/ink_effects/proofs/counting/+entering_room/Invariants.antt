@@ -1,9 +1,0 @@
-use Rattle.std.proofs.Common.{length, option_map}
-use Rattle.ink_effects.proofs.counting.+entering_room.Given as goal
-use Rattle.ink_tree.specs.Nodes.{place_of, story_tree}
-use Rattle.ink_tree.specs.Walks.{still_entered}
-
-abbrev pub decreases-entering_room : goal.decreases-entering_room
-decreases-entering_room l =
-    let s = story_tree l.tree.now in
-    length (still_entered s (option_map (place_of s) l.previous) l.rest)

@@ -1,0 +1,28 @@
+use Rattle.std.proofs.Common.{◌≡◌, Some, is_some, subst}
+use Rattle.ink_model.specs.Values.Stack.{popped}
+use Rattle.ink_value.specs.Undo.{stack_stood}
+use Rattle.ink_effects.specs.Stacks.{Pops}
+use Rattle.ink_effects.proofs.Effects.{performs_or}
+use Rattle.ink_effects.specs.Performs.{fields, leading}
+use Rattle.ink_effects.proofs.Stored.{declares_keeping, declares_nowhere, declares_there}
+use Rattle.ink_effects.proofs.variables.declare.Goals as goal
+
+pub returns-in-Ok-clause-effect : goal.returns-in-Ok-clause-effect
+returns-in-Ok-clause-effect c s rest evaluating fresh page =
+    let pops : popped c.args.stack.now.items ≡ Some (c.in-Some.value, c.take.new.stack.items) = subst (Pops c.args.stack.now.items c.take.new.stack.items) c.in-Some.is c.in_ok-value.ensures.pops in
+    let f = fields evaluating fresh c.args.stack.now.items page c.args.globals.now.rows in
+    performs_or s (is_some (stack_stood c.args.stack.now)) _ _ _ _ (declares_there s c.args.threads.now.threads rest f c.args.scope c.args.name.now c.take.new.stack.items c.in-Some.value pops c.in-Ok.value c.declared-variable.result (leading c.store.result c.store.new.transfer) c.in-Ok.ensures
+    (c.declared-variable.ensures.variable c.args.globals.now.rows) (c.store.ensures.effect s (record f { stack = c.take.new.stack.items })))
+
+pub returns-in-Ok-clause-threads : goal.returns-in-Ok-clause-threads
+returns-in-Ok-clause-threads c s rest evaluating fresh page =
+    let pops : popped c.args.stack.now.items ≡ Some (c.in-Some.value, c.take.new.stack.items) = subst (Pops c.args.stack.now.items c.take.new.stack.items) c.in-Some.is c.in_ok-value.ensures.pops in
+    let f = fields evaluating fresh c.args.stack.now.items page c.args.globals.now.rows in
+    declares_keeping s c.args.threads.now.threads rest f c.args.scope c.args.name.now c.take.new.stack.items c.in-Some.value pops c.in-Ok.value c.declared-variable.result c.store.new.threads.threads c.store.result c.in-Ok.ensures
+    (c.declared-variable.ensures.variable c.args.globals.now.rows) (c.store.ensures.threads c.args.globals.now.rows)
+
+pub returns-in-Err-clause-effect : goal.returns-in-Err-clause-effect
+returns-in-Err-clause-effect c s rest evaluating fresh page =
+    let pops : popped c.args.stack.now.items ≡ Some (c.in-Some.value, c.take.new.stack.items) = subst (Pops c.args.stack.now.items c.take.new.stack.items) c.in-Some.is c.in_ok-value.ensures.pops in
+    let f = fields evaluating fresh c.args.stack.now.items page c.args.globals.now.rows in
+    performs_or s (is_some (stack_stood c.args.stack.now)) _ _ _ _ (declares_nowhere s c.args.threads.now.threads rest f c.args.scope c.args.name.now c.take.new.stack.items c.in-Some.value pops c.in-Err.fault c.in-Err.ensures)

@@ -1,0 +1,9 @@
+use Rattle.std.proofs.Common.{◌∙◌}
+use Rattle.ink_effects.proofs.Visits.{noted_at}
+use Rattle.ink_effects.proofs.visits.turns_since.Goals as goal
+use Rattle.ink_tree.specs.Nodes.{story_tree}
+
+pub returns : goal.returns
+returns c =
+    let found = c.number_of.ensures.found in
+    c.turns_since.ensures ∙ noted_at (story_tree c.args.tree.now) c.number_of.ensures.order c.number_of.result found.0 c.args.counts.now.rows _ _ _ found.1 c.flags.ensures c.args.turn
