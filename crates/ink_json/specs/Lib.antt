@@ -8,4 +8,3 @@ pub mod Node
 pub mod Kept
 pub mod Listing
 pub mod Order
-pub mod Words

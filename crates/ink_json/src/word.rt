@@ -1,8 +1,7 @@
 //! The words that stand for leaves.
 
 ghost use Rattle.std.specs.Prelude.{◌≡◌};
-ghost use Rattle.ink_model.specs.Story.Word.{word, operator_word, meant, number_words};
-ghost use Rattle.ink_json.specs.Words.{evaluation_word, section_word, frame_word, count_word, comparison_word, logic_word};
+ghost use Rattle.ink_model.specs.Story.Word.{word, operator_word, meant, flow_words, evaluation_words, section_words, frame_words, count_words, arithmetic_words, comparison_words, logic_words, number_words};
 
 use ink_model::{Control, Leaf, Op};
 
@@ -11,6 +10,17 @@ use ink_model::{Control, Leaf, Op};
 pub(crate) fn word_leaf(text: &str) -> Option<Leaf>
     ensures { result ≡ word text.now }
 {
+    flow(text)
+        .or_else(|| evaluation(text))
+        .or_else(|| section(text))
+        .or_else(|| frame(text))
+        .or_else(|| count(text))
+        .or_else(|| operator(text))
+}
+
+fn flow(text: &str) -> Option<Leaf>
+    ensures { result ≡ meant text.now flow_words }
+{
     match text {
         "\n" => Some(Leaf::Newline),
         "<>" => Some(Leaf::Glue),
@@ -18,13 +28,12 @@ pub(crate) fn word_leaf(text: &str) -> Option<Leaf>
         "end" => Some(Leaf::Control(Control::End)),
         "nop" => Some(Leaf::Control(Control::Nop)),
         "void" => Some(Leaf::Void),
-        _ => evaluation(text),
+        _ => None,
     }
 }
 
-// The same, of a word that is none of flow. Each function here hands on to the next what is none of its own words.
 fn evaluation(text: &str) -> Option<Leaf>
-    ensures { result ≡ evaluation_word text.now }
+    ensures { result ≡ meant text.now evaluation_words }
 {
     match text {
         "ev" => Some(Leaf::Control(Control::BeginEval)),
@@ -32,35 +41,35 @@ fn evaluation(text: &str) -> Option<Leaf>
         "out" => Some(Leaf::Control(Control::Out)),
         "pop" => Some(Leaf::Control(Control::Pop)),
         "du" => Some(Leaf::Control(Control::Duplicate)),
-        _ => section(text),
+        _ => None,
     }
 }
 
 fn section(text: &str) -> Option<Leaf>
-    ensures { result ≡ section_word text.now }
+    ensures { result ≡ meant text.now section_words }
 {
     match text {
         "str" => Some(Leaf::Control(Control::BeginString)),
         "/str" => Some(Leaf::Control(Control::EndString)),
         "#" => Some(Leaf::Control(Control::BeginTag)),
         "/#" => Some(Leaf::Control(Control::EndTag)),
-        _ => frame(text),
+        _ => None,
     }
 }
 
 fn frame(text: &str) -> Option<Leaf>
-    ensures { result ≡ frame_word text.now }
+    ensures { result ≡ meant text.now frame_words }
 {
     match text {
         "~ret" => Some(Leaf::Control(Control::Return)),
         "->->" => Some(Leaf::Control(Control::ReturnTunnel)),
         "thread" => Some(Leaf::Control(Control::Thread)),
-        _ => count(text),
+        _ => None,
     }
 }
 
 fn count(text: &str) -> Option<Leaf>
-    ensures { result ≡ count_word text.now }
+    ensures { result ≡ meant text.now count_words }
 {
     match text {
         "choiceCnt" => Some(Leaf::Control(Control::ChoiceCount)),
@@ -68,7 +77,7 @@ fn count(text: &str) -> Option<Leaf>
         "turns" => Some(Leaf::Control(Control::Turns)),
         "readc" => Some(Leaf::Control(Control::ReadCount)),
         "visit" => Some(Leaf::Control(Control::Visit)),
-        _ => operator(text),
+        _ => None,
     }
 }
 
@@ -77,6 +86,15 @@ fn count(text: &str) -> Option<Leaf>
 fn operator(text: &str) -> Option<Leaf>
     ensures { result ≡ operator_word text.now }
 {
+    arithmetic(text)
+        .or_else(|| comparison(text))
+        .or_else(|| logic(text))
+        .or_else(|| number(text))
+}
+
+fn arithmetic(text: &str) -> Option<Leaf>
+    ensures { result ≡ meant text.now arithmetic_words }
+{
     match text {
         "+" => Some(Leaf::Op(Op::Add)),
         "-" => Some(Leaf::Op(Op::Subtract)),
@@ -84,12 +102,12 @@ fn operator(text: &str) -> Option<Leaf>
         "*" => Some(Leaf::Op(Op::Multiply)),
         "%" => Some(Leaf::Op(Op::Remainder)),
         "_" => Some(Leaf::Op(Op::Negate)),
-        _ => comparison(text),
+        _ => None,
     }
 }
 
 fn comparison(text: &str) -> Option<Leaf>
-    ensures { result ≡ comparison_word text.now }
+    ensures { result ≡ meant text.now comparison_words }
 {
     match text {
         "==" => Some(Leaf::Op(Op::Equal)),
@@ -98,12 +116,12 @@ fn comparison(text: &str) -> Option<Leaf>
         ">=" => Some(Leaf::Op(Op::AtLeast)),
         "<=" => Some(Leaf::Op(Op::AtMost)),
         "!=" => Some(Leaf::Op(Op::NotEqual)),
-        _ => logic(text),
+        _ => None,
     }
 }
 
 fn logic(text: &str) -> Option<Leaf>
-    ensures { result ≡ logic_word text.now }
+    ensures { result ≡ meant text.now logic_words }
 {
     match text {
         "!" => Some(Leaf::Op(Op::Not)),
@@ -111,7 +129,7 @@ fn logic(text: &str) -> Option<Leaf>
         "||" => Some(Leaf::Op(Op::Or)),
         "?" => Some(Leaf::Op(Op::Has)),
         "!?" => Some(Leaf::Op(Op::HasNot)),
-        _ => number(text),
+        _ => None,
     }
 }
 
