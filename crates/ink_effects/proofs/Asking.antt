@@ -23,7 +23,7 @@ use Rattle.ink_model.specs.declared.value.Value.{Value}
 use Rattle.ink_effects.specs.External.{PerformsCall, is_asking, is_true_of}
 use Rattle.ink_effects.specs.Performs.{Performs}
 use Rattle.ink_effects.specs.declared.transfer.Transfer.{Transfer}
-use Rattle.ink_effects.proofs.Calls.{bound_none, bound_pure, bound_turn, pure_there}
+use Rattle.ink_effects.proofs.Externals.{bound_none, bound_pure, bound_turn, pure_there}
 use Rattle.ink_effects.proofs.Tops.{top_of}
 
 -- ---- conditions

@@ -6,13 +6,13 @@ mod Landings
 mod Leading
 pub mod Rooms
 mod Keys
-mod Visits
+mod Entering
 mod Places
 mod Stored
 mod Asked
 mod Offered
 pub mod Plain
-mod Calls
+mod Externals
 mod Asking
 mod Closing
 pub mod Refusals

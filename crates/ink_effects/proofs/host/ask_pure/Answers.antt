@@ -1,7 +1,7 @@
 use Rattle.std.proofs.Common.{◌∙◌, ap, refl, sym}
 use Rattle.ink_host.specs.Desk.{answer_of}
 use Rattle.ink_effects.specs.Performs.{fields}
-use Rattle.ink_effects.proofs.Calls.{pure_gave}
+use Rattle.ink_effects.proofs.Externals.{pure_gave}
 use Rattle.ink_effects.proofs.host.ask_pure.Goals as goal
 
 pub returns-in-Ok-clause-effect : goal.returns-in-Ok-clause-effect

@@ -4,7 +4,7 @@ use Rattle.ink_host.proofs.Laws.{grew-none}
 use Rattle.ink_host.specs.Telling.{log_of}
 use Rattle.ink_effects.specs.Performs.{fields}
 use Rattle.ink_effects.proofs.Asking.{none_called, pure_called, turn_called}
-use Rattle.ink_effects.proofs.Calls.{pure_there}
+use Rattle.ink_effects.proofs.Externals.{pure_there}
 use Rattle.ink_effects.proofs.Refusals.{keeps_all, stops_kept}
 use Rattle.ink_effects.proofs.host.call_bound.Goals as goal
 

@@ -1,6 +1,6 @@
 use Rattle.ink_check.specs.Standing.{story_tree}
 use Rattle.ink_tree.specs.Nodes.{story_tree as kept}
-use Rattle.ink_effects.proofs.Calls.{knot_there, no_knot}
+use Rattle.ink_effects.proofs.Externals.{knot_there, no_knot}
 use Rattle.ink_effects.proofs.host.fall_back.Goals as goal
 
 pub returns-in_default : goal.returns-in_default

@@ -1,7 +1,7 @@
 use Rattle.std.proofs.Common.{◌∙◌, ap, length, sym, true}
 use Rattle.std.proofs.lemmas.Result.{err_from_is_err_and}
 use Rattle.ink_effects.specs.Standing.{counts_in}
-use Rattle.ink_effects.proofs.Visits.{adds_at, first_adds, first_entered, has_room, lacks_row, room_back, visited_at}
+use Rattle.ink_effects.proofs.Entering.{adds_at, first_adds, first_entered, has_room, lacks_row, room_back, visited_at}
 use Rattle.ink_effects.proofs.visits.+enter_all.Goals as goal
 use Rattle.ink_tree.specs.Nodes.{story_tree}
 

@@ -4,7 +4,7 @@ use Rattle.ink_model.specs.Run.Entered.{passed_places}
 use Rattle.ink_model.specs.Story.Tree.{at}
 use Rattle.ink_model.specs.Run.Visits.{adds_rows}
 use Rattle.ink_effects.specs.Standing.{counts_in}
-use Rattle.ink_effects.proofs.Visits.{enters_adds, enters_more, last_adds}
+use Rattle.ink_effects.proofs.Entering.{enters_adds, enters_more, last_adds}
 use Rattle.ink_effects.proofs.visits.enter_passed.Goals as goal
 use Rattle.ink_tree.specs.Kept.{leaf_in}
 use Rattle.ink_tree.specs.Nodes.{node_place, story_tree}

@@ -1,7 +1,7 @@
 use Rattle.std.proofs.Common.{◌≡◌, length}
 use Rattle.ink_model.specs.Run.Entered.{passed_places}
 use Rattle.ink_model.specs.Run.Place.{content_place}
-use Rattle.ink_effects.proofs.Visits.{StillEnters}
+use Rattle.ink_effects.proofs.Entering.{StillEnters}
 use Rattle.ink_effects.proofs.visits.enter_passed.Given as goal
 use Rattle.ink_tree.specs.Nodes.{node_place, story_tree}
 use Rattle.ink_vars.specs.Undo.{counts_stood}

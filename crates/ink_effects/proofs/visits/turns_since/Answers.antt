@@ -1,5 +1,5 @@
 use Rattle.std.proofs.Common.{◌∙◌}
-use Rattle.ink_effects.proofs.Visits.{noted_at}
+use Rattle.ink_effects.proofs.Entering.{noted_at}
 use Rattle.ink_effects.proofs.visits.turns_since.Goals as goal
 use Rattle.ink_tree.specs.Nodes.{story_tree}
 

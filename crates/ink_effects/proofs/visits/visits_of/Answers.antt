@@ -1,5 +1,5 @@
 use Rattle.std.proofs.Common.{◌∙◌}
-use Rattle.ink_effects.proofs.Visits.{counted_at}
+use Rattle.ink_effects.proofs.Entering.{counted_at}
 use Rattle.ink_effects.proofs.visits.visits_of.Goals as goal
 use Rattle.ink_tree.specs.Nodes.{story_tree}
 
