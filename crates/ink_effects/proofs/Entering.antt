@@ -17,7 +17,7 @@ use Rattle.ink_model.specs.Run.Visits.{adds_rows, all_visited}
 use Rattle.ink_model.specs.declared.fault.Fault.TheVariants.{NotCounted}
 use Rattle.ink_model.specs.declared.place.Part.{Part}
 use Rattle.ink_effects.specs.Standing.{counts_in, rows_below, rows_in}
-use Rattle.ink_effects.proofs.Keys.{KeepsPlace, put_renamed, row_renamed}
+use Rattle.ink_model.proofs.Maps.{KeepsPlace, row_map, with_row_map}
 use Rattle.ink_tree.specs.Kept.{leaf_in}
 use Rattle.ink_tree.specs.Nodes.{NumbersInOrder, node_place}
 use Rattle.ink_tree.proofs.Rising.{place_total}
@@ -80,10 +80,10 @@ module _ (s : StoryTree) (ordered : NumbersInOrder s) (n : ℕ) (is_node : n < l
   keeps (r ∷ rs) = keeps_by r rs (nat_lt r.0 many) refl (keeps rs)
 
   row_in : (rows : List (ℕ × ℕ)) → row place_order (place n) (rows_in s rows) ≡ row nat_cmp n rows
-  row_in rows = row_renamed nat_cmp place_order place n (rows_below many rows) (keeps rows) ∙ row_below many n rows is_node
+  row_in rows = row_map nat_cmp place_order place n (rows_below many rows) (keeps rows) ∙ row_below many n rows is_node
 
   put_in : (v : ℕ) (rows : List (ℕ × ℕ)) → with_row place_order (place n) v (rows_in s rows) ≡ rows_in s (with_row nat_cmp n v rows)
-  put_in v rows = put_renamed nat_cmp place_order place n v (rows_below many rows) (keeps rows) ∙ ap (map_keys place) (sym (put_below many n v rows within))
+  put_in v rows = with_row_map nat_cmp place_order place n v (rows_below many rows) (keeps rows) ∙ ap (map_keys place) (sym (put_below many n v rows within))
 
   put_if : (b : Bool) (v w : ℕ) (rows : List (ℕ × ℕ)) → v ≡ w
       → (if b then with_row place_order (place n) v (rows_in s rows) else rows_in s rows) ≡ rows_in s (if b then with_row nat_cmp n w rows else rows)

@@ -18,7 +18,7 @@ use Rattle.ink_model.specs.declared.fault.Fault.TheVariants.{BadTarget}
 use Rattle.ink_model.specs.declared.place.Part.{Part}
 use Rattle.ink_model.specs.declared.place.Path.{Path}
 use Rattle.ink_model.specs.declared.value.Value.TheVariants as value
-use Rattle.ink_effects.proofs.Places.{read_renamed}
+use Rattle.ink_model.proofs.Maps.{read_map}
 use Rattle.ink_effects.specs.Performs.{landing_of}
 use Rattle.ink_effects.specs.declared.transfer.Landing.{Landing}
 use Rattle.ink_tree.specs.Nodes.{node_place, place_of}
@@ -71,7 +71,7 @@ written_to s p seen to globals text q by found written =
 pub held_to : (s : StoryTree) (p : List Part) (seen : Context) (to : Destination) (globals : Values) (name : List ℕ) (t : ThreadOf Spot) (led : Result Goal Fault)
     → to ≡ destination.Variable name → seen.thread ≡ map_thread (place_of s) t → led ≡ led_by s (read globals t name) → led ≡ led_to s p seen to globals
 held_to s p seen to globals name t led by thread is =
-    is ∙ ap (led_by s) (sym (read_renamed (place_of s) globals t name)) ∙ ap (λ u. led_by s (read globals u name)) (sym thread) ∙ ap (λ d. led_to s p seen d globals) (sym by)
+    is ∙ ap (led_by s) (sym (read_map (place_of s) globals t name)) ∙ ap (λ u. led_by s (read globals u name)) (sym thread) ∙ ap (λ d. led_to s p seen d globals) (sym by)
 
 -- what a leaf leads to by a written path
 pub leaf_landing : (s : StoryTree) (p : List Part) (l : Leaf) → at s p ≡ Some (leaf l) → written_target s p ≡ leaf_target s p l

@@ -5,9 +5,7 @@ pub mod Effects
 mod Landings
 mod Leading
 pub mod Rooms
-mod Keys
 mod Entering
-mod Places
 mod Stored
 mod Asked
 mod Offered

@@ -1,13 +1,12 @@
 -- Choice points: what is made of spots and of places, and what it comes to.
-use Rattle.std.proofs.Common.{◌≡◌, ◌∙◌, ℕ, List, [], ◌∷◌, ◌++◌, length, map, reverse, nat_lt, if◌then◌else◌, Bool, true, false, Option, Some, None, option_map, ◌||◌, Result, Ok, Err, OnOk, is_ok, true≢false, ap, sym, subst, refl, inl, inr}
-use Rattle.std.proofs.lemmas.List.{length-map, map-append}
+use Rattle.std.proofs.Common.{◌≡◌, ◌∙◌, ℕ, List, [], ◌∷◌, ◌++◌, length, map, nat_lt, if◌then◌else◌, Bool, true, false, Option, Some, None, ◌||◌, Result, Ok, Err, OnOk, is_ok, true≢false, ap, sym, subst, refl, inl, inr}
+use Rattle.std.proofs.lemmas.List.{length-map}
 use Rattle.ink_choice.specs.Outcomes.{Adds, Makes}
 use Rattle.ink_model.specs.Story.Acceptance.{content_counted, counted_container, lands, leaf_counted, written_target}
-use Rattle.ink_model.specs.Text.Bytes.{fits_text}
-use Rattle.ink_model.specs.Choices.Making.{Operands, added, choice, choice_asks, choice_of, choice_text, has_any, is_offered, make, operands, then_pop}
+use Rattle.ink_model.specs.Choices.Making.{added, choice, choice_asks, make}
 use Rattle.ink_model.specs.Run.Configuration.{ChoiceOf, map_choice}
 use Rattle.ink_model.specs.Run.Effect.{Context, Effect, Fields, Offers, or_else, or_fault}
-use Rattle.ink_model.specs.Flow.Frames.{FrameOf, ThreadOf, ThreadsOf, map_frame, map_thread}
+use Rattle.ink_model.specs.Flow.Frames.{ThreadsOf}
 use Rattle.ink_model.specs.Memory.Asks.{makes_choice, offer_asks}
 use Rattle.ink_model.specs.Text.Page.{Page}
 use Rattle.ink_model.specs.Run.Step.Choices.{is_visited, offer, offering, visited_at, was_visited}
@@ -19,6 +18,7 @@ use Rattle.ink_model.specs.declared.fault.Fault.TheVariants.{BadTarget, TooDeep}
 use Rattle.ink_model.specs.declared.limits.TheConstants.{MAX_CHOICES}
 use Rattle.ink_model.specs.declared.place.Part.{Part}
 use Rattle.ink_model.specs.declared.value.Value.{Value}
+use Rattle.ink_model.proofs.Maps.{added_map, choice_asks_map, made_at, make_map, offered_at}
 use Rattle.ink_effects.proofs.Effects.{short}
 use Rattle.ink_effects.proofs.Bools.{or_first, or_more}
 use Rattle.ink_effects.proofs.Landings.{leaf_landing}
@@ -29,57 +29,6 @@ use Rattle.ink_effects.specs.declared.transfer.Transfer.{Transfer}
 use Rattle.ink_effects.specs.declared.transfer.Transfer.TheVariants as transfer
 use Rattle.ink_tree.specs.Nodes.{place_of}
 use Rattle.ink_tree.specs.declared.spot.Spot.{Spot}
-
--- ---- at other places
-
-module _ {P Q : Type 0} (g : P → Q) where
-  -- what is made
-  abbrev pub made_at : Result (Option (ChoiceOf P) × List Value) Fault → Result (Option (ChoiceOf Q) × List Value) Fault
-  made_at (Ok r) = Ok (option_map (map_choice g) r.0, r.1)
-  made_at (Err f) = Err f
-
-  -- what is offered
-  abbrev pub offered_at : Result (List (ChoiceOf P)) Fault → Result (List (ChoiceOf Q)) Fault
-  offered_at (Ok cs) = Ok (map (map_choice g) cs)
-  offered_at (Err f) = Err f
-
-  module _ (flags : ℕ) (target : P) (visited : Bool) (t : ThreadOf P) where
-    by_text : (o : Operands) (b : Bool)
-        → ◌≡◌ {A = Result (Option (ChoiceOf Q) × List Value) Fault} (if b then Ok (Some (choice flags (g target) (map_thread g t) o), reverse o.left) else Err TooDeep)
-        (made_at (if b then Ok (Some (choice flags target t o), reverse o.left) else Err TooDeep))
-    by_text o true = refl
-    by_text o false = refl
-
-    by_operands : (o : Operands) (b : Bool)
-        → ◌≡◌ {A = Result (Option (ChoiceOf Q) × List Value) Fault}
-        (if b then (if fits_text (choice_text o) then Ok (Some (choice flags (g target) (map_thread g t) o), reverse o.left) else Err TooDeep) else Ok (None, reverse o.left))
-        (made_at (if b then (if fits_text (choice_text o) then Ok (Some (choice flags target t o), reverse o.left) else Err TooDeep) else Ok (None, reverse o.left)))
-    by_operands o true = by_text o (fits_text (choice_text o))
-    by_operands o false = refl
-
-    by_result : (r : Result Operands Fault) → then_pop r (choice_of flags (g target) visited (map_thread g t)) ≡ made_at (then_pop r (choice_of flags target visited t))
-    by_result (Ok o) = by_operands o (is_offered flags visited o.condition)
-    by_result (Err f) = refl
-
-    pub make_renamed : (vs : List Value) → make flags (g target) visited (map_thread g t) vs ≡ made_at (make flags target visited t vs)
-    make_renamed vs = by_result (operands flags (reverse vs))
-
-  added_by : (c : ChoiceOf P) (cs : List (ChoiceOf P)) (b : Bool)
-      → ◌≡◌ {A = Result (List (ChoiceOf Q)) Fault} (if b then Ok (map (map_choice g) cs ++ map_choice g c ∷ []) else Err TooDeep) (offered_at (if b then Ok (cs ++ c ∷ []) else Err TooDeep))
-  added_by c cs true = ap Ok (sym (map-append (map_choice g) cs (c ∷ [])))
-  added_by c cs false = refl
-
-  pub added_renamed : (c : ChoiceOf P) (cs : List (ChoiceOf P)) → added (map_choice g c) (map (map_choice g) cs) ≡ offered_at (added c cs)
-  added_renamed c cs =
-      ap (λ n. if nat_lt n MAX_CHOICES then Ok (map (map_choice g) cs ++ map_choice g c ∷ []) else Err TooDeep) (length-map cs (map_choice g)) ∙ added_by c cs (nat_lt (length cs) MAX_CHOICES)
-
-  -- what it asks for is the same
-  below_renamed : (fs : List (FrameOf P)) → has_any (map (map_frame g) fs) ≡ has_any fs
-  below_renamed [] = refl
-  below_renamed (f ∷ fs) = refl
-
-  pub choice_asks_renamed : (c : ChoiceOf P) → choice_asks (map_choice g c) ≡ choice_asks c
-  choice_asks_renamed c = ap (λ b. has_any c.text || (has_any c.tags || (has_any c.thread.frame.temps || b))) (below_renamed c.thread.below)
 
 -- ---- a choice point
 
@@ -130,7 +79,7 @@ module _ (s : StoryTree) (p : List Part) (rest : Rest) (ts : ThreadsOf Spot) (te
     was = sym (is ∙ ap (λ o. is_visited (visits_in s seen.counts o)) counts_there ∙ visited_in (leaf_counted s p (Choice text flags)))
 
     makes : make flags (place_of s spot) (was_visited s p seen text flags) seen.thread old ≡ made_at (place_of s) made
-    makes = ap (λ b. make flags (place_of s spot) b seen.thread old) was ∙ make_renamed (place_of s) flags spot visited ts.thread old
+    makes = ap (λ b. make flags (place_of s spot) b seen.thread old) was ∙ make_map (place_of s) flags spot visited ts.thread old
 
     leads_there : lands s p text ≡ Some (place_of s spot)
     leads_there = sym (there ∙ leaf_landing s p _ stands)
@@ -170,7 +119,7 @@ module _ (s : StoryTree) (p : List Part) (rest : Rest) (ts : ThreadsOf Spot) (te
           let asks : Bool = choice_asks (map_choice (place_of s) c) || nat_lt others MAX_CHOICES in
           let memory : choice_asks c ≡ true = elim h.1 [ inl asking ↦ asking | inr few ↦ absurd (never few) ] in
           subst (λ x. Performs t asks (so (Some (map_choice (place_of s) c), left)) (with new) (Err x)) (sym h.0)
-          (short t asks (with new) _ (or_first _ _ (choice_asks_renamed (place_of s) c ∙ memory)))
+          (short t asks (with new) _ (or_first _ _ (choice_asks_map (place_of s) c ∙ memory)))
       fails_by never (Err x) g h = inl h.0
 
       pub offers_fault : (never : Short → ⊥) (g : Fault) → Makes Short made old new (Err g) → Performs t asking offers (with new) (Err g)
@@ -198,7 +147,7 @@ module _ (s : StoryTree) (p : List Part) (rest : Rest) (ts : ThreadsOf Spot) (te
         one_by (Ok (Some d, left)) h adds =
             let same : c ≡ d = let both : Some c ≡ Some d = h.0 in cc in
             let asks : Bool = choice_asks (map_choice (place_of s) d) || nat_lt others MAX_CHOICES in
-            subst (λ r. Performs t asks (or_fault r (λ choices. Offers choices (with left))) (with new) (moving result)) (sym (added_renamed (place_of s) d rest.choices))
+            subst (λ r. Performs t asks (or_fault r (λ choices. Offers choices (with left))) (with new) (moving result)) (sym (added_map (place_of s) d rest.choices))
             (one_added asks left h.1 (added d rest.choices) result (room_there d) (subst (λ x. Adds (added x rest.choices) rest.choices after result) same adds))
         one_by (Err g) h adds = absurd h
 
@@ -231,6 +180,6 @@ module _ (s : StoryTree) (p : List Part) (rest : Rest) (ts : ThreadsOf Spot) (te
             by (Ok (None, left)) h = absurd (let no : Some c ≡ None = h.0 in cc)
             by (Ok (Some d, left)) h =
                 let same : c ≡ d = let both : Some c ≡ Some d = h.0 in cc in
-                subst (λ r. OnOk result (KeepsChoices s (or_fault r (λ choices. Offers choices (with left))) rest.choices after)) (sym (added_renamed (place_of s) d rest.choices))
+                subst (λ r. OnOk result (KeepsChoices s (or_fault r (λ choices. Offers choices (with left))) rest.choices after)) (sym (added_map (place_of s) d rest.choices))
                 (keeps_added (with left) (added d rest.choices) result (subst (λ x. Adds (added x rest.choices) rest.choices after result) same adds))
             by (Err g) h = absurd h

@@ -15,14 +15,13 @@ use Rattle.ink_model.specs.Variables.Access.{assign, declare, declared, kept, re
 use Rattle.ink_model.specs.declared.fault.Fault.{Fault}
 use Rattle.ink_model.specs.declared.fault.Fault.TheVariants.{OutOfMemory}
 use Rattle.ink_model.specs.declared.scope.Scope.{Scope}
-use Rattle.ink_model.specs.declared.scope.Scope.TheVariants.{Global, Temporary}
 use Rattle.ink_model.specs.declared.value.Value.{Value}
 use Rattle.ink_effects.specs.Performs.{Changes, KeepsThreads, Performs, fields}
 use Rattle.ink_effects.specs.Standing.{Rest, seen_by}
 use Rattle.ink_effects.specs.declared.transfer.Transfer.{Transfer}
 use Rattle.ink_effects.proofs.Effects.{operated, performs_where, short}
 use Rattle.ink_effects.proofs.Bools.{or_first, or_more}
-use Rattle.ink_effects.proofs.Places.{assign_renamed, declare_renamed, left_as, read_renamed}
+use Rattle.ink_model.proofs.Maps.{assign_map, declare_map, left_as, read_map, setting_asks_map}
 use Rattle.ink_tree.specs.Nodes.{place_of}
 use Rattle.ink_tree.specs.declared.spot.Spot.{Spot}
 use Rattle.ink_vars.specs.Outcomes.{Declares, HandsOut, LeadsTo, with_variable, writing_asks}
@@ -33,10 +32,6 @@ use Rattle.ink_vars.specs.declared.places.Variable.{Variable}
 handed : {A : Type 0} (asks : Bool) (rule : Result A Fault) (a : A) → HandsOut asks rule (Ok a) → rule ≡ Ok a
 handed asks (Ok b) a h = ap Ok (sym h)
 handed asks (Err f) a h = absurd h
-
-asks_renamed : (s : StoryTree) (globals : Values) (t : ThreadOf Spot) (scope : Scope) (name : List ℕ) → setting_asks globals (map_thread (place_of s) t) scope name ≡ setting_asks globals t scope name
-asks_renamed s globals t Global name = refl
-asks_renamed s globals t Temporary name = refl
 
 on_ok : {A : Type 0} (r : Result A Fault) (B C : Type 0) → (B → C) → OnOk r B → OnOk r C
 on_ok (Ok a) B C so h = so h
@@ -52,12 +47,12 @@ module _ (s : StoryTree) (ts : ThreadsOf Spot) (rest : Rest) (f : Fields) where
       → Leaves (pushed v f.stack) f.stack new result → (result ≡ Err OutOfMemory → has_room f.stack ≡ true)
       → Changes (reading name && has_room f.stack) (effects.push_variable name (seen_by s ts rest) f) (record f { stack = new }) result
   pushes_read name v new result is leaves memory t =
-      let reads : read f.globals (map_thread (place_of s) ts.thread) name ≡ Ok v = read_renamed (place_of s) f.globals ts.thread name ∙ sym is in
+      let reads : read f.globals (map_thread (place_of s) ts.thread) name ≡ Ok v = read_map (place_of s) f.globals ts.thread name ∙ sym is in
       rw reads (operated (has_room f.stack) (pushed v f.stack) (λ vs. record f { stack = vs }) f.stack new result leaves memory t)
 
   pub reads_nothing : (name : List ℕ) (g : Fault) → Err g ≡ read f.globals ts.thread name → Changes (reading name && has_room f.stack) (effects.push_variable name (seen_by s ts rest) f) f (Err g)
   reads_nothing name g is t =
-      let reads : read f.globals (map_thread (place_of s) ts.thread) name ≡ Err g = read_renamed (place_of s) f.globals ts.thread name ∙ sym is in
+      let reads : read f.globals (map_thread (place_of s) ts.thread) name ≡ Err g = read_map (place_of s) f.globals ts.thread name ∙ sym is in
       rw reads (inl refl)
 
   -- ---- a variable is written
@@ -80,7 +75,7 @@ module _ (s : StoryTree) (ts : ThreadsOf Spot) (rest : Rest) (f : Fields) where
 
     assigns : (r : Result (Values × ThreadOf Spot) Fault) → assign f.globals ts.thread name v ≡ r → assigning ≡ storing (left_as (place_of s) f.globals ts.thread r) (record f { stack = left })
     assigns r is =
-        rw pops (ap (λ q. storing q (record f { stack = left })) (assign_renamed (place_of s) f.globals ts.thread name v ∙ ap (left_as (place_of s) f.globals ts.thread) is))
+        rw pops (ap (λ q. storing q (record f { stack = left })) (assign_map (place_of s) f.globals ts.thread name v ∙ ap (left_as (place_of s) f.globals ts.thread) is))
 
     pub assigns_there : (x : Variable) (result : Result Transfer Fault) → LeadsTo f.globals ts.thread name (Ok x)
         → Performs s (writing_asks f.globals ts.thread x) (wrote left x v) (record f { stack = left }) result
@@ -98,7 +93,7 @@ module _ (s : StoryTree) (ts : ThreadsOf Spot) (rest : Rest) (f : Fields) where
       | inl faults ↦ subst (λ e. Performs s assigning_asks e (record f { stack = left }) (Err g)) (sym (assigns _ (faults v))) (inl refl)
       | inr refused ↦
           let so : assign f.globals (map_thread (place_of s) ts.thread) name v ≡ left_as (place_of s) f.globals ts.thread (Ok (with_variable f.globals ts.thread refused.2.0 v)) =
-          assign_renamed (place_of s) f.globals ts.thread name v ∙ ap (left_as (place_of s) f.globals ts.thread) (refused.2.1 v) in
+          assign_map (place_of s) f.globals ts.thread name v ∙ ap (left_as (place_of s) f.globals ts.thread) (refused.2.1 v) in
           let asking : assigning_asks ≡ true = rw (pops, so, refused.1) refl in
           subst (λ x. Performs s assigning_asks assigning (record f { stack = left }) (Err x)) (sym refused.0) (short s assigning_asks (record f { stack = left }) assigning asking)
     ]
@@ -115,14 +110,14 @@ module _ (s : StoryTree) (ts : ThreadsOf Spot) (rest : Rest) (f : Fields) where
     declares : (r : Result Value Fault) → kept f.globals ts.thread v ≡ r
         → declaring ≡ storing (left_as (place_of s) f.globals ts.thread (declared f.globals ts.thread scope name r)) (record f { stack = left })
     declares r is =
-        rw pops (ap (λ q. storing q (record f { stack = left })) (declare_renamed (place_of s) f.globals ts.thread scope name v ∙ ap (λ k. left_as (place_of s) f.globals ts.thread (declared f.globals ts.thread scope name k)) is))
+        rw pops (ap (λ q. storing q (record f { stack = left })) (declare_map (place_of s) f.globals ts.thread scope name v ∙ ap (λ k. left_as (place_of s) f.globals ts.thread (declared f.globals ts.thread scope name k)) is))
 
     -- where a value is kept, and so all is well
     asks_to_declare : (w : Value) → kept f.globals ts.thread v ≡ Ok w → is_pointer (Some v) || setting_asks f.globals ts.thread scope name ≡ true → declaring_asks ≡ true
     asks_to_declare w is asking =
         let so : declare f.globals (map_thread (place_of s) ts.thread) scope name v ≡ left_as (place_of s) f.globals ts.thread (declared f.globals ts.thread scope name (Ok w)) =
-        declare_renamed (place_of s) f.globals ts.thread scope name v ∙ ap (λ k. left_as (place_of s) f.globals ts.thread (declared f.globals ts.thread scope name k)) is in
-        rw (pops, so, asks_renamed s f.globals ts.thread scope name) asking
+        declare_map (place_of s) f.globals ts.thread scope name v ∙ ap (λ k. left_as (place_of s) f.globals ts.thread (declared f.globals ts.thread scope name k)) is in
+        rw (pops, so, setting_asks_map (place_of s) f.globals ts.thread scope name) asking
 
     wrote_there : (w : Value) (x : Variable) → HandsOut (is_pointer (Some v)) (kept f.globals ts.thread v) (Ok w) → Declares f.globals ts.thread scope name x → declaring ≡ wrote left x w
     wrote_there w x keeping there = declares (Ok w) (handed _ _ w keeping) ∙ ap (λ q. storing (left_as (place_of s) f.globals ts.thread (Ok q)) (record f { stack = left })) (there.1 w)

@@ -1,48 +1,21 @@
 -- Calls that change threads, or what is written to, beside the definitions over places.
-use Rattle.std.proofs.Common.{◌≡◌, ap, sym, subst, refl, inl, inr, ℕ, ◌+◌, List, [], ◌∷◌, length, map, Bool, true, false, if◌then◌else◌, nat_eq, nat_lt, is_ok, Result, Ok, Err, IfErr}
-use Rattle.std.proofs.lemmas.List.{length-map}
+use Rattle.std.proofs.Common.{◌≡◌, ap, sym, subst, refl, inl, inr, ℕ, List, Bool, true, false, is_ok, Result, Ok, Err, IfErr}
 use Rattle.ink_model.specs.Flow.Transfers.{Written, on_page, or_breaks}
-use Rattle.ink_model.specs.Flow.Frames.{FrameOf, ThreadOf, ThreadsOf, map_frame, map_thread, map_threads}
+use Rattle.ink_model.specs.Flow.Frames.{ThreadOf, ThreadsOf, map_thread, map_threads}
 use Rattle.ink_model.specs.Memory.Refusals.{Gives, leaving}
 use Rattle.ink_model.specs.Text.Output.{ends_function}
 use Rattle.ink_model.specs.Text.Page.{Page}
-use Rattle.ink_model.specs.Flow.Threads.{back_to, new_frame, frame_popped, frame_pushed, same_kind, top_result}
+use Rattle.ink_model.specs.Flow.Threads.{frame_popped, frame_pushed, top_result}
 use Rattle.ink_model.specs.declared.fault.Fault.{Fault}
-use Rattle.ink_model.specs.declared.fault.Fault.TheVariants.{BadMode, BadPop, TooDeep}
 use Rattle.ink_model.specs.declared.frame.FrameKind.{FrameKind}
 use Rattle.ink_model.specs.declared.frame.FrameKind.TheVariants.{Function}
-use Rattle.ink_model.specs.declared.limits.TheConstants.{MAX_FRAMES}
 use Rattle.ink_stack.specs.Outcomes.{Changes, Grows}
+use Rattle.ink_model.proofs.Maps.{mapped, popped_map, pushed_map}
 use Rattle.ink_moves.specs.Reaches.{PassesAs, left_asks}
 
 -- ---- calls on threads do the same at other places
 
-abbrev pub mapped : {A B : Type 0} → (A → B) → Result A Fault → Result B Fault
-mapped f (Ok a) = Ok (f a)
-mapped f (Err g) = Err g
-
 module _ {P Q : Type 0} (f : P → Q) where
-  popped_map : (k : FrameKind) (d : ℕ) (t : ThreadOf P) → frame_popped k d (map_thread f t) ≡ mapped (map_thread f) (frame_popped k d t)
-  popped_map k d t = by (same_kind t.frame.kind k) t.below
-    where
-      at_depth : (e : Bool) (g : FrameOf P) (gs : List (FrameOf P)) → (if e then Ok (map_thread f (record t { frame = g; below = gs })) else Err BadMode)
-          ≡ mapped (map_thread f) (if e then Ok (record t { frame = g; below = gs }) else Err BadMode)
-      at_depth true g gs = refl
-      at_depth false g gs = refl
-
-      by : (b : Bool) (fs : List (FrameOf P)) → (if b then back_to (map (map_frame f) fs) d (map_thread f t) else Err BadPop) ≡ mapped (map_thread f) (if b then back_to fs d t else Err BadPop)
-      by true [] = refl
-      by true (g ∷ gs) = at_depth (nat_eq t.frame.depth d) g gs
-      by false fs = refl
-
-  pushed_map : (k : FrameKind) (d : ℕ) (t : ThreadOf P) → frame_pushed k d (map_thread f t) ≡ mapped (map_thread f) (frame_pushed k d t)
-  pushed_map k d t = rw (length-map t.below (map_frame f)) (by (nat_lt (length t.below + 1) MAX_FRAMES))
-    where
-      by : (b : Bool) → (if b then Ok (map_thread f (record t { frame = new_frame k t.frame.place d; below = t.frame ∷ t.below })) else Err TooDeep)
-          ≡ mapped (map_thread f) (if b then Ok (record t { frame = new_frame k t.frame.place d; below = t.frame ∷ t.below }) else Err TooDeep)
-      by true = refl
-      by false = refl
-
   changes_map : {U : Type 0} (r : Result (ThreadOf P) Fault) (old new : ThreadsOf P) (result : Result U Fault) → Changes (top_result r old) old new result
       → Changes (top_result (mapped (map_thread f) r) (map_threads f old)) (map_threads f old) (map_threads f new) result
   changes_map (Ok t) old new (Ok u) h = ap (map_threads f) h

@@ -1,5 +1,5 @@
 -- Choices over spots and over places; where they lead.
-use Rattle.std.proofs.Common.{◌≡◌, ◌∙◌, ◌⊎◌, inl, inr, ap, sym, refl, subst, ℕ, zero, suc, List, [], ◌∷◌, map, Bool, true, false, ◌&&◌, ◌||◌, if◌then◌else◌, slice_get, Option, Some, None, option_map, Ok, Err}
+use Rattle.std.proofs.Common.{◌≡◌, ◌∙◌, ◌⊎◌, inl, inr, ap, sym, refl, subst, ℕ, List, [], ◌∷◌, map, Bool, true, false, ◌||◌, if◌then◌else◌, slice_get, Option, Some, None, option_map, Ok, Err}
 use Rattle.ink_choice.proofs.Nth.{taken_visible}
 use Rattle.ink_choice.specs.Outcomes.{Takes}
 use Rattle.ink_model.specs.Choices.Making.{none_visible, only_invisible, choice_gone, visible}
@@ -13,6 +13,7 @@ use Rattle.ink_model.specs.declared.fault.Fault.{Fault}
 use Rattle.ink_model.specs.declared.fault.Fault.TheVariants.{OutOfMemory}
 use Rattle.ink_model.specs.declared.fault.Refusal.TheVariants as refusal
 use Rattle.ink_model.specs.declared.place.Part.{Part}
+use Rattle.ink_model.proofs.Maps.{first_map, none_visible_map, nth_visible_map, only_invisible_map}
 use Rattle.ink_step.specs.Steps.{Chooses, StepEnds}
 use Rattle.ink_effects.proofs.Bools.{or_first, or_more}
 use Rattle.ink_step.proofs.Follows.{ends_short, or_wider}
@@ -44,44 +45,22 @@ module _ {P : Type 0} where
 -- ---- under other places
 
 module _ {P Q : Type 0} (f : P → Q) where
-  none_alike : (cs : List (ChoiceOf P)) → none_visible (map (map_choice f) cs) ≡ none_visible cs
-  none_alike [] = refl
-  none_alike (c ∷ cs) = ap (λ b. c.hidden && b) (none_alike cs)
-
-  only_alike : (cs : List (ChoiceOf P)) → only_invisible (map (map_choice f) cs) ≡ only_invisible cs
-  only_alike [] = refl
-  only_alike (c ∷ cs) = none_alike (c ∷ cs)
-
   none_of : (cs : List (ChoiceOf P)) → only_invisible cs ≡ true → none_visible cs ≡ true
   none_of [] h = refl
   none_of (c ∷ cs) h = h
 
-  nth_alike : {A B : Type 0} (g : A → B) (xs : List A) (n : ℕ) → slice_get (map g xs) n ≡ option_map g (slice_get xs n)
-  nth_alike g [] n = refl
-  nth_alike g (x ∷ xs) zero = refl
-  nth_alike g (x ∷ xs) (suc n) = nth_alike g xs n
-
-  visible_by : (c : ChoiceOf P) (cs : List (ChoiceOf P)) (b : Bool) → visible (map (map_choice f) cs) ≡ map (map_choice f) (visible cs)
-      → (if b then visible (map (map_choice f) cs) else map_choice f c ∷ visible (map (map_choice f) cs)) ≡ map (map_choice f) (if b then visible cs else c ∷ visible cs)
-  visible_by c cs true on = on
-  visible_by c cs false on = ap (λ xs. map_choice f c ∷ xs) on
-
-  visible_alike : (cs : List (ChoiceOf P)) → visible (map (map_choice f) cs) ≡ map (map_choice f) (visible cs)
-  visible_alike [] = refl
-  visible_alike (c ∷ cs) = visible_by c cs c.hidden (visible_alike cs)
-
   pub open_alike : (cs : List (ChoiceOf P)) (n : ℕ) (o : Option (ChoiceOf P)) → o ≡ slice_get (visible cs) n → slice_get (visible (map (map_choice f) cs)) n ≡ option_map (map_choice f) o
-  open_alike cs n o h = ap (λ xs. slice_get xs n) (visible_alike cs) ∙ nth_alike (map_choice f) (visible cs) n ∙ ap (option_map (map_choice f)) (sym h)
+  open_alike cs n o h = nth_visible_map f cs n ∙ ap (option_map (map_choice f)) (sym h)
 
   pub no_default : (cs : List (ChoiceOf P)) → only_invisible cs ≡ false → default_choice (map (map_choice f) cs) ≡ None
-  no_default cs h = ap (λ b. if b then option_map (λ r. r.0) (choice_gone 0 (map (map_choice f) cs)) else None) (only_alike cs ∙ h)
+  no_default cs h = ap (λ b. if b then option_map (λ r. r.0) (choice_gone 0 (map (map_choice f) cs)) else None) (only_invisible_map f cs ∙ h)
 
   pub is_default : (cs new : List (ChoiceOf P)) (x : ChoiceOf P) → only_invisible cs ≡ true → Takes (choice_gone 0 cs) cs new (Ok (Some x)) → default_choice (map (map_choice f) cs) ≡ Some (map_choice f x)
   is_default cs new x h t =
       let first : slice_get cs 0 ≡ Some x = sym (first_taken cs (none_of cs h)) ∙ takes_first (choice_gone 0 cs) cs new x t in
-      ap (λ b. if b then option_map (λ r. r.0) (choice_gone 0 (map (map_choice f) cs)) else None) (only_alike cs ∙ h)
-      ∙ first_taken (map (map_choice f) cs) (none_alike cs ∙ none_of cs h)
-      ∙ nth_alike (map_choice f) cs 0 ∙ ap (option_map (map_choice f)) first
+      ap (λ b. if b then option_map (λ r. r.0) (choice_gone 0 (map (map_choice f) cs)) else None) (only_invisible_map f cs ∙ h)
+      ∙ first_taken (map (map_choice f) cs) (none_visible_map f cs ∙ none_of cs h)
+      ∙ first_map f cs ∙ ap (option_map (map_choice f)) first
 
 -- nothing was taken where memory was refused
 pub takes_none : {P : Type 0} → (o : Option (ChoiceOf P × List (ChoiceOf P))) (cs new : List (ChoiceOf P)) (f : Fault) → Takes o cs new (Err f) → (f ≡ OutOfMemory) × (new ≡ cs)

@@ -1,11 +1,11 @@
 -- Where flow goes after a content, and so how a step ends.
-use Rattle.std.proofs.Common.{◌≡◌, ◌∙◌, ◌||◌, ap, sym, refl, subst, inl, inr, ℕ, List, [], ◌∷◌, map, Bool, true, false, Option, Some, None, Result, Ok, Err}
+use Rattle.std.proofs.Common.{◌≡◌, ◌∙◌, ◌||◌, ap, sym, refl, subst, inl, inr, ℕ, List, map, Bool, true, false, Option, Some, None, Result, Ok, Err}
 use Rattle.ink_model.specs.Choices.Choosing.{following, following_asks}
 use Rattle.ink_model.specs.Run.Configuration.{ChoiceOf, Configuration, current_place, ended, map_choice, with_choices, with_threads}
 use Rattle.ink_model.specs.Variables.Counts.{CountsOf}
 use Rattle.ink_model.specs.Run.Effect.{Fields, Effect, Moves, Stores, Offers, Lands, Calls, Returns, Forks, Done, Ends, Fails, fields_of, with_fields, with_thread}
-use Rattle.ink_model.specs.Flow.Transfers.{Written, Reached, Reaches, Halts, Breaks, called, depth_of, forked, halt, is_last, moved_on, reach, returned}
-use Rattle.ink_model.specs.Flow.Frames.{ThreadOf, ThreadsOf, base_threads, map_thread, map_threads, mode_in, on_top}
+use Rattle.ink_model.specs.Flow.Transfers.{Written, Reached, Reaches, Halts, Breaks, called, depth_of, forked, halt, moved_on, reach, returned}
+use Rattle.ink_model.specs.Flow.Frames.{ThreadOf, ThreadsOf, base_threads, map_threads, mode_in, on_top}
 use Rattle.ink_model.specs.Run.Move.{Outcome, Next, Stop, Faults, end_all, finish, going, landing_outcome, may_enter, move, place_to, reached_in, with_flow, written_in}
 use Rattle.ink_model.specs.Memory.Moves.{dropped_asks, flow_asks, forked_asks, move_asks, moved_asks}
 use Rattle.ink_model.specs.Run.Place.{next_place}
@@ -102,14 +102,6 @@ ends_any asking more (Stop c) globals d ends.Stopped h = h
 ends_any asking more o globals d end h = absurd h
 
 -- ---- where flow went
-
--- the last thread is so by places too
-pub last_alike : {P Q : Type 0} → (f : P → Q) (ts : ThreadsOf P) → is_last (map_threads f ts) ≡ is_last ts
-last_alike {P = P} f ts = by ts.below
-  where
-    by : (below : List (ThreadOf P)) → is_last (record { thread = map_thread f ts.thread; below = map (map_thread f) below }) ≡ is_last (record { thread = ts.thread; below = below })
-    by [] = refl
-    by (t ∷ below) = refl
 
 -- a fault on the way
 pub ends_broken : (asking : Bool) (c d : Configuration) (globals : Values) (reached : Reached (List Part)) (ts : ThreadsOf (List Part)) (w : Written) (f : Fault)

@@ -1,4 +1,3 @@
-pub mod Staled
 pub mod Follows
 pub mod Marks
 pub mod Storing
@@ -9,7 +8,6 @@ pub mod Moments
 pub mod Growing
 pub mod Runnings
 pub mod Openings
-pub mod Unnumbered
 pub mod Goings
 pub mod Shows
 pub mod Chosen

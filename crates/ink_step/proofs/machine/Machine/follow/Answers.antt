@@ -20,10 +20,10 @@ use Rattle.ink_step.specs.Standing.{aside_in, config_of, start_of}
 use Rattle.ink_moves.specs.declared.flow.StepEnd.{StepEnd}
 use Rattle.ink_step.specs.declared.machine.Machine.{Machine}
 use Rattle.ink_effects.proofs.Plain.{when_ok}
-use Rattle.ink_step.proofs.Follows.{ends_more, ends_pressed, ends_reached, goes_after_text, goes_done, goes_forking, goes_nowhere, last_alike}
+use Rattle.ink_step.proofs.Follows.{ends_more, ends_pressed, ends_reached, goes_after_text, goes_done, goes_forking, goes_nowhere}
 use Rattle.ink_step.proofs.Landed.{goes_back, goes_into, goes_on, goes_storing, goes_there}
 use Rattle.ink_step.proofs.Marks.{pressed_choices, pressed_fresh, pressed_own}
-use Rattle.ink_step.proofs.Staled.{staled_alike}
+use Rattle.ink_model.proofs.Maps.{is_last_map, staled_map}
 use Rattle.ink_step.proofs.machine.Machine.follow.Goals as goal
 use Rattle.ink_tree.specs.Nodes.{place_of}
 
@@ -92,7 +92,7 @@ returns-in_ok-end_freshness-in-Wrote-clause-ends c asks e h has offers =
     let new = config_of s c.go_on-in-Wrote.new.self in
     let stale = ap (config_of s) c.end_freshness.ensures.same
     ∙ ap (λ ts. with_threads (map_threads (place_of s) ts) old) c.in_ok-end_freshness-in-Wrote.ensures.threads
-    ∙ ap (λ ts. with_threads ts old) (staled_alike (place_of s) _ machine.flow.threads.threads) in
+    ∙ ap (λ ts. with_threads ts old) (sym (staled_map (place_of s) _ machine.flow.threads.threads)) in
     goes_after_text s (pressed s c.go_on-in-Wrote.new.self) asks old new c.go_on-in-Wrote.result e (subst (λ t. Performs s asks e (fields_of old) (Ok t)) c.in-Wrote.is h)
     (subst (λ d. StepEnds (moved_asks (next_place s) d.flow.threads (written_in d)) (going (moved_on (next_place s)) d) d.shared.globals new c.go_on-in-Wrote.result) stale c.go_on-in-Wrote.ensures.ends)
 
@@ -148,7 +148,7 @@ returns-in_ok-change_safe-in-Done-clause-ends c asks e h has offers =
     (done (next_place t) (map_threads (place_of t) mid.flow.threads.threads) (written mid.flow.stack mid.output)) (map_threads (place_of t) c.done.new.threads.threads) w r) c.tree-in-Done.ensures.tree c.done.ensures.flow in
     let reached = subst (λ (m : Machine). ReachesAs (dropped_asks (next_place s) (dropped (map_threads (place_of s) m.flow.threads.threads)) (written m.flow.stack m.output))
     (done (next_place s) (map_threads (place_of s) m.flow.threads.threads) (written m.flow.stack m.output)) ts w r) same goes in
-    let safely = c.in_ok-change_safe-in-Done.ensures.safe ∙ ap (λ b. machine.flow.safe || b) (c.is_last.ensures.last ∙ sym (last_alike (place_of s) machine.flow.threads.threads)) in
+    let safely = c.in_ok-change_safe-in-Done.ensures.safe ∙ ap (λ b. machine.flow.safe || b) (c.is_last.ensures.last ∙ sym (is_last_map (place_of s) machine.flow.threads.threads)) in
     let ends = ends_reached _ (with_safe mid.flow.safe old) _ ts w r reached in
     let there = subst (λ (m : Machine). StepEnds (dropped_asks (next_place s) (dropped old.flow.threads) (written_in old)) (going (done (next_place s)) (with_safe mid.flow.safe old)) old.shared.globals
     (config_of s (record m { flow = record m.flow { threads = c.done.new.threads; stack = c.done.new.stack }; output = c.done.new.output })) r) (sym same) ends in
