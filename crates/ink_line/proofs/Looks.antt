@@ -2,7 +2,7 @@
 use Rattle.std.proofs.Common.{◌≡◌, refl, sym, ap, ◌∙◌, subst, arith, ℕ, zero, suc, ◌<◌, ◌≤◌, inl, inr, ◌⊎◌, List, Bool, true, false, true≢false, Option, Some, None}
 use Rattle.ink_model.specs.Run.Configuration.{Configuration}
 use Rattle.ink_model.specs.Host.Bindings.{Bound}
-use Rattle.ink_model.specs.Run.Line.{IsFirm, IsLineOf, MakesFirm, NoneBelow, StaysOpen, calls_in, goes_on, goes_past, has_faulted, is_call, newline_in, open_in, page_at, shows}
+use Rattle.ink_model.specs.Run.Line.{IsFirm, IsLineOf, MakesFirm, NoneBelow, NoneOpen, StaysOpen, calls_in, goes_on, goes_past, has_faulted, is_call, newline_in, open_in, page_at, shows}
 use Rattle.ink_model.specs.Run.Moments.{Made, Moment, At, Stopped, Faulted, Waits, came, cut_off, moment_after, next}
 use Rattle.ink_model.specs.Run.Step.{Outcome, Next, Stepped, Comes, Wants, step}
 use Rattle.ink_model.specs.Story.Tree.{StoryTree}
@@ -89,13 +89,36 @@ module _ (s : StoryTree) (b : Bound) (limit : ℕ) (m : ℕ → Moment) (runs : 
 
   -- ---- no newline is open
 
-  at_its_newline : (n : ℕ) → NoneBelow s b limit m n → goes_on (m (suc n)) ≡ true → (o : Option ℕ) → newline_in (m n) (m (suc n)) ≡ o
+  -- that of no step before moment n stays open for one step more
+  abbrev NoneStays : ℕ → Type 0
+  NoneStays n = (p : ℕ) → p < n → StaysOpen s b m p (suc n) → ⊥
+
+  -- what stays open for one step more was open before it
+  was_open : (p n : ℕ) → p < n → StaysOpen s b m p (suc n) → StaysOpen s b m p n
+  was_open p n l h = record {
+    newline = h.newline;
+    has = h.has;
+    later = l;
+    stays = λ k a r. h.stays k a (omega (arith, r));
+    quiet = λ k a r. h.quiet k a (omega (arith, r));
+    going = went_on s b m runs n (suc n) (omega arith) h.going;
+  }
+
+  none_stays : (n : ℕ) → NoneOpen s b m n → NoneStays n
+  none_stays n none p l h = none p (was_open p n l h)
+
+  at_its_newline : (n : ℕ) → NoneBelow s b limit m n → NoneStays n → goes_on (m (suc n)) ≡ true → (o : Option ℕ) → newline_in (m n) (m (suc n)) ≡ o
       → Knows s b limit m (suc n) (kept_at (m (suc n)) o)
-  at_its_newline n none g None e = (refl, g, λ q l f. elim (same_or_below q n l) [ inl r ↦ none q r f | inr same ↦ wrong f.opens.newline (sym e ∙ subst (λ k. newline_in (m k) (m (suc k)) ≡ Some f.opens.newline) same f.opens.has) ])
+  at_its_newline n none closed g None e = (
+    refl,
+    g,
+    λ q l f. elim (same_or_below q n l) [ inl r ↦ none q r f | inr same ↦ wrong q same f.opens.newline f.opens.has ],
+    λ q h. elim (same_or_below q n h.later) [ inl r ↦ closed q r h | inr same ↦ wrong q same h.newline h.has ],
+  )
     where
-      wrong : (i : ℕ) → None ≡ Some i → ⊥
-      wrong i h = cc
-  at_its_newline n none g (Some i) e = (
+      wrong : (q : ℕ) → q ≡ n → (i : ℕ) → newline_in (m q) (m (suc q)) ≡ Some i → ⊥
+      wrong q same i has = let no : None ≡ Some i = sym e ∙ subst (λ k. newline_in (m k) (m (suc k)) ≡ Some i) same has in cc
+  at_its_newline n none closed g (Some i) e = (
     n,
     record {
       newline = i;
@@ -114,10 +137,10 @@ module _ (s : StoryTree) (b : Bound) (limit : ℕ) (m : ℕ → Moment) (runs : 
       only : (k : ℕ) → n < k → k ≤ suc n → suc n ≡ k
       only k l r = omega (arith, l, r)
 
-  sought_knows : (n : ℕ) → n < limit → NoneBelow s b limit m n → (y : Moment) → m (suc n) ≡ y → Knows s b limit m (suc n) (sought (m n) y)
-  sought_knows n room none (At c left made) e =
-      subst (λ y. Knows s b limit m (suc n) (kept_at y (newline_in (m n) y))) e (at_its_newline n none (ap goes_on e) (newline_in (m n) (m (suc n))) refl)
-  sought_knows n room none y e = subst (IsLineOf s b limit m) e (ended n room none (ap goes_on e))
+  sought_knows : (n : ℕ) → n < limit → NoneBelow s b limit m n → NoneStays n → (y : Moment) → m (suc n) ≡ y → Knows s b limit m (suc n) (sought (m n) y)
+  sought_knows n room none closed (At c left made) e =
+      subst (λ y. Knows s b limit m (suc n) (kept_at y (newline_in (m n) y))) e (at_its_newline n none closed (ap goes_on e) (newline_in (m n) (m (suc n))) refl)
+  sought_knows n room none closed y e = subst (IsLineOf s b limit m) e (ended n room none (ap goes_on e))
 
   -- ---- a newline is open
 
@@ -168,10 +191,16 @@ module _ (s : StoryTree) (b : Bound) (limit : ℕ) (m : ℕ → Moment) (runs : 
     by_knows : calls_in s b (m n) ≡ false → (y : Moment) → m (suc n) ≡ y → has_faulted y ≡ false → (t u : Bool) → shows y h.newline ≡ t → goes_past y h.newline ≡ u
         → Knows s b limit m (suc n) (looked_by t u kept h.newline (m n) y)
     by_knows quiet y e sound false u shown past = sought_knows n room
-        (none_more p n h first room quiet (ap has_faulted e ∙ sound) (λ t k. wrong t) (λ t k. wrong (shown_if_open (m (suc n)) t))) y e
+        (none_more p n h first room quiet (ap has_faulted e ∙ sound) (λ t k. wrong t) (λ t k. wrong (shown_if_open (m (suc n)) t))) closed y e
       where
         wrong : shows (m (suc n)) h.newline ≡ true → ⊥
         wrong t = both t (ap (λ y. shows y h.newline) e ∙ shown)
+
+        -- another would be the same one, since one is open at a time
+        closed : NoneStays n
+        closed q l u =
+            let same : u.newline ≡ h.newline = some_same u.newline h.newline (sym (u.stays n l (omega arith)) ∙ h.stays n h.later (omega arith)) in
+            wrong (shown_if_open (m (suc n)) (u.stays (suc n) (omega (arith, l)) (omega arith) ∙ ap Some same))
     by_knows quiet y e sound true true shown past = back (inr (inr (inr (ap (λ y. shows y h.newline) e ∙ shown, ap (λ y. goes_past y h.newline) e ∙ past))))
     by_knows quiet y e sound true false shown past = stays_knows quiet y e sound shown past
 
@@ -188,8 +217,8 @@ module _ (s : StoryTree) (b : Bound) (limit : ℕ) (m : ℕ → Moment) (runs : 
   -- ---- the search
 
   look_knows : (n : ℕ) → n < limit → (x : Search) → Knows s b limit m n x → Knows s b limit m (suc n) (look_on s b x)
-  look_knows n room (Seeking now) (at, g, none) = subst (λ y. Knows s b limit m (suc n) (sought y (next s b y))) at
-      (subst (λ y. Knows s b limit m (suc n) (sought (m n) y)) (runs n) (sought_knows n room none (m (suc n)) refl))
+  look_knows n room (Seeking now) (at, g, none, closed) = subst (λ y. Knows s b limit m (suc n) (sought y (next s b y))) at
+      (subst (λ y. Knows s b limit m (suc n) (sought (m n) y)) (runs n) (sought_knows n room none (none_stays n closed) (m (suc n)) refl))
   look_knows n room (Looking kept newline now) (p, h, same, first, is, at) =
       subst (λ i. Knows s b limit m (suc n) (looked_on (calls_in s b now) kept i now (next s b now))) same
       (subst (λ y. Knows s b limit m (suc n) (looked_on (calls_in s b y) kept h.newline y (next s b y))) at
@@ -199,12 +228,12 @@ module _ (s : StoryTree) (b : Bound) (limit : ℕ) (m : ℕ → Moment) (runs : 
 
   pub search_knows : goes_on (m 0) ≡ true → (n : ℕ) → n ≤ limit → Knows s b limit m n (search s b n (Seeking (m 0)))
   unfolding search
-  search_knows g zero le = (refl, g, λ q l f. omega (arith, l))
+  search_knows g zero le = (refl, g, λ q l f. omega (arith, l), λ q h. omega (arith, h.later))
   search_knows g (suc n) le = look_knows n (omega (arith, le)) (search s b n (Seeking (m 0))) (search_knows g n (omega (arith, le)))
 
   -- where no more steps may be taken
   pub found_is : (x : Search) → Knows s b limit m limit x → IsLineOf s b limit m (found x)
-  found_is (Seeking now) (at, g, none) = inr (record { none = λ q f. none q (omega (arith, f.opens.later, f.within)) f; ends = ap cut_off at })
+  found_is (Seeking now) (at, g, none, closed) = inr (record { none = λ q f. none q (omega (arith, f.opens.later, f.within)) f; ends = ap cut_off at })
   found_is (Looking kept newline now) (p, h, same, first, is, at) =
       inl (record { step = p; firm = record { until = limit; within = omega arith; opens = h; makes = inl refl }; first = first; ends = is })
   found_is (Over end) h = h

@@ -1,7 +1,7 @@
 -- Looking for a line, forward: at a newline the moment is kept; then the run goes on, until it goes back there or forgets it.
 use Rattle.std.specs.Prelude.{◌≡◌, ℕ, zero, suc, length, Bool, true, false, if◌then◌else◌, Option, Some, None}
 use Rattle.ink_model.specs.Host.Bindings.{Bound}
-use Rattle.ink_model.specs.Run.Line.{IsLineOf, NoneBelow, StaysOpen, at_least, calls_in, goes_on, goes_past, newline_in, shows}
+use Rattle.ink_model.specs.Run.Line.{IsLineOf, NoneBelow, NoneOpen, StaysOpen, at_least, calls_in, goes_on, goes_past, newline_in, shows}
 use Rattle.ink_model.specs.Text.Output.{is_line}
 use Rattle.ink_model.specs.Text.Page.{Page}
 use Rattle.ink_model.specs.Run.Moments.{Moment, At, Stopped, cut_off, next}
@@ -64,7 +64,7 @@ found (Over end) = end
 
 -- what a search knows of a run, by its moments, after n steps of it
 abbrev pub Knows : StoryTree → Bound → ℕ → (ℕ → Moment) → ℕ → Search → Type 0
-Knows s b limit m n (Seeking now) = (m n ≡ now) × (goes_on now ≡ true) × NoneBelow s b limit m n
+Knows s b limit m n (Seeking now) = (m n ≡ now) × (goes_on now ≡ true) × NoneBelow s b limit m n × NoneOpen s b m n
 Knows s b limit m n (Looking kept newline now) =
     (p : ℕ) × (opens : StaysOpen s b m p n) × (opens.newline ≡ newline) × NoneBelow s b limit m p × (m (suc p) ≡ kept) × (m n ≡ now)
 Knows s b limit m n (Over end) = IsLineOf s b limit m end

@@ -5,7 +5,7 @@ use Rattle.ink_host.specs.Desk.{DeskView, Grew, bound_by}
 use Rattle.ink_host.specs.declared.objects.Called.{Called}
 use Rattle.ink_host.specs.declared.objects.Seen.{Seen}
 use Rattle.ink_host.proofs.Laws.{bound-same, grew-grew, grew-none}
-use Rattle.ink_model.specs.Run.Line.{NoneBelow, is_call}
+use Rattle.ink_model.specs.Run.Line.{NoneBelow, NoneOpen, is_call}
 use Rattle.ink_line.specs.Look.{Knows, Over, Search, Seeking, found, look_on, newline_between, search, sought}
 use Rattle.ink_line.proofs.Found.{finds, knows, over_is}
 use Rattle.ink_look.proofs.Steps.{kept_found}
@@ -16,7 +16,7 @@ use Rattle.ink_look.specs.declared.looking.Looked.TheVariants as after
 use Rattle.ink_model.specs.Run.Configuration.{Configuration}
 use Rattle.ink_model.specs.Host.Events.{Made, calls}
 use Rattle.ink_model.specs.Host.Bindings.{Bound}
-use Rattle.ink_model.specs.Memory.Refusals.{GetsTo}
+use Rattle.ink_model.specs.Memory.Refusals.{GetsTo, NoneSoFar}
 use Rattle.ink_model.specs.Run.Moments.{Moment, At, Stopped, Faulted, answers_of, came, moment}
 use Rattle.ink_model.specs.Memory.Asks.{asks}
 use Rattle.ink_model.specs.Run.Step.{step}
@@ -87,17 +87,19 @@ module _ (s : StoryTree) (b : Bound) (start : Configuration) where
     got : moment s b start (answers_of made) n ≡ At old [] made
     got = ap (λ answers. moment s b start answers n) (sym (append-nil (answers_of made))) ∙ (known n made (search_at None kept old) below h []).0
 
-    none : (more : List Made) → NoneBelow s b MAX_STEPS (moment s b start (answers_of (made ++ more))) n
-    none more = subst (λ answers. NoneBelow s b MAX_STEPS (moment s b start answers) n)
-        (sym (split_answers made more []) ∙ append-nil (answers_of (made ++ more))) (known n made (search_at None kept old) below h (answers_of more ++ [])).2
+    none : (more : List Made) → NoneSoFar s b start (made ++ more) n
+    none more =
+        let answers = sym (split_answers made more []) ∙ append-nil (answers_of (made ++ more)) in
+        let so = known n made (search_at None kept old) below h (answers_of more ++ []) in
+        (subst (λ answers. NoneBelow s b MAX_STEPS (moment s b start answers) n) answers so.2, subst (λ answers. NoneOpen s b (moment s b start answers) n) answers so.3)
 
     pub seek_falls : (more : List Made) → Short s b false false old more → LineShort s b start (made ++ more) old
     seek_falls more short = elim short [
       | inl asking ↦ elim asking [
         | inl before ↦ inl (subst
-            (λ all. (got : GetsTo s b start all old) × NoneBelow s b MAX_STEPS (moment s b start (answers_of all)) got.steps)
+            (λ all. (got : GetsTo s b start all old) × NoneSoFar s b start all got.steps)
             (sym (append-nil made) ∙ ap (λ more. made ++ more) (sym before.0))
-            (record { steps = n; within = below; got_there = got; asking = before.1 }, subst (λ all. NoneBelow s b MAX_STEPS (moment s b start (answers_of all)) n) (append-nil made) (none [])))
+            (record { steps = n; within = below; got_there = got; asking = before.1 }, subst (λ all. NoneSoFar s b start all n) (append-nil made) (none [])))
         | inr call ↦ inr (inl (
           record {
             steps = n;
@@ -116,7 +118,7 @@ module _ (s : StoryTree) (b : Bound) (start : Configuration) where
           none more,
         ))
       ]
-      | inr by ↦ elim by [ inl takes ↦ absurd (true≢false (sym takes.2)) | inr pressing ↦ absurd (true≢false (sym pressing)) ]
+      | inr by ↦ elim by [ inl takes ↦ absurd (true≢false (sym takes.2)) | inr pressing ↦ absurd (true≢false (sym pressing.1)) ]
     ]
 
   pub look_falls : (n : ℕ) (made : List Made) (w : ℕ) (kept old : Configuration) → n < MAX_STEPS → is_call (step s b old) ≡ false → ComesTo n (search_at (Some w) kept old) made

@@ -5,7 +5,7 @@ use Rattle.ink_model.specs.Choices.Making.{has_any}
 use Rattle.ink_model.specs.Host.Bindings.{Bound, nothing_bound, value_given}
 use Rattle.ink_model.specs.Run.Configuration.{Configuration, begun}
 use Rattle.ink_model.specs.Run.Effect.{Fields}
-use Rattle.ink_model.specs.Run.Line.{NoneBelow, StaysOpen, is_call}
+use Rattle.ink_model.specs.Run.Line.{NoneBelow, NoneOpen, StaysOpen, is_call}
 use Rattle.ink_model.specs.Run.Moments.{At, Made, answers_of, moment}
 use Rattle.ink_model.specs.Run.Opening.{declaring}
 use Rattle.ink_model.specs.Run.Step.{Wants, step}
@@ -114,9 +114,9 @@ pub record LooksFrom (s : StoryTree) (b : Bound) (c : Configuration) (made : Lis
   pub first : NoneBelow s b MAX_STEPS (moment s b c (answers_of made)) step
   pub goes_back : moment s b c (answers_of made) (suc step) ≡ At kept [] made
 
--- no step of a run up to there has a firm newline
+-- no step of a run up to there has a firm newline, and none is open there
 abbrev pub NoneSoFar : StoryTree → Bound → Configuration → List Made → ℕ → Type 0
-NoneSoFar s b c made steps = NoneBelow s b MAX_STEPS (moment s b c (answers_of made)) steps
+NoneSoFar s b c made steps = NoneBelow s b MAX_STEPS (moment s b c (answers_of made)) steps × NoneOpen s b (moment s b c (answers_of made)) steps
 
 -- The line of a command, with these calls made, got as far as a step for which memory was refused, and leaves these globals: with
 -- no newline open those before that step, as a run does; while it looked on from one, those behind that newline.

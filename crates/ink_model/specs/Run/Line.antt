@@ -90,6 +90,10 @@ pub record IsFirm (s : StoryTree) (b : Bound) (limit : ℕ) (m : ℕ → Moment)
 abbrev pub NoneBelow : StoryTree → Bound → ℕ → (ℕ → Moment) → ℕ → Type 0
 NoneBelow s b limit m n = (p : ℕ) → p < n → IsFirm s b limit m p → ⊥
 
+-- at moment n no newline is open: that of no step before stays open up to there
+abbrev pub NoneOpen : StoryTree → Bound → (ℕ → Moment) → ℕ → Type 0
+NoneOpen s b m n = (p : ℕ) → StaysOpen s b m p n → ⊥
+
 -- ---- the line
 
 -- the moment after the first step that has a firm newline
