@@ -8,3 +8,4 @@ pub mod Node
 pub mod Kept
 pub mod Listing
 pub mod Order
+pub mod Words

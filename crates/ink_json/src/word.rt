@@ -1,7 +1,8 @@
 //! The words that stand for leaves.
 
 ghost use Rattle.std.specs.Prelude.{◌≡◌};
-ghost use Rattle.ink_model.specs.Story.Word.{word, operator_word, meant, flow_words, evaluation_words, section_words, frame_words, count_words, arithmetic_words, comparison_words, logic_words, number_words};
+ghost use Rattle.ink_model.specs.Story.Word.{word, operator_word, meant, number_words};
+ghost use Rattle.ink_json.specs.Words.{evaluation_word, section_word, frame_word, count_word, comparison_word, logic_word};
 
 use ink_model::{Control, Leaf, Op};
 
@@ -10,17 +11,6 @@ use ink_model::{Control, Leaf, Op};
 pub(crate) fn word_leaf(text: &str) -> Option<Leaf>
     ensures { result ≡ word text.now }
 {
-    flow(text)
-        .or_else(|| evaluation(text))
-        .or_else(|| section(text))
-        .or_else(|| frame(text))
-        .or_else(|| count(text))
-        .or_else(|| operator(text))
-}
-
-fn flow(text: &str) -> Option<Leaf>
-    ensures { result ≡ meant text.now flow_words }
-{
     match text {
         "\n" => Some(Leaf::Newline),
         "<>" => Some(Leaf::Glue),
@@ -28,12 +18,13 @@ fn flow(text: &str) -> Option<Leaf>
         "end" => Some(Leaf::Control(Control::End)),
         "nop" => Some(Leaf::Control(Control::Nop)),
         "void" => Some(Leaf::Void),
-        _ => None,
+        _ => evaluation(text),
     }
 }
 
+// The same, of a word that is none of flow. Each function here hands on to the next what is none of its own words.
 fn evaluation(text: &str) -> Option<Leaf>
-    ensures { result ≡ meant text.now evaluation_words }
+    ensures { result ≡ evaluation_word text.now }
 {
     match text {
         "ev" => Some(Leaf::Control(Control::BeginEval)),
@@ -41,35 +32,35 @@ fn evaluation(text: &str) -> Option<Leaf>
         "out" => Some(Leaf::Control(Control::Out)),
         "pop" => Some(Leaf::Control(Control::Pop)),
         "du" => Some(Leaf::Control(Control::Duplicate)),
-        _ => None,
+        _ => section(text),
     }
 }
 
 fn section(text: &str) -> Option<Leaf>
-    ensures { result ≡ meant text.now section_words }
+    ensures { result ≡ section_word text.now }
 {
     match text {
         "str" => Some(Leaf::Control(Control::BeginString)),
         "/str" => Some(Leaf::Control(Control::EndString)),
         "#" => Some(Leaf::Control(Control::BeginTag)),
         "/#" => Some(Leaf::Control(Control::EndTag)),
-        _ => None,
+        _ => frame(text),
     }
 }
 
 fn frame(text: &str) -> Option<Leaf>
-    ensures { result ≡ meant text.now frame_words }
+    ensures { result ≡ frame_word text.now }
 {
     match text {
         "~ret" => Some(Leaf::Control(Control::Return)),
         "->->" => Some(Leaf::Control(Control::ReturnTunnel)),
         "thread" => Some(Leaf::Control(Control::Thread)),
-        _ => None,
+        _ => count(text),
     }
 }
 
 fn count(text: &str) -> Option<Leaf>
-    ensures { result ≡ meant text.now count_words }
+    ensures { result ≡ count_word text.now }
 {
     match text {
         "choiceCnt" => Some(Leaf::Control(Control::ChoiceCount)),
@@ -77,7 +68,7 @@ fn count(text: &str) -> Option<Leaf>
         "turns" => Some(Leaf::Control(Control::Turns)),
         "readc" => Some(Leaf::Control(Control::ReadCount)),
         "visit" => Some(Leaf::Control(Control::Visit)),
-        _ => None,
+        _ => operator(text),
     }
 }
 
@@ -86,15 +77,6 @@ fn count(text: &str) -> Option<Leaf>
 fn operator(text: &str) -> Option<Leaf>
     ensures { result ≡ operator_word text.now }
 {
-    arithmetic(text)
-        .or_else(|| comparison(text))
-        .or_else(|| logic(text))
-        .or_else(|| number(text))
-}
-
-fn arithmetic(text: &str) -> Option<Leaf>
-    ensures { result ≡ meant text.now arithmetic_words }
-{
     match text {
         "+" => Some(Leaf::Op(Op::Add)),
         "-" => Some(Leaf::Op(Op::Subtract)),
@@ -102,12 +84,12 @@ fn arithmetic(text: &str) -> Option<Leaf>
         "*" => Some(Leaf::Op(Op::Multiply)),
         "%" => Some(Leaf::Op(Op::Remainder)),
         "_" => Some(Leaf::Op(Op::Negate)),
-        _ => None,
+        _ => comparison(text),
     }
 }
 
 fn comparison(text: &str) -> Option<Leaf>
-    ensures { result ≡ meant text.now comparison_words }
+    ensures { result ≡ comparison_word text.now }
 {
     match text {
         "==" => Some(Leaf::Op(Op::Equal)),
@@ -116,12 +98,12 @@ fn comparison(text: &str) -> Option<Leaf>
         ">=" => Some(Leaf::Op(Op::AtLeast)),
         "<=" => Some(Leaf::Op(Op::AtMost)),
         "!=" => Some(Leaf::Op(Op::NotEqual)),
-        _ => None,
+        _ => logic(text),
     }
 }
 
 fn logic(text: &str) -> Option<Leaf>
-    ensures { result ≡ meant text.now logic_words }
+    ensures { result ≡ logic_word text.now }
 {
     match text {
         "!" => Some(Leaf::Op(Op::Not)),
@@ -129,7 +111,7 @@ fn logic(text: &str) -> Option<Leaf>
         "||" => Some(Leaf::Op(Op::Or)),
         "?" => Some(Leaf::Op(Op::Has)),
         "!?" => Some(Leaf::Op(Op::HasNot)),
-        _ => None,
+        _ => number(text),
     }
 }
 

@@ -41,7 +41,7 @@ module _ (s : StoryTree) (b : Bound) (made : List Made) (c begin : Configuration
     | inl faults ↦ inl (Broke f h.before.shared.globals, ends_through _ _ faults refl, (refl, h.kept))
     | inr short ↦ elim short.1 [
       | inl there ↦ inr (ap Err short.0, subst (FallsShort s b c made) (sym h.kept) (fell h.before there))
-      | inr by ↦ elim by [ inl takes ↦ absurd (true≢false (sym takes.1)) | inr pressing ↦ absurd (true≢false (sym pressing)) ]
+      | inr by ↦ elim by [ inl takes ↦ absurd (true≢false (sym takes.1)) | inr pressing ↦ absurd (true≢false (sym pressing.1)) ]
     ]
   ]
 

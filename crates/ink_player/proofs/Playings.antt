@@ -108,8 +108,8 @@ module _ {P F O : Type 0} (turn_log : F → List Called) (refusals : F → ℕ) 
   no_story_for a b h o n fault.Read e g =
       let t = g.0.takes in
       let bound = story_bound a b o n g.0.part g.0.part e t in
-      plays_early a b h o n g.0.part _ e t.takes bound
-      (inl (early _ bound, refl, refl, ap (λ l. has_newline (g.0.part ++ l)) g.1 ∙ ap has_newline (append-nil g.0.part) ∙ t.plain))
+      let all : g.0.part ++ n.unread ≡ g.0.part = ap (λ l. g.0.part ++ l) g.2 ∙ append-nil g.0.part in
+      plays_early a b h o n g.0.part _ e t.takes bound (inl (early _ bound, refl, refl, ap has_newline all ∙ t.plain, omega (arith, g.1, ap length all)))
   no_story_for a b h o n fault.Write e g = absurd g
   no_story_for a b h o n fault.TooLong e g =
       let t = g.0.takes in

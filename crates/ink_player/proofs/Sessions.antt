@@ -85,6 +85,10 @@ TakesLast a b o n line = TakesLine a b o n (MAX_LINE + 1) line line × (length l
 all_taken : (line unread : List ℕ) → unread ≡ [] → line ++ unread ≡ line
 all_taken line unread e = ap (λ l. line ++ l) e ∙ append-nil line
 
+-- of a line and what stands behind it no more was read than tells that a line is over its limit
+one_line_read : (a b : Option (List ℕ)) (o n : Buffered) (taken line : List ℕ) → length o.unread ≤ 4096 → TakesLine a b o n (MAX_LINE + 1) taken line → length (taken ++ n.unread) ≤ MAX_LINE + 1
+one_line_read a b o n taken line few t = omega (arith, few, t.room, length-append taken n.unread)
+
 module _ {P F O : Type 0} (turn_log : F → List Called) (refusals : F → ℕ) (state : O → Watching) where
   module _ (s : StoryTree) (host : Bindings) where
     abbrev Lines : List (List ℕ) → Scene P F O → List ℕ → Scene P F O → Type 0
@@ -119,6 +123,7 @@ module _ {P F O : Type 0} (turn_log : F → List Called) (refusals : F → ℕ) 
         lines = line ∷ p.lines;
         rest = p.rest;
         splits = splits_more line input p.lines p.rest is p.splits;
+        room = p.room;
         session = one_more line p.lines old mid new reply written serves p.session;
       }
 
@@ -130,7 +135,12 @@ module _ {P F O : Type 0} (turn_log : F → List Called) (refusals : F → ℕ) 
           each = subst (AllByRecursion IsLine) (sym (lines_first line input is.plain)) (is, p.each);
           session = subst (λ ls. Lines ls old (answer reply ++ written) new) (sym (lines_first line input is.plain)) (one_more line (lines_of input) old mid new reply written serves p.session);
         }
-        ends_more (Err fault.Read) p = record { served = front_more written new p.served; plain = p.plain }
+        ends_more (Err fault.Read) p = record {
+          served = front_more written new p.served;
+          plain = p.plain;
+          in_line = p.in_line;
+          in_input = omega (arith, p.in_input, length-append line (10 ∷ input));
+        }
         ends_more (Err fault.Write) p = record {
           mid = p.mid;
           answers = answer reply ++ p.answers;
@@ -173,10 +183,10 @@ module _ {P F O : Type 0} (turn_log : F → List Called) (refusals : F → ℕ) 
 
   -- ---- ends
 
-  abbrev none_served : (s : StoryTree) (host : Bindings) (input : List ℕ) (old : Scene P F O) → Front s host input old [] old
-  none_served s host input old = record { lines = []; rest = input; splits = record { whole = refl; each = tt }; session = no_lines s host old }
+  abbrev none_served : (s : StoryTree) (host : Bindings) (input : List ℕ) (old : Scene P F O) → length input ≤ MAX_LINE + 1 → Front s host input old [] old
+  none_served s host input old room = record { lines = []; rest = input; splits = record { whole = refl; each = tt }; room = room; session = no_lines s host old }
 
-  module _ (s : StoryTree) (host : Bindings) (a b h : Option (List ℕ)) (o n : Buffered) (bound : length n.unread ≤ n.spare + 1) (old : Scene P F O) where
+  module _ (s : StoryTree) (host : Bindings) (a b h : Option (List ℕ)) (o n : Buffered) (bound : length n.unread ≤ n.spare + 1) (few : length o.unread ≤ 4096) (old : Scene P F O) where
     -- what was taken and what is left of what was read is the input
     runs_of : (i : Option (List ℕ)) (taken written : List ℕ) (new : Scene P F O) (r : Result (Unit {0}) RunFault)
         → Takes a b o n taken → Appends h i written → Ends s host o.spare b (taken ++ n.unread) old written new r → Run s host o.spare o.unread a b h i old new r
@@ -194,23 +204,30 @@ module _ {P F O : Type 0} (turn_log : F → List Called) (refusals : F → ℕ) 
     ends_at part r t p = runs_of h part [] old r t (Appends-nil h) p
 
     -- there is no line
-    pub no_line : (f : RunFault) → length o.unread ≤ 4096 → GivesLine a b o n MAX_LINE (Err f) → Run s host o.spare o.unread a b h h old old (Err f)
-    no_line fault.Read few g =
-        ends_at g.0.part (Err fault.Read) g.0.takes.takes
-        (record { served = none_served s host _ old; plain = ap has_newline (all_taken g.0.part n.unread g.1) ∙ g.0.takes.plain })
-    no_line fault.Write few g = absurd g
-    no_line fault.TooLong few g =
+    pub no_line : (f : RunFault) → GivesLine a b o n MAX_LINE (Err f) → Run s host o.spare o.unread a b h h old old (Err f)
+    no_line fault.Read g =
+        let t = g.0.takes in
+        let all : g.0.part ++ n.unread ≡ g.0.part = all_taken g.0.part n.unread g.2 in
+        ends_at g.0.part (Err fault.Read) t.takes (record {
+          served = none_served s host _ old (one_line_read a b o n g.0.part g.0.part few t);
+          plain = ap has_newline all ∙ t.plain;
+          in_line = omega (arith, g.1, ap length all);
+          in_input = omega (arith, t.takes.count, ap length all);
+        })
+    no_line fault.Write g = absurd g
+    no_line fault.TooLong g =
         let t = g.0.takes in
         ends_at g.0.part (Err fault.TooLong) t.takes (record {
-          served = none_served s host _ old;
+          served = none_served s host _ old (one_line_read a b o n g.0.part g.0.part few t);
           over = elim g.1 [
             | inl q ↦ inl (record { front = g.0.part; more = n.unread; whole = refl; plain = t.plain; long = q })
             | inr q ↦ inr (record { front = g.0.part; more = n.unread; whole = refl; plain = t.plain; count = omega (arith, t.takes.count, q.1); long = q.2 })
           ];
         })
-    no_line fault.OutOfMemory few g =
+    no_line fault.OutOfMemory g =
+        let room = has_room a b o n MAX_LINE (omega (arith, few)) g in
         ends_at g.part (Err fault.OutOfMemory) g.takes.takes
-        (record { mid = old; served = none_served s host _ old; next = inl (has_room a b o n MAX_LINE (omega arith) g, refl) })
+        (record { mid = old; served = none_served s host _ old (omega (arith, room.in_line)); next = inl (room, refl) })
 
     pub no_last : (line : List ℕ) → TakesLast a b o n line → line ≡ [] → Run s host o.spare o.unread a b h h old old (Ok tt)
     no_last line t none =
@@ -224,35 +241,36 @@ module _ {P F O : Type 0} (turn_log : F → List Called) (refusals : F → ℕ) 
 
     module _ (i : Option (List ℕ)) (line : List ℕ) (new : Scene P F O) where
       -- a line was taken, and its answer not written
-      unserved : (taken : List ℕ) (f : RunFault) → Takes a b o n taken → IsLine line → IsFirst b (taken ++ n.unread) line → Answer s host line h i old new (Err f)
+      unserved : (taken : List ℕ) (f : RunFault) → TakesLine a b o n (MAX_LINE + 1) taken line → length line ≤ MAX_LINE → IsFirst b (taken ++ n.unread) line → Answer s host line h i old new (Err f)
           → Run s host o.spare o.unread a b h i old new (Err f)
-      unserved taken fault.Read t l first p = absurd p
-      unserved taken fault.Write t l first p =
-          runs_of i taken p.falls.part new (Err fault.Write) t p.falls.appended (record {
+      unserved taken fault.Read t within first p = absurd p
+      unserved taken fault.Write t within first p =
+          runs_of i taken p.falls.part new (Err fault.Write) t.takes p.falls.appended (record {
             mid = old;
             answers = [];
-            served = none_served s host _ old;
+            served = none_served s host _ old (one_line_read a b o n taken line few t);
             reply = p.reply;
-            first = record { line = line; is_line = l; first = first; serves = p.serves };
+            first = record { line = line; is_line = record { plain = t.plain; within = within }; first = first; serves = p.serves };
             part = p.falls.part;
             unwritten = p.falls.left;
             whole = p.falls.whole;
             cut = p.falls.some_left;
             ends = refl;
           })
-      unserved taken fault.TooLong t l first p = absurd p
-      unserved taken fault.OutOfMemory t l first p =
-          runs_of i taken [] new (Err fault.OutOfMemory) t p.appended
-          (record { mid = old; served = none_served s host _ old; next = inr (p.reply, p.asks, record { line = line; is_line = l; first = first; serves = p.serves }) })
+      unserved taken fault.TooLong t within first p = absurd p
+      unserved taken fault.OutOfMemory t within first p =
+          runs_of i taken [] new (Err fault.OutOfMemory) t.takes p.appended (record {
+            mid = old;
+            served = none_served s host _ old (one_line_read a b o n taken line few t);
+            next = inr (p.reply, p.asks, record { line = line; is_line = record { plain = t.plain; within = within }; first = first; serves = p.serves });
+          })
 
       pub whole_unserved : (f : RunFault) → TakesLine a b o n (MAX_LINE + 1) (line ++ 10 ∷ []) line × length line ≤ MAX_LINE → Answer s host line h i old new (Err f)
           → Run s host o.spare o.unread a b h i old new (Err f)
-      whole_unserved f t p =
-          unserved (line ++ 10 ∷ []) f t.0.takes (record { plain = t.0.plain; within = t.1 }) (inl (n.unread, append_assoc line (10 ∷ []) n.unread)) p
+      whole_unserved f t p = unserved (line ++ 10 ∷ []) f t.0 t.1 (inl (n.unread, append_assoc line (10 ∷ []) n.unread)) p
 
       pub last_unserved : (f : RunFault) → TakesLast a b o n line → 0 < length line → Answer s host line h i old new (Err f) → Run s host o.spare o.unread a b h i old new (Err f)
-      last_unserved f t some p =
-          unserved line f t.0.takes (record { plain = t.0.plain; within = t.1 }) (inr (all_taken line n.unread t.2, some, t.3)) p
+      last_unserved f t some p = unserved line f t.0 t.1 (inr (all_taken line n.unread t.2, some, t.3)) p
 
       pub last_served : TakesLast a b o n line → 0 < length line → Answered turn_log refusals state s host line h i old new → Run s host o.spare o.unread a b h i old new (Ok tt)
       last_served t some p =

@@ -78,12 +78,12 @@ module _ {P F O : Type 0} (turn_log : F → List Called) (refusals : F → ℕ) 
     pub taken : new.events ≡ []
 
   -- Why a play failed, and what became of its desk: a story that is refused or cannot be opened leaves it alone, and so does a
-  -- reader that fails within the story; else a player had it.
+  -- reader that fails within the story, which what came does not show over its limit; else a player had it.
   abbrev pub PlayFails : Option (List ℕ) → List ℕ → List ℕ → PlayFault → DeskView P F O → Type 0
   PlayFails left bytes written (play.Story r) new = EndsEarly bytes written × (new ≡ old) × IsStoryRefused left bytes r
   PlayFails left bytes written (play.Start f) new = EndsEarly bytes written × (new ≡ old) × IsUnopened left bytes f
   PlayFails left bytes written (play.Run f) new =
-      (EndsEarly bytes written × (new ≡ old) × (f ≡ fault.Read) × (has_newline bytes ≡ false)) ⊎ PlaysOn left bytes written (Err f) new
+      (EndsEarly bytes written × (new ≡ old) × (f ≡ fault.Read) × (has_newline bytes ≡ false) × (length bytes ≤ MAX_STORY)) ⊎ PlaysOn left bytes written (Err f) new
 
   abbrev pub PlayEnds : Option (List ℕ) → List ℕ → List ℕ → Result (DeskView P F O) (PlayEnd P F O) → Type 0
   PlayEnds left bytes written (Ok new) = PlaysOn left bytes written (Ok tt) new

@@ -61,17 +61,22 @@ module _ {P F O : Type 0} (turn_log : F → List Called) (refusals : F → ℕ) 
     pub each : AllByRecursion IsLine (lines_of input)
     pub session : ServesLines (lines_of input) old written new
 
-  -- whole lines with which the input begins were served, and rest stands behind them
+  -- Whole lines with which the input begins were served, and rest stands behind them: no more of it was read than tells that
+  -- a line is over its limit.
   pub record ServesFront (input : List ℕ) (old : Scene P F O) (written : List ℕ) (new : Scene P F O) : Type 0 where
     pub lines : List (List ℕ)
     pub rest : List ℕ
     pub splits : Splits input lines rest
+    pub room : length rest ≤ MAX_LINE + 1
     pub session : ServesLines lines old written new
 
-  -- the reader failed: every line was served that came whole
-  pub record LosesReader (input : List ℕ) (old : Scene P F O) (written : List ℕ) (new : Scene P F O) : Type 0 where
+  -- The reader failed: every line was served that came whole, and what was read shows neither the next line nor the input over
+  -- its limit.
+  pub record LosesReader (most : ℕ) (input : List ℕ) (old : Scene P F O) (written : List ℕ) (new : Scene P F O) : Type 0 where
     pub served : ServesFront input old written new
     pub plain : has_newline served.rest ≡ false
+    pub in_line : length served.rest ≤ MAX_LINE
+    pub in_input : length input ≤ most
 
   -- the next line, or the input, is over its limit: the lines before were served
   pub record GoesOver (most : ℕ) (input : List ℕ) (old : Scene P F O) (written : List ℕ) (new : Scene P F O) : Type 0 where
@@ -108,7 +113,7 @@ module _ {P F O : Type 0} (turn_log : F → List Called) (refusals : F → ℕ) 
 
   abbrev pub RunEnds : ℕ → Option (List ℕ) → List ℕ → Scene P F O → List ℕ → Scene P F O → Result (Unit {0}) RunFault → Type 0
   RunEnds most left input old written new (Ok x) = ServesAll most left input old written new
-  RunEnds most left input old written new (Err fault.Read) = LosesReader input old written new
+  RunEnds most left input old written new (Err fault.Read) = LosesReader most input old written new
   RunEnds most left input old written new (Err fault.Write) = LosesWriter left input old written new
   RunEnds most left input old written new (Err fault.TooLong) = GoesOver most input old written new
   RunEnds most left input old written new (Err fault.OutOfMemory) = RunsOutOfMemory most left input old written new

@@ -35,7 +35,7 @@ IsTooLong limit new part = (limit < length part) ⊎ ((length part ≤ limit) ×
 abbrev pub GivesLine : Option (List ℕ) → Option (List ℕ) → Buffered → Buffered → ℕ → Result Line RunFault → Type 0
 GivesLine left left' old new limit (Ok (a.Whole v)) = TakesLine left left' old new (limit + 1) (v.items ++ 10 ∷ []) v.items × (length v.items ≤ limit)
 GivesLine left left' old new limit (Ok (a.Last v)) = TakesLine left left' old new (limit + 1) v.items v.items × (length v.items ≤ limit) × (new.unread ≡ []) × IsAtEnd left'
-GivesLine left left' old new limit (Err fault.Read) = TakesPart left left' old new (limit + 1) × (new.unread ≡ [])
+GivesLine left left' old new limit (Err fault.Read) = (p : TakesPart left left' old new (limit + 1)) × (length p.part ≤ limit) × (new.unread ≡ [])
 GivesLine left left' old new limit (Err fault.Write) = ⊥
 GivesLine left left' old new limit (Err fault.TooLong) = (p : TakesPart left left' old new (limit + 1)) × IsTooLong limit new p.part
 GivesLine left left' old new limit (Err fault.OutOfMemory) = LacksMemory left left' old new limit

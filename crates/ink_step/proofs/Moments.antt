@@ -18,7 +18,7 @@ use Rattle.ink_model.specs.declared.host.Given.{Given}
 use Rattle.ink_model.specs.declared.limits.TheConstants.{MAX_STEPS}
 use Rattle.ink_model.specs.declared.value.Value.{Value}
 use Rattle.ink_step.specs.Marks.{takes_first}
-use Rattle.ink_step.specs.Runs.{AreBound, RunFalls, TakesAt}
+use Rattle.ink_step.specs.Runs.{AreBound, RunFalls, StepCalls, TakesAt}
 use Rattle.ink_step.specs.Steps.{StepEnds, StepMakes}
 use Rattle.ink_moves.specs.declared.flow.StepEnd.{StepEnd}
 use Rattle.ink_moves.specs.declared.flow.StepEnd.TheVariants as ends
@@ -60,7 +60,7 @@ abbrev pub Short : StoryTree → Bound → Bool → Bool → Configuration → L
 Short s b marked pressed old more = (((more ≡ []) × (asks s b old ≡ true))
     ⊎ ((name : List ℕ) × (arguments : List Value) × (given : Given) × (f : Fields) × (d : Configuration)
     × (step s b old ≡ Wants name arguments f d) × (more ≡ (record { name = name; arguments = arguments; gave = Some given }) ∷ []) × (answered_asks s arguments f d (Some given) ≡ true)))
-    ⊎ (((more ≡ []) × (takes_first s old ≡ true) × (marked ≡ true)) ⊎ (pressed ≡ true))
+    ⊎ (((more ≡ []) × (takes_first s old ≡ true) × (marked ≡ true)) ⊎ (StepCalls s b old more × (pressed ≡ true)))
 
 -- the moment after a step with these calls, by what it returned
 abbrev pub Ends : StoryTree → Bound → Bool → Bool → List Made → List Made → Configuration → Configuration → Result StepEnd Fault → Type 0
@@ -95,7 +95,7 @@ module _ (s : StoryTree) (b : Bound) (marked pressed : Bool) (made : List Made) 
   short_plainly : by_mark || asks s b old ≡ true → Short s b marked pressed old []
   short_plainly h = elim (either by_mark (asks s b old) h) [
     | inl asking ↦ inl (inl (refl, asking))
-    | inr by ↦ inr (elim (taken_or (takes_first s old) marked pressed by) [ inl takes ↦ inl (refl, takes.0, takes.1) | inr is ↦ inr is ])
+    | inr by ↦ inr (elim (taken_or (takes_first s old) marked pressed by) [ inl takes ↦ inl (refl, takes.0, takes.1) | inr is ↦ inr (inl refl, is) ])
   ]
 
   -- ---- without a call
@@ -146,7 +146,7 @@ module _ (s : StoryTree) (b : Bound) (marked pressed : Bool) (made : List Made) 
                 short.0,
                 elim (either by_mark (answered_asks s arguments f d gave) short.1) [
                   | inl asked ↦ inl (inr (by gave refl asked))
-                  | inr pressing ↦ inr (elim (taken_or (takes_first s old) marked pressed pressing) [ inl takes ↦ absurd (takes_calls s b old name arguments f d takes.0 is) | inr so ↦ inr so ])
+                  | inr pressing ↦ inr (elim (taken_or (takes_first s old) marked pressed pressing) [ inl takes ↦ absurd (takes_calls s b old name arguments f d takes.0 is) | inr so ↦ inr (inr (name, arguments, gave, f, d, is, refl), so) ])
                 ],
               )
         ],
@@ -243,7 +243,7 @@ module _ (s : StoryTree) (b : Bound) (start : Configuration) where
                   (subst (λ all. TakesAt s b start all old) (sym (append-nil made)) (record { steps = n; within = below; got_there = alone made n ∙ h []; takes = takes.1 })),
               takes.2,
             )
-            | inr pressing ↦ inr pressing
+            | inr pressing ↦ inr (record { steps = n; within = below; before = made; got_there = alone made n ∙ h []; last = more; step_calls = pressing.0; calls = refl }, pressing.1)
           ])
           | inl asked ↦ inl (elim asked [
             | inl before ↦ inl (subst (λ all. GetsTo s b start all old) (ap (λ more. made ++ more) (sym before.0))

@@ -11,7 +11,7 @@ use Rattle.ink_model.specs.declared.limits.TheConstants.{MAX_STEPS}
 use Rattle.ink_model.specs.Run.Opening.{declarations, declaring, opening, opened_by, opened_from}
 use Rattle.ink_model.specs.declared.fault.Fault.{Fault}
 use Rattle.ink_model.specs.declared.place.Part.{Part}
-use Rattle.ink_step.specs.Runs.{AreBound, RunFalls, RunsToStop, TakesAt}
+use Rattle.ink_step.specs.Runs.{AreBound, PressedAt, RunFalls, RunsToStop, TakesAt}
 use Rattle.ink_step.specs.Steps.{FailsToOpen}
 
 -- a machine at a place where nothing has happened yet, without globals
@@ -51,9 +51,9 @@ module _ (s : StoryTree) (found : Option (List Part)) (is : found ≡ option_map
   opens_plainly c globals none starts empty =
       ap (opened_from s) (begins_at ∙ ap (option_map fresh_at) none) ∙ ap Ok (sym (starts ∙ ap (start s) empty))
 
-  never_calls : (start reached : Configuration) → (GetsTo s nothing_bound start [] reached ⊎ CallsAt s nothing_bound start [] reached) ⊎ ((TakesAt s nothing_bound start [] reached × (false ≡ true)) ⊎ (false ≡ true)) → GetsTo s nothing_bound start [] reached
+  never_calls : (start reached : Configuration) → (GetsTo s nothing_bound start [] reached ⊎ CallsAt s nothing_bound start [] reached) ⊎ ((TakesAt s nothing_bound start [] reached × (false ≡ true)) ⊎ (PressedAt s nothing_bound start [] reached × (false ≡ true))) → GetsTo s nothing_bound start [] reached
   never_calls start reached (inl there) = elim there [ inl at ↦ at | inr calling ↦ absurd (not_last calling.before _ calling.calls) ]
-  never_calls start reached (inr by) = elim by [ inl takes ↦ absurd (true≢false (sym takes.1)) | inr pressing ↦ absurd (true≢false (sym pressing)) ]
+  never_calls start reached (inr by) = elim by [ inl takes ↦ absurd (true≢false (sym takes.1)) | inr pressing ↦ absurd (true≢false (sym pressing.1)) ]
 
   module _ (q : List Part) (begin : Configuration) (some : found ≡ Some q) (begins : begin ≡ begun (fresh_at q)) where
     first : declaring s ≡ Some (fresh_at q)

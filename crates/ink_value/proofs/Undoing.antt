@@ -78,3 +78,15 @@ pub another_on : (vs us ws : List Value) (v : Value) (n k m below : ℕ) → n �
 another_on vs us ws v n k m below long same short there was is =
     let over : m - 1 ≡ below = left_over vs us n k m below long same short there was in
     is ∙ ap (λ xs. xs ++ v ∷ []) (ap (λ i. take i us) over ∙ ap (take below) was ∙ take-take below (n - (k - below - 1)) vs (omega arith))
+
+-- a value more is held where there was room for it
+pub is_pushed : (old roomy new : Vec Value Global) (v : Value) (u w : Option (Undo StackPair)) → roomy.items ≡ old.items → vec_capacity old ≤ vec_capacity roomy
+    → vec_len old < MAX_STACK → vec_len roomy < vec_capacity roomy → new.items ≡ roomy.items ++ v ∷ [] → vec_capacity new ≡ vec_capacity roomy → w ≡ with_pair Pushed 1 u
+    → StaysHeld (vec_capacity old) (trail_of u) old.items → (vec_len new ≤ MAX_STACK) × StaysHeld (vec_capacity new) (trail_of w) new.items
+is_pushed old roomy new v u w same more few room pushed as_roomy noted h =
+    let items = pushed ∙ ap (λ vs. vs ++ v ∷ []) same in
+    let longer = ap length items ∙ length-append old.items (v ∷ []) in
+    let within : length new.items ≤ MAX_STACK = omega (arith, longer, few, old.ok.0) in
+    let fits : length new.items ≤ vec_capacity new = omega (arith, longer, room, as_roomy, old.ok.0, roomy.ok.0, ap length same) in
+    rw noted (is_held new _ (held-with Pushed 1 old.items new.items u (vec_capacity old) (vec_capacity new) (pushed_back old.items new.items v items) (within, fits)
+    (omega (arith, more, as_roomy)) h))

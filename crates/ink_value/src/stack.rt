@@ -15,7 +15,7 @@ ghost use Rattle.ink_value.specs.Undo.{stack_back, stack_spare, stack_stood};
 
 use crate::numbers::of_numbers;
 use crate::operate::{apply, number_of};
-use crate::undo::{StackPair, drop_noted, replace_noted};
+use crate::undo::{StackPair, drop_last, drop_noted, replace_noted};
 use ink_model::{Fault, MAX_STACK, Op, Value};
 use ink_trail::Trail;
 use std::alloc::{AllocError, Global};
@@ -91,11 +91,7 @@ impl EvalStack {
         ensures stood { stack_stood self.new ≡ stack_stood self.old }
         ensures spare { stack_spare self.old ≤ stack_spare self.new + 1 }
     {
-        if self.items.len() >= MAX_STACK {
-            return Err(Fault::TooDeep);
-        }
-        make_room(&mut self.items)?;
-        self.trail.ready(1)?;
+        make_ready(&mut self.items, &mut self.trail)?;
         self.trail.note(StackPair::Pushed, 1);
         self.items.push_reserved(value);
         Ok(())
@@ -338,7 +334,7 @@ impl EvalStack {
         ensures items { self.new.items ≡ take (length self.old.items - 1) self.old.items }
         ensures trail { self.new.trail ≡ self.old.trail }
     {
-        self.items.pop();
+        drop_last(&mut self.items);
     }
 
     // Another value stands on top, while no mark stands.
@@ -392,6 +388,27 @@ fn copied(value: &Value, alloc: Global, trail: &mut Trail<StackPair>) -> Result<
 {
     trail.ready(1)?;
     value.clone_in(alloc)
+}
+
+/// Makes room for one more value, and for one change more. `TooDeep` where 10,000 values are there; `OutOfMemory` for a refused
+/// request for memory.
+#[inline(always)]
+fn make_ready(items: &mut Vec<Value>, trail: &mut Trail<StackPair>) -> Result<(), Fault>
+    ensures items { items.new.items ≡ items.old.items }
+    ensures more { vec_capacity items.old ≤ vec_capacity items.new }
+    ensures kept { KeepsTrail trail.old trail.new }
+    ensures few { OnOk result (vec_len items.old < MAX_STACK) }
+    ensures room { OnOk result (vec_len items.new < vec_capacity items.new) }
+    ensures spare { OnOk result (1 ≤ spare trail.new) }
+    ensures too_deep { (result ≡ Err Fault.TooDeep) ↔ (MAX_STACK ≤ vec_len items.old) }
+    ensures faults { IfErr result (λ f. (f ≡ Fault.TooDeep) ⊎ (f ≡ Fault.OutOfMemory)) }
+{
+    if items.len() >= MAX_STACK {
+        return Err(Fault::TooDeep);
+    }
+    make_room(items)?;
+    trail.ready(1)?;
+    Ok(())
 }
 
 /// Makes room for one more value. `OutOfMemory` for a refused request for memory.

@@ -74,15 +74,22 @@ fn put_one_back(items: &mut Vec<Value>, pair: StackPair)
     ensures capacity { vec_capacity items.old ≤ vec_capacity items.new }
 {
     match pair {
-        StackPair::Pushed => {
-            let _pushed = items.pop();
-        }
+        StackPair::Pushed => drop_last(items),
         StackPair::Popped(value) => items.push_reserved(value),
         StackPair::Replaced(value) => {
-            let _top = items.pop();
+            drop_last(items);
             items.push_reserved(value);
         }
     }
+}
+
+/// The value on top goes, where there is one.
+#[inline(always)]
+pub(crate) fn drop_last(items: &mut Vec<Value>)
+    ensures items { items.new.items ≡ take (vec_len items.old - 1) items.old.items }
+    ensures capacity { vec_capacity items.new ≡ vec_capacity items.old }
+{
+    items.pop();
 }
 
 /// Takes away the values on top, so many of them, each into the trail.

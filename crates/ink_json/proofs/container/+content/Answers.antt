@@ -26,7 +26,7 @@ read_keyed-read_named-requires t c =
 pub read_container-read_inside-requires : goal.read_container-read_inside-requires
 read_container-read_inside-requires t c =
     let step = ap items_size c.in-Some.ensures.value in
-    (omega (arith, step), (c.if-context-gt-MAX_NESTING.false, opened_room c.args.nodes.now c.open.new.self _ (items_size (items_left c.args.items)) _ c.in_ok-open.ensures step c.requires.room))
+    (omega (arith, step), (omega arith, opened_room c.args.nodes.now c.open.new.self _ (items_size (items_left c.args.items)) _ c.in_ok-open.ensures step c.requires.room))
 
 pub read_container-close-requires : goal.read_container-close-requires
 read_container-close-requires t c =

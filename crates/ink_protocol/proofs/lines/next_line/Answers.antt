@@ -3,6 +3,15 @@ use Rattle.std.proofs.lemmas.List.{length-append}
 use Rattle.ink_protocol.proofs.Reading.{stays, goes_whole, goes_further, not_cut}
 use Rattle.ink_protocol.proofs.lines.next_line.Goals as goal
 
+pub returns-in_default-clause-gives : goal.returns-in_default-clause-gives
+returns-in_default-clause-gives g c =
+    let room : length c.next.new.self.unread ≤ max (length c.pieces.ahead.unread) (max (c.args.limit - length c.pieces.line.items) 1) = omega (arith, c.in_default.ensures.room) in
+    let gives = c.in_default.ensures.gives in (
+      record { part = c.pieces.line.items; takes = stays _ _ _ _ _ _ _ _ c.pieces.invariant.takes c.pieces.invariant.within gives.0 room },
+      c.pieces.invariant.within,
+      gives.1,
+    )
+
 pub returns-in-TooMany-clause-gives : goal.returns-in-TooMany-clause-gives
 returns-in-TooMany-clause-gives g c =
     let room : length c.next.new.self.unread ≤ max (length c.pieces.ahead.unread) (max (c.args.limit - length c.pieces.line.items) 1) = omega (arith, c.in-Ok.ensures.room) in

@@ -1,8 +1,9 @@
-use Rattle.std.proofs.Common.{◌∙◌, [], ◌∷◌, ap, arith, refl, reverse, vec_capacity}
+use Rattle.std.proofs.Common.{◌∙◌, [], ◌∷◌, ap, arith, refl, reverse, vec_capacity, vec_len}
 use Rattle.std.proofs.lemmas.List.{reverse-append}
 use Rattle.ink_stack.specs.Running.{threads_in}
 use Rattle.ink_stack.proofs.Holding.{room-refl, room-same, running-back, room-under}
 use Rattle.ink_stack.proofs.Lengths.{room_behind}
+use Rattle.ink_stack.proofs.Reversing.{popped_gone}
 use Rattle.ink_stack.proofs.undo.put_one_back.Goals as goal
 
 pub returns-in-Placed : goal.returns-in-Placed
@@ -49,3 +50,8 @@ pub push_reserved-requires : goal.push_reserved-requires
 push_reserved-requires g c =
     room_behind c.args.below.now (vec_capacity c.args.below.now)
     (room-under c.args.pair c.in-ThreadPopped.top (record { frames = c.args.running.now.room; threads = vec_capacity c.args.below.now }) (threads_in c.args.running.now c.args.below.now.items) c.in-ThreadPopped.is c.requires)
+
+pub returns-in-ThreadPushed-clause-threads : goal.returns-in-ThreadPushed-clause-threads
+returns-in-ThreadPushed-clause-threads g c =
+    rw c.in-ThreadPushed.is (ap (λ ts. record { thread = c.args.running.now.thread; below = ts })
+    (popped_gone c.args.below.now.items c.pop-copy.new.self.items c.pop-copy.result (vec_len c.args.below.now) c.args.below.now.ok.0 c.pop-copy.ensures.items c.pop-copy.ensures.rest))

@@ -32,4 +32,4 @@ returns-clause-kept c =
     let at = c.slot-slot.result in
     let many = c.len.ensures ∙ slots.ok.0 in
     rw (← c.self.view_is) (keeps_others slots.items c.args.name.now at c.small-held.result c.len.result c.slot-slot.ensures.slot many (subst (λ n. at < n) many c.slot-slot.ensures.within)
-    c.index.result.now c.index.ensures c.if-index-gt0.false)
+    c.index.result.now c.index.ensures (omega arith))
