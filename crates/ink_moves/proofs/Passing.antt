@@ -29,12 +29,12 @@ module _ {P Q : Type 0} (f : P → Q) where
 
   pub pops : {U : Type 0} (k : FrameKind) (d : ℕ) (old new : ThreadsOf P) (result : Result U Fault) → Changes (top_result (frame_popped k d old.thread) old) old new result
       → Changes (top_result (frame_popped k d (map_threads f old).thread) (map_threads f old)) (map_threads f old) (map_threads f new) result
-  pops k d old new result h = subst (λ r. Changes (top_result r (map_threads f old)) (map_threads f old) (map_threads f new) result) (sym (popped_map k d old.thread))
+  pops k d old new result h = subst (λ r. Changes (top_result r (map_threads f old)) (map_threads f old) (map_threads f new) result) (sym (popped_map f k d old.thread))
       (changes_map (frame_popped k d old.thread) old new result h)
 
   pub pushes : {U : Type 0} (k : FrameKind) (d : ℕ) (old new : ThreadsOf P) (u : U) → Grows (top_result (frame_pushed k d old.thread) old) old new (Ok u)
       → Grows (top_result (frame_pushed k d (map_threads f old).thread) (map_threads f old)) (map_threads f old) (map_threads f new) (Ok u)
-  pushes k d old new u h = subst (λ r. Grows (top_result r (map_threads f old)) (map_threads f old) (map_threads f new) (Ok u)) (sym (pushed_map k d old.thread))
+  pushes k d old new u h = subst (λ r. Grows (top_result r (map_threads f old)) (map_threads f old) (map_threads f new) (Ok u)) (sym (pushed_map f k d old.thread))
       (grows_map (frame_pushed k d old.thread) old new u h)
 
 -- ---- what is written
