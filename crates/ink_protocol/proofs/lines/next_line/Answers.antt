@@ -77,9 +77,3 @@ returns-in-End-clause-gives g c =
     let room : length c.next.new.self.unread ≤ max (length c.pieces.ahead.unread) (max (c.args.limit - length c.pieces.line.items) 1) = omega (arith, c.in-Ok.ensures.room) in
     let gives = rw c.in-End.is at c.in-Ok.ensures.gives in
     (stays _ _ _ _ _ _ _ _ c.pieces.invariant.takes c.pieces.invariant.within gives.0 room, c.pieces.invariant.within, gives.1, gives.2)
-
-pub returns-in_default-clause-gives : goal.returns-in_default-clause-gives
-returns-in_default-clause-gives g c =
-    let room : length c.next.new.self.unread ≤ max (length c.pieces.ahead.unread) (max (c.args.limit - length c.pieces.line.items) 1) = omega (arith, c.in_default.ensures.room) in
-    let gives = c.in_default.ensures.gives in
-    (record { part = c.pieces.line.items; takes = stays _ _ _ _ _ _ _ _ c.pieces.invariant.takes c.pieces.invariant.within gives.0 room }, gives.1)
