@@ -1,5 +1,5 @@
 -- Choices as they are shown are the same among spots and among places.
-use Rattle.std.proofs.Common.{◌≡◌, ◌≢◌, ◌∙◌, ap, refl, List, [], ◌∷◌, map, false, if◌then◌else◌, Result, Ok, Err, OnErr}
+use Rattle.std.proofs.Common.{◌≡◌, ◌≢◌, ◌∙◌, ap, sym, refl, List, [], ◌∷◌, map, false, if◌then◌else◌, Result, Ok, Err, OnErr}
 use Rattle.ink_model.specs.Choices.Making.{shown, shown_choice, visible}
 use Rattle.ink_model.specs.Run.Configuration.{ChoiceOf, can_go_on, map_choice}
 use Rattle.ink_model.specs.Story.Tree.{StoryTree}
