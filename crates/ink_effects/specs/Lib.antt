@@ -1,5 +1,6 @@
 pub mod Standing
 pub mod Marks
+pub mod Flows
 pub mod Performs
 pub mod External
 pub mod Refusals

@@ -1,18 +1,16 @@
-use Rattle.std.proofs.Common.{◌≡◌, ◌∙◌, ◌&&◌, ◌||◌, List, OnOk, Result, Some, ap, inl, inr, is_some, of_z, refl, rules, subst, sym, to_z, to_z-of_z, w32}
+use Rattle.std.proofs.Common.{◌≡◌, ◌∙◌, List, OnOk, Result, Some, ap, inl, inr, of_z, refl, rules, subst, sym, to_z, to_z-of_z, w32}
 use Rattle.ink_check.specs.Standing.{story_tree}
 use Rattle.ink_model.specs.Run.Configuration.{ChoiceOf}
-use Rattle.ink_model.specs.Run.Effect.{Fields}
+use Rattle.ink_model.specs.Run.Effect.{Effect, Fields}
 use Rattle.ink_model.specs.Flow.Frames.{ThreadsOf}
-use Rattle.ink_model.specs.Memory.Refusals.{leaf_asks}
 use Rattle.ink_model.specs.Text.Page.{Page}
-use Rattle.ink_model.specs.Run.Step.{leaf_effect}
 use Rattle.ink_model.specs.Variables.Store.{Values}
 use Rattle.ink_model.specs.Story.Tree.{StoryTree, leaf}
 use Rattle.ink_model.specs.declared.content.Leaf.{Leaf}
 use Rattle.ink_model.specs.declared.fault.Fault.{Fault}
 use Rattle.ink_model.specs.declared.scope.Scope.TheVariants.{Global, Temporary}
 use Rattle.ink_model.specs.declared.value.Value.{Value}
-use Rattle.ink_effects.specs.Marks.{takes_value}
+use Rattle.ink_effects.specs.Flows.{fields_of_flow, leaf_asks_in, leaf_effect_in}
 use Rattle.ink_effects.specs.Performs.{KeepsThreads, KeepsChoices, Performs, fields_in, leading}
 use Rattle.ink_effects.specs.Standing.{Rest, rest_in, seen_by}
 use Rattle.ink_effects.specs.declared.transfer.Transfer.{Transfer}
@@ -23,7 +21,6 @@ use Rattle.ink_effects.proofs.leaf.perform_leaf.Goals as goal
 use Rattle.ink_effects.proofs.leaf.perform_leaf.Goals.{Start}
 use Rattle.ink_tree.specs.Nodes.{place_of}
 use Rattle.ink_tree.specs.declared.spot.Spot.{Spot}
-use Rattle.ink_value.specs.Undo.{stack_stood}
 
 -- ---- what is performed, where
 
@@ -32,21 +29,23 @@ module _ (c : Start) where
   tree = story_tree c.args.story.now
 
   abbrev before : ThreadsOf Spot
-  before = c.args.threads.now.threads
+  before = c.args.flow.now.threads.threads
 
   abbrev rest : Rest
-  rest = rest_in c.args.choices.now.items c.args.shared.now
+  rest = rest_in c.args.flow.now.choices.items c.args.shared.now
 
   abbrev old : Fields
-  old = fields_in before.thread.frame c.args.stack.now.items c.args.output.now.page c.args.shared.now.globals.rows
+  old = fields_of_flow c.args.flow.now c.args.output.now.page c.args.shared.now.globals.rows
 
   -- ---- content that is known
 
+  abbrev does_there : Leaf → Effect
+  does_there l = leaf_effect_in tree c.args.here l c.args.flow.now c.args.output.now.page c.args.shared.now
+
   abbrev Does : Leaf → Fields → Result Transfer Fault → Type 0
   Does l new r =
-      let p = place_of tree c.args.here in
-      let seen = seen_by tree before rest in
-      Performs tree ((takes_value l && is_some (stack_stood c.args.stack.now)) || leaf_asks tree p seen l old) (leaf_effect tree p seen l old) new r
+      let page = c.args.output.now.page in
+      Performs tree (leaf_asks_in tree c.args.here l c.args.flow.now page c.args.shared.now) (does_there l) new r
 
   does : (l k : Leaf) (new : Fields) (led r : Result Transfer Fault) → l ≡ k → led ≡ r → Does k new r → Does l new led
   does l k new led r is leads h = subst (λ x. Does x new led) (sym is) (subst (Does k new) (sym leads) h)
@@ -59,13 +58,13 @@ module _ (c : Start) where
 
   module _ {A : Type 0} where
     abbrev KeptBy : Leaf → ThreadsOf Spot → Result A Fault → Type 0
-    KeptBy l after r = OnOk r (KeepsThreads tree (leaf_effect tree (place_of tree c.args.here) (seen_by tree before rest) l old) before after)
+    KeptBy l after r = OnOk r (KeepsThreads tree (does_there l) before after)
 
     keeps : (l k : Leaf) (after : ThreadsOf Spot) (r : Result A Fault) → l ≡ k → KeptBy k after r → KeptBy l after r
     keeps l k after r is h = subst (λ x. KeptBy x after r) (sym is) h
 
     abbrev OffersBy : Leaf → List (ChoiceOf Spot) → Result A Fault → Type 0
-    OffersBy l after r = OnOk r (KeepsChoices tree (leaf_effect tree (place_of tree c.args.here) (seen_by tree before rest) l old) c.args.choices.now.items after)
+    OffersBy l after r = OnOk r (KeepsChoices tree (does_there l) c.args.flow.now.choices.items after)
 
     offers : (l k : Leaf) (after : List (ChoiceOf Spot)) (r : Result A Fault) → l ≡ k → OffersBy k after r → OffersBy l after r
     offers l k after r is h = subst (λ x. OffersBy x after r) (sym is) h
@@ -75,9 +74,9 @@ module _ (c : Start) where
     kept_plain l k r is plain =
         keeps l k before r is (when_ok r _ (keeps_plain tree _ before before (leaf_plain tree (place_of tree c.args.here) (seen_by tree before rest) k old plain) refl))
 
-    offers_none : (l k : Leaf) (r : Result A Fault) → l ≡ k → IsPlainLeaf k → OffersBy l c.args.choices.now.items r
+    offers_none : (l k : Leaf) (r : Result A Fault) → l ≡ k → IsPlainLeaf k → OffersBy l c.args.flow.now.choices.items r
     offers_none l k r is plain =
-        offers l k c.args.choices.now.items r is (when_ok r _ (offers_plain tree _ c.args.choices.now.items (leaf_plain tree (place_of tree c.args.here) (seen_by tree before rest) k old plain)))
+        offers l k c.args.flow.now.choices.items r is (when_ok r _ (offers_plain tree _ c.args.flow.now.choices.items (leaf_plain tree (place_of tree c.args.here) (seen_by tree before rest) k old plain)))
 
 -- ---- each content
 
@@ -99,7 +98,7 @@ pub returns-in-Control-clause-threads : goal.returns-in-Control-clause-threads
 returns-in-Control-clause-threads c =
     let w = (goal.at.returns-in-Control-clause-threads c).Start in
     keeps w _ _ _ _ c.in-Control.is
-    (when_ok c.perform_control.result _ (keeps_plain (tree w) _ (before w) c.perform_control.new.threads.threads (control_plain (tree w) (place_of (tree w) c.args.here) (seen_by (tree w) (before w) (rest w)) c.in-Control.control (old w)) c.perform_control.ensures.threads))
+    (when_ok c.perform_control.result _ (keeps_plain (tree w) _ (before w) c.perform_control.new.flow.threads.threads (control_plain (tree w) (place_of (tree w) c.args.here) (seen_by (tree w) (before w) (rest w)) c.in-Control.control (old w)) c.perform_control.ensures.threads))
 
 pub returns-in-Text-clause-effect : goal.returns-in-Text-clause-effect
 returns-in-Text-clause-effect c =
@@ -229,24 +228,24 @@ returns-in-Choice-clause-choices c =
 pub returns-in-Control-clause-choices : goal.returns-in-Control-clause-choices
 returns-in-Control-clause-choices c =
     let w = (goal.at.returns-in-Control-clause-choices c).Start in
-    offers w _ _ _ _ c.in-Control.is (when_ok c.perform_control.result _ (offers_plain (tree w) _ c.args.choices.now.items (control_plain (tree w) (place_of (tree w) c.args.here) (seen_by (tree w) (before w) (rest w)) c.in-Control.control (old w))))
+    rw (ap (λ f. f.choices.items) c.perform_control.ensures.same) (offers w _ _ _ _ c.in-Control.is (when_ok c.perform_control.result _ (offers_plain (tree w) _ c.args.flow.now.choices.items (control_plain (tree w) (place_of (tree w) c.args.here) (seen_by (tree w) (before w) (rest w)) c.in-Control.control (old w)))))
 
 pub returns-in-Declare-clause-choices : goal.returns-in-Declare-clause-choices
 returns-in-Declare-clause-choices c =
     let w = (goal.at.returns-in-Declare-clause-choices c).Start in
-    offers w _ _ _ _ c.in-Declare.is (when_ok c.declare.result _ (declare_offers_none (tree w) c.args.choices.now.items Global c.in-Declare.name (seen_by (tree w) (before w) (rest w)) (old w)))
+    offers w _ _ _ _ c.in-Declare.is (when_ok c.declare.result _ (declare_offers_none (tree w) c.args.flow.now.choices.items Global c.in-Declare.name (seen_by (tree w) (before w) (rest w)) (old w)))
 
 pub returns-in-DeclareTemp-clause-choices : goal.returns-in-DeclareTemp-clause-choices
 returns-in-DeclareTemp-clause-choices c =
     let w = (goal.at.returns-in-DeclareTemp-clause-choices c).Start in
-    offers w _ _ _ _ c.in-DeclareTemp.is (when_ok c.declare-in-DeclareTemp.result _ (declare_offers_none (tree w) c.args.choices.now.items Temporary c.in-DeclareTemp.name (seen_by (tree w) (before w) (rest w)) (old w)))
+    offers w _ _ _ _ c.in-DeclareTemp.is (when_ok c.declare-in-DeclareTemp.result _ (declare_offers_none (tree w) c.args.flow.now.choices.items Temporary c.in-DeclareTemp.name (seen_by (tree w) (before w) (rest w)) (old w)))
 
 pub returns-in-Assign-clause-choices : goal.returns-in-Assign-clause-choices
 returns-in-Assign-clause-choices c =
     let w = (goal.at.returns-in-Assign-clause-choices c).Start in
     elim c.in-Assign.is [
-      | inl is ↦ offers w _ _ _ _ is (when_ok c.assign.result _ (assign_offers_none (tree w) c.args.choices.now.items _ (seen_by (tree w) (before w) (rest w)) (old w)))
-      | inr is ↦ offers w _ _ _ _ is (when_ok c.assign.result _ (assign_offers_none (tree w) c.args.choices.now.items _ (seen_by (tree w) (before w) (rest w)) (old w)))
+      | inl is ↦ offers w _ _ _ _ is (when_ok c.assign.result _ (assign_offers_none (tree w) c.args.flow.now.choices.items _ (seen_by (tree w) (before w) (rest w)) (old w)))
+      | inr is ↦ offers w _ _ _ _ is (when_ok c.assign.result _ (assign_offers_none (tree w) c.args.flow.now.choices.items _ (seen_by (tree w) (before w) (rest w)) (old w)))
     ]
 
 pub returns-in-Choice-clause-threads : goal.returns-in-Choice-clause-threads

@@ -5,7 +5,8 @@ use Rattle.ink_model.specs.Memory.Refusals.{content_asks}
 use Rattle.ink_model.specs.Run.Step.{effect}
 use Rattle.ink_model.specs.Story.Tree.{leaf, at}
 use Rattle.ink_step.specs.Marks.{takes_there}
-use Rattle.ink_effects.specs.Performs.{KeepsThreads, KeepsChoices, Performs, fields_in, leading}
+use Rattle.ink_effects.specs.Flows.{fields_of_flow}
+use Rattle.ink_effects.specs.Performs.{KeepsThreads, KeepsChoices, Performs, leading}
 use Rattle.ink_step.specs.Standing.{config_of}
 use Rattle.ink_effects.proofs.Plain.{keeps_plain, offers_plain}
 use Rattle.ink_step.proofs.Finished.{leaf_there}
@@ -26,7 +27,7 @@ returns-in-Some-clause-effect c =
     let seen = context_of (config_of s machine) in
     let old = fields_of (config_of s machine) in
     let marked = is_some (stack_stood machine.flow.stack) in
-    subst (λ o. Performs s ((takes_there o && marked) || content_asks s p o seen old) (effect s p o seen old) (fields_in c.perform_leaf.new.threads.threads.thread.frame c.perform_leaf.new.stack.items c.perform_leaf.new.output.page machine.shared.globals.rows) (leading c.perform_leaf.result c.perform_leaf.new.transfer)) (sym (leaf_found (goal.at.returns-in-Some-clause-effect c).In-Some)) c.perform_leaf.ensures.effect
+    subst (λ o. Performs s ((takes_there o && marked) || content_asks s p o seen old) (effect s p o seen old) (fields_of_flow c.perform_leaf.new.flow c.perform_leaf.new.output.page machine.shared.globals.rows) (leading c.perform_leaf.result c.perform_leaf.new.transfer)) (sym (leaf_found (goal.at.returns-in-Some-clause-effect c).In-Some)) c.perform_leaf.ensures.effect
 
 pub returns-in-Some-clause-threads : goal.returns-in-Some-clause-threads
 returns-in-Some-clause-threads c =
@@ -35,7 +36,7 @@ returns-in-Some-clause-threads c =
     let machine = c.args.self.now in
     let seen = context_of (config_of s machine) in
     let old = fields_of (config_of s machine) in
-    subst (λ o. OnOk c.perform_leaf.result (KeepsThreads s (effect s p o seen old) machine.flow.threads.threads c.perform_leaf.new.threads.threads)) (sym (leaf_found (goal.at.returns-in-Some-clause-threads c).In-Some)) c.perform_leaf.ensures.threads
+    subst (λ o. OnOk c.perform_leaf.result (KeepsThreads s (effect s p o seen old) machine.flow.threads.threads c.perform_leaf.new.flow.threads.threads)) (sym (leaf_found (goal.at.returns-in-Some-clause-threads c).In-Some)) c.perform_leaf.ensures.threads
 
 pub returns-in-Some-clause-choices : goal.returns-in-Some-clause-choices
 returns-in-Some-clause-choices c =
@@ -44,10 +45,12 @@ returns-in-Some-clause-choices c =
     let machine = c.args.self.now in
     let seen = context_of (config_of s machine) in
     let old = fields_of (config_of s machine) in
-    subst (λ o. OnOk c.perform_leaf.result (KeepsChoices s (effect s p o seen old) machine.flow.choices.items c.perform_leaf.new.choices.items)) (sym (leaf_found (goal.at.returns-in-Some-clause-choices c).In-Some)) c.perform_leaf.ensures.choices
+    subst (λ o. OnOk c.perform_leaf.result (KeepsChoices s (effect s p o seen old) machine.flow.choices.items c.perform_leaf.new.flow.choices.items)) (sym (leaf_found (goal.at.returns-in-Some-clause-choices c).In-Some)) c.perform_leaf.ensures.choices
 
 pub returns-in-Some-clause-mark : goal.returns-in-Some-clause-mark
-returns-in-Some-clause-mark c = rw (c.perform_leaf.ensures.threads_mark, c.perform_leaf.ensures.stack_mark, c.perform_leaf.ensures.choices_mark, c.perform_leaf.ensures.output_mark) refl
+returns-in-Some-clause-mark c =
+    let marks = c.perform_leaf.ensures.marks in
+    rw (marks.0, marks.1, marks.2, c.perform_leaf.ensures.output_mark, c.perform_leaf.ensures.safe) refl
 
 pub perform_leaf-requires-clause-stands : goal.perform_leaf-requires-clause-stands
 perform_leaf-requires-clause-stands c =
