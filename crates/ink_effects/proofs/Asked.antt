@@ -2,26 +2,14 @@
 use Rattle.std.proofs.Common.{◌≡◌, ◌∙◌, ◌&&◌, ap, sym, subst, refl, inl, arith, ℕ, ◌≤◌, ℤ, List, [], ◌∷◌, ◌++◌, length, reverse, slice_get, nat_lt, if◌then◌else◌, Bool, true, false, Option, Some, None, option_map, ok_or, Result, Ok, Err, is_ok}
 use Rattle.std.proofs.lemmas.List.{length-append}
 use Rattle.ink_model.specs.Run.Effect.{Context, Effect, Fields, Landing as Goal, Moves, or_else, or_fault, pushing}
-use Rattle.ink_model.specs.Memory.Asks.{has_room}
+use Rattle.ink_effects.proofs.Common.{has_room, Page, popped, pushed, landing_by, Values, StoryTree, Fault, MAX_STACK, Part, Value, Changes, Performs, fields, landing_of, moving, Landing, place_of}
 use Rattle.ink_model.specs.Memory.Refusals.{Leaves, visit_asks}
-use Rattle.ink_model.specs.Text.Page.{Page}
-use Rattle.ink_model.specs.Values.Stack.{popped, pushed}
 use Rattle.ink_model.specs.Run.Step.Counts.{asking, pushing_count, visits_at}
-use Rattle.ink_model.specs.Run.Step.Diverts.{landing_by}
-use Rattle.ink_model.specs.Variables.Store.{Values}
-use Rattle.ink_model.specs.Story.Tree.{StoryTree}
-use Rattle.ink_model.specs.declared.fault.Fault.{Fault}
 use Rattle.ink_model.specs.declared.fault.Fault.TheVariants.{BadTarget, NotCounted, OutOfMemory, StackEmpty, TooDeep}
-use Rattle.ink_model.specs.declared.limits.TheConstants.{MAX_STACK}
-use Rattle.ink_model.specs.declared.place.Part.{Part}
-use Rattle.ink_model.specs.declared.value.Value.{Value}
 use Rattle.ink_model.specs.declared.value.Value.TheVariants as value
 use Rattle.ink_effects.proofs.Effects.{operated}
 use Rattle.ink_effects.proofs.Tops.{top_seen}
 use Rattle.ink_effects.specs.Asked.{Answers, asked_place, visits_in}
-use Rattle.ink_effects.specs.Performs.{Changes, Performs, fields, landing_of, moving}
-use Rattle.ink_effects.specs.declared.transfer.Landing.{Landing}
-use Rattle.ink_tree.specs.Nodes.{place_of}
 
 ok_same : {A : Type 0} (a b : A) → ◌≡◌ {A = Result A Fault} (Ok a) (Ok b) → a ≡ b
 ok_same a b h = cc

@@ -8,21 +8,14 @@ use Rattle.ink_host.specs.declared.objects.Bound.{Bound as Function}
 use Rattle.ink_host.specs.declared.objects.Bound.TheVariants as bound
 use Rattle.ink_host.specs.declared.objects.FnKind.TheVariants as kind
 use Rattle.ink_model.specs.Memory.Asks.{binding_asks, takes_arguments}
-use Rattle.ink_model.specs.Run.Effect.{Fields, Moves, Fails}
+use Rattle.ink_effects.proofs.Common.{Fields, Moves, Fails, popped, StoryTree, Fault, Given, Value, Performs, Transfer}
 use Rattle.ink_model.specs.Host.Bindings.{Binding, pure_function, turn_function}
-use Rattle.ink_model.specs.Values.Stack.{popped}
 use Rattle.ink_model.specs.Run.Step.Diverts.{condition, leaving_fields, truth_on}
 use Rattle.ink_model.specs.Run.Step.Host.{Acts, Suspends, CallEffect, arguments_of, arguments_on, ask_pure, call_bound, fall_back, has_string, is_argument, or_fails}
-use Rattle.ink_model.specs.Story.Tree.{StoryTree}
 use Rattle.ink_model.specs.Values.Value.{is_true}
-use Rattle.ink_model.specs.declared.fault.Fault.{Fault}
 use Rattle.ink_model.specs.declared.fault.Fault.TheVariants.{BadOperands, UnsafeInString}
 use Rattle.ink_model.specs.declared.host.Event.{Event}
-use Rattle.ink_model.specs.declared.host.Given.{Given}
-use Rattle.ink_model.specs.declared.value.Value.{Value}
 use Rattle.ink_effects.specs.External.{PerformsCall, is_asking, is_true_of}
-use Rattle.ink_effects.specs.Performs.{Performs}
-use Rattle.ink_effects.specs.declared.transfer.Transfer.{Transfer}
 use Rattle.ink_effects.proofs.Externals.{bound_none, bound_pure, bound_turn, pure_there}
 use Rattle.ink_effects.proofs.Tops.{top_of}
 

@@ -3,20 +3,15 @@ use Rattle.std.proofs.Common.{◌≡◌, inl, refl, subst, sym, ℕ, List, [], �
 use Rattle.std.specs.List.{list_any}
 use Rattle.ink_model.specs.Memory.Asks.{has_room, has_tag_room}
 use Rattle.ink_model.specs.Text.Bytes.{fits_text}
-use Rattle.ink_model.specs.Run.Effect.{Effect, Fields, Moves, or_fault, pushing}
+use Rattle.ink_effects.proofs.Common.{Effect, Fields, Moves, or_fault, pushing, has_string, StoryTree, MAX_STACK, Value, Performs}
 use Rattle.ink_model.specs.Text.Output.{closes_string, closes_string_of, closes_tag, closes_tag_of, is_string, tagged, writes_tag}
 use Rattle.ink_model.specs.Text.Page.{Page, Section, SectionKind, string_section, tag_section}
-use Rattle.ink_model.specs.Run.Step.Host.{has_string}
 use Rattle.ink_model.specs.Run.Step.Text.{closed_tag, end_string, in_string, in_tag, keeps_tag, write_tag}
-use Rattle.ink_model.specs.Story.Tree.{StoryTree}
 use Rattle.ink_model.specs.declared.fault.Fault.TheVariants.{BadMode, TooDeep}
-use Rattle.ink_model.specs.declared.limits.TheConstants.{MAX_STACK}
 use Rattle.ink_model.specs.declared.mark.Mark.{Mark}
-use Rattle.ink_model.specs.declared.value.Value.{Value}
 use Rattle.ink_model.specs.declared.value.Value.TheVariants as value
 use Rattle.ink_model.specs.Text.Shown.{shown_text}
 use Rattle.ink_model.specs.Text.Clean.{clean}
-use Rattle.ink_effects.specs.Performs.{Performs}
 
 -- ---- none is open on top
 

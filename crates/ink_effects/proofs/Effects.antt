@@ -1,12 +1,7 @@
 -- What performing does where a call of it fails.
 use Rattle.std.proofs.Common.{◌≡◌, ap, sym, refl, subst, inl, inr, Result, Ok, Err, Bool, true, false, ◌||◌}
-use Rattle.ink_model.specs.Run.Effect.{Fields, Effect, Moves, Stores, Fails, or_fault}
+use Rattle.ink_effects.proofs.Common.{Fields, Effect, Moves, Stores, Fails, or_fault, StoryTree, Fault, OutOfMemory, Changes, Performs, Transfer}
 use Rattle.ink_model.specs.Memory.Refusals.{Gives, Leaves}
-use Rattle.ink_model.specs.Story.Tree.{StoryTree}
-use Rattle.ink_model.specs.declared.fault.Fault.{Fault}
-use Rattle.ink_model.specs.declared.fault.Fault.TheVariants.{OutOfMemory}
-use Rattle.ink_effects.specs.Performs.{Changes, Performs}
-use Rattle.ink_effects.specs.declared.transfer.Transfer.{Transfer}
 use Rattle.ink_effects.specs.declared.transfer.Transfer.TheVariants as transfer
 
 module _ (s : StoryTree) (asks : Bool) (new : Fields) where

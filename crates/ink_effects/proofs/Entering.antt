@@ -15,14 +15,13 @@ use Rattle.ink_model.specs.Story.Path.{is_container}
 use Rattle.ink_model.specs.Story.Tree.{StoryTree, leaf, container, at}
 use Rattle.ink_model.specs.Run.Visits.{adds_rows, all_visited}
 use Rattle.ink_model.specs.declared.fault.Fault.TheVariants.{NotCounted}
-use Rattle.ink_model.specs.declared.place.Part.{Part}
+use Rattle.ink_effects.proofs.Common.{Part, counts_spare, counts_stood}
 use Rattle.ink_effects.specs.Standing.{counts_in, rows_below, rows_in}
 use Rattle.ink_model.proofs.Maps.{KeepsPlace, row_map, with_row_map}
 use Rattle.ink_tree.specs.Kept.{leaf_in}
 use Rattle.ink_tree.specs.Nodes.{NumbersInOrder, node_place}
-use Rattle.ink_tree.proofs.Rising.{place_total}
+use Rattle.ink_model.proofs.Orders.{place_total}
 use Rattle.ink_vars.proofs.Marks.{counts_free}
-use Rattle.ink_vars.specs.Undo.{counts_spare, counts_stood}
 use Rattle.ink_vars.specs.Views.{CountsView}
 
 -- ---- rows below a number

@@ -13,31 +13,21 @@ use Rattle.ink_model.specs.Memory.Asks.{binding_asks, so_where, takes_arguments}
 use Rattle.ink_model.specs.Run.Effect.{Effect, Fields, Landing as Goal, Calls, Fails, Moves, or_else, or_fault}
 use Rattle.ink_model.specs.Host.Events.{calls}
 use Rattle.ink_model.specs.Host.Bindings.{Binding, pure_function, shares, turn_function}
-use Rattle.ink_model.specs.Memory.Refusals.{given_asks}
+use Rattle.ink_effects.proofs.Common.{given_asks, popped, StoryTree, Fault, Given, Part, Value, Performs, Transfer, node_place, place_of, Spot}
 use Rattle.ink_model.specs.Run.Place.{knot, landed}
-use Rattle.ink_model.specs.Values.Stack.{popped}
 use Rattle.ink_model.specs.Run.Step.Diverts.{condition, leaving_fields, truth_on}
 use Rattle.ink_model.specs.Values.Value.{is_true}
 use Rattle.ink_model.specs.Run.Step.Host.{Acts, Suspends, CallEffect, answering, arguments_of, arguments_on, arguments_taken, ask_pure, call_bound, fall_back, has_string, is_argument, or_fails}
-use Rattle.ink_model.specs.Story.Tree.{StoryTree}
-use Rattle.ink_model.specs.declared.fault.Fault.{Fault}
 use Rattle.ink_model.specs.declared.fault.Fault.TheVariants.{BadOperands, HostRefused, OutOfMemory, Unbound, UnsafeInString}
 use Rattle.ink_model.specs.declared.frame.FrameKind.TheVariants.{Function}
 use Rattle.ink_model.specs.declared.host.Event.{Event}
 use Rattle.ink_model.specs.declared.host.Event.TheVariants as event
-use Rattle.ink_model.specs.declared.host.Given.{Given}
 use Rattle.ink_model.specs.declared.host.Given.TheVariants.{Text}
-use Rattle.ink_model.specs.declared.place.Part.{Part}
-use Rattle.ink_model.specs.declared.value.Value.{Value}
 use Rattle.ink_effects.specs.External.{PerformsCall, lent_arguments, lent_of, made_call}
-use Rattle.ink_effects.specs.Performs.{Performs}
 use Rattle.ink_stack.specs.declared.frame.CallKind.TheVariants as call
-use Rattle.ink_effects.specs.declared.transfer.Transfer.{Transfer}
 use Rattle.ink_effects.specs.declared.transfer.Transfer.TheVariants as transfer
 use Rattle.ink_effects.proofs.Effects.{performs_where, short}
-use Rattle.ink_tree.specs.Nodes.{node_place, place_of}
 use Rattle.ink_tree.specs.declared.spot.NodeId.{NodeId}
-use Rattle.ink_tree.specs.declared.spot.Spot.{Spot}
 
 -- ---- what a name is bound to
 

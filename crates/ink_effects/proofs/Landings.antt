@@ -5,24 +5,14 @@ use Rattle.ink_model.specs.Story.Acceptance.{content_counted, content_target, co
 use Rattle.ink_model.specs.Run.Effect.{Context, Landing as Goal}
 use Rattle.ink_model.specs.Flow.Frames.{ThreadOf, map_thread}
 use Rattle.ink_model.specs.Story.Path.{ends_in_index, target}
-use Rattle.ink_model.specs.Run.Step.Diverts.{landing_by, led_by, led_to}
-use Rattle.ink_model.specs.Variables.Store.{Values}
-use Rattle.ink_model.specs.Variables.Access.{read}
+use Rattle.ink_effects.proofs.Common.{landing_by, led_by, led_to, Values, read, Leaf, Fault, BadTarget, Part, landing_of, Landing, node_place, place_of, Spot}
 use Rattle.ink_model.specs.Story.Tree.{StoryTree, leaf, container, at}
 use Rattle.ink_model.specs.declared.content.Destination.{Destination}
 use Rattle.ink_model.specs.declared.content.Destination.TheVariants as destination
-use Rattle.ink_model.specs.declared.content.Leaf.{Leaf}
 use Rattle.ink_model.specs.declared.content.Leaf.TheVariants.{Count}
-use Rattle.ink_model.specs.declared.fault.Fault.{Fault}
-use Rattle.ink_model.specs.declared.fault.Fault.TheVariants.{BadTarget}
-use Rattle.ink_model.specs.declared.place.Part.{Part}
 use Rattle.ink_model.specs.declared.place.Path.{Path}
 use Rattle.ink_model.specs.declared.value.Value.TheVariants as value
 use Rattle.ink_model.proofs.Maps.{read_map}
-use Rattle.ink_effects.specs.Performs.{landing_of}
-use Rattle.ink_effects.specs.declared.transfer.Landing.{Landing}
-use Rattle.ink_tree.specs.Nodes.{node_place, place_of}
-use Rattle.ink_tree.specs.declared.spot.Spot.{Spot}
 
 -- the first node is the root
 pub root_is : (s : StoryTree) → node_place s (record { number = 0 }) ≡ []

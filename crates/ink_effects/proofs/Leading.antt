@@ -1,13 +1,8 @@
 -- Content that leads elsewhere: diverts and calls.
 use Rattle.std.proofs.Common.{◌≡◌, refl, subst, sym, inl, Bool, true, false, if◌then◌else◌, Result, Ok, Err}
 use Rattle.ink_model.specs.Run.Effect.{Fields, Effect, Landing as Goal, Moves, Lands, Calls, or_fault}
-use Rattle.ink_model.specs.Story.Tree.{StoryTree}
-use Rattle.ink_model.specs.declared.fault.Fault.{Fault}
-use Rattle.ink_effects.specs.Performs.{Performs, landing_of}
-use Rattle.ink_stack.specs.Calls.{frame_kind}
+use Rattle.ink_effects.proofs.Common.{StoryTree, Fault, Performs, landing_of, frame_kind, Landing, Transfer}
 use Rattle.ink_stack.specs.declared.frame.CallKind.{CallKind}
-use Rattle.ink_effects.specs.declared.transfer.Landing.{Landing}
-use Rattle.ink_effects.specs.declared.transfer.Transfer.{Transfer}
 use Rattle.ink_effects.specs.declared.transfer.Transfer.TheVariants as transfer
 
 module _ (s : StoryTree) (asks : Bool) (new : Fields) where

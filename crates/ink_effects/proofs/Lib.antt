@@ -1,3 +1,4 @@
+pub mod Common
 pub mod Bools
 mod Tops
 mod Puts

@@ -6,29 +6,17 @@ use Rattle.ink_model.specs.Story.Acceptance.{content_counted, counted_container,
 use Rattle.ink_model.specs.Choices.Making.{added, choice, choice_asks, make}
 use Rattle.ink_model.specs.Run.Configuration.{ChoiceOf, map_choice}
 use Rattle.ink_model.specs.Run.Effect.{Context, Effect, Fields, Offers, or_else, or_fault}
-use Rattle.ink_model.specs.Flow.Frames.{ThreadsOf}
+use Rattle.ink_effects.proofs.Common.{ThreadsOf, Page, Values, StoryTree, at, leaf, Fault, BadTarget, TooDeep, Part, Value, visits_in, Rest, counts_in, seen_by, Transfer, place_of, Spot}
 use Rattle.ink_model.specs.Memory.Asks.{makes_choice, offer_asks}
-use Rattle.ink_model.specs.Text.Page.{Page}
 use Rattle.ink_model.specs.Run.Step.Choices.{is_visited, offer, offering, visited_at, was_visited}
-use Rattle.ink_model.specs.Variables.Store.{Values}
-use Rattle.ink_model.specs.Story.Tree.{StoryTree, at, leaf}
 use Rattle.ink_model.specs.declared.content.Leaf.TheVariants.{Choice}
-use Rattle.ink_model.specs.declared.fault.Fault.{Fault}
-use Rattle.ink_model.specs.declared.fault.Fault.TheVariants.{BadTarget, TooDeep}
 use Rattle.ink_model.specs.declared.limits.TheConstants.{MAX_CHOICES}
-use Rattle.ink_model.specs.declared.place.Part.{Part}
-use Rattle.ink_model.specs.declared.value.Value.{Value}
 use Rattle.ink_model.proofs.Maps.{added_map, choice_asks_map, made_at, make_map, offered_at}
 use Rattle.ink_effects.proofs.Effects.{short}
 use Rattle.ink_effects.proofs.Bools.{or_first, or_more}
 use Rattle.ink_effects.proofs.Landings.{leaf_landing}
-use Rattle.ink_effects.specs.Asked.{visits_in}
 use Rattle.ink_effects.specs.Performs.{KeepsChoices, Performs, fields, moving}
-use Rattle.ink_effects.specs.Standing.{Rest, counts_in, seen_by}
-use Rattle.ink_effects.specs.declared.transfer.Transfer.{Transfer}
 use Rattle.ink_effects.specs.declared.transfer.Transfer.TheVariants as transfer
-use Rattle.ink_tree.specs.Nodes.{place_of}
-use Rattle.ink_tree.specs.declared.spot.Spot.{Spot}
 
 -- ---- a choice point
 

@@ -2,7 +2,7 @@
 use Rattle.std.proofs.Common.{◌≡◌, ap, refl, ℕ, ℤ, List, Bool, true, false, if◌then◌else◌, Option, Some, None, OnOk, Result, Ok, Err, reverse}
 use Rattle.ink_model.specs.Story.Acceptance.{lands, leads}
 use Rattle.ink_model.specs.Choices.Making.{added, make}
-use Rattle.ink_model.specs.Run.Configuration.{ChoiceOf}
+use Rattle.ink_effects.proofs.Common.{ChoiceOf, Values, StoryTree, read, Leaf, Fault, Part, Value, place_of, Spot}
 use Rattle.ink_model.specs.Run.Effect.{Context, Fields, Effect, Stores, Offers, or_else, or_fault, pushing, writing, writing_text}
 use Rattle.ink_model.specs.Flow.Frames.{ThreadOf, ThreadsOf, map_threads, mode_in, on_top}
 use Rattle.ink_model.specs.Text.Output.{closes_string, opens, writes_tag}
@@ -17,22 +17,13 @@ use Rattle.ink_model.specs.Run.Step.Diverts.{condition, landing_by, led_to, wher
 use Rattle.ink_model.specs.Run.Step.Evaluation.{output_popped, push_value}
 use Rattle.ink_model.specs.Run.Step.Text.{closed_tag, in_tag, keeps_tag, write_tag}
 use Rattle.ink_model.specs.Run.Step.Variables.{assign, declare, storing}
-use Rattle.ink_model.specs.Variables.Store.{Values}
-use Rattle.ink_model.specs.Story.Tree.{StoryTree}
-use Rattle.ink_model.specs.Variables.Access.{read}
 use Rattle.ink_model.specs.declared.content.Control.{Control}
 use Rattle.ink_model.specs.declared.content.Control.TheVariants as control
-use Rattle.ink_model.specs.declared.content.Leaf.{Leaf}
 use Rattle.ink_model.specs.declared.content.Leaf.TheVariants as leaves
-use Rattle.ink_model.specs.declared.fault.Fault.{Fault}
 use Rattle.ink_model.specs.declared.fault.Fault.TheVariants.{BadTarget, StackEmpty}
-use Rattle.ink_model.specs.declared.place.Part.{Part}
 use Rattle.ink_model.specs.declared.scope.Scope.{Scope}
-use Rattle.ink_model.specs.declared.value.Value.{Value}
 use Rattle.ink_model.specs.declared.value.Value.TheVariants as value
 use Rattle.ink_effects.specs.Performs.{AsksToStore, KeepsThreads, KeepsChoices}
-use Rattle.ink_tree.specs.Nodes.{place_of}
-use Rattle.ink_tree.specs.declared.spot.Spot.{Spot}
 
 abbrev pub IsPlain : Effect → Type 0
 IsPlain (Stores t f) = ⊥

@@ -3,22 +3,12 @@ use Rattle.std.proofs.Common.{◌≡◌, ◌∙◌, ◌+◌, ◌-◌, ◌<◌, �
 use Rattle.std.proofs.lemmas.Bool.{le-leb, leb-true, lt-ltb}
 use Rattle.std.proofs.lemmas.List.{take_all, take_more}
 use Rattle.ink_model.specs.Choices.Making.{has_any}
-use Rattle.ink_model.specs.Run.Effect.{Fields, Moves, Fails, or_fault, pushing}
+use Rattle.ink_effects.proofs.Common.{Fields, Moves, Fails, or_fault, pushing, Page, popped, pushed, Values, StoryTree, Fault, OutOfMemory, TooDeep, Given, MAX_STACK, Value, Performs, fields, moving}
 use Rattle.ink_model.specs.Host.Bindings.{fits_given, value_given}
 use Rattle.ink_model.specs.Memory.Refusals.{Leaves, given_asks, holds_memory}
-use Rattle.ink_model.specs.Text.Page.{Page}
-use Rattle.ink_model.specs.Values.Stack.{popped, pushed}
 use Rattle.ink_model.specs.Run.Step.Host.{answering, arguments_on}
-use Rattle.ink_model.specs.Variables.Store.{Values}
-use Rattle.ink_model.specs.Story.Tree.{StoryTree}
-use Rattle.ink_model.specs.declared.fault.Fault.{Fault}
-use Rattle.ink_model.specs.declared.fault.Fault.TheVariants.{OutOfMemory, TooDeep}
-use Rattle.ink_model.specs.declared.host.Given.{Given}
-use Rattle.ink_model.specs.declared.limits.TheConstants.{MAX_STACK}
-use Rattle.ink_model.specs.declared.value.Value.{Value}
 use Rattle.ink_model.specs.declared.value.Value.TheVariants.{Void}
 use Rattle.ink_value.specs.Stack.{with_top}
-use Rattle.ink_effects.specs.Performs.{Performs, fields, moving}
 use Rattle.ink_effects.proofs.Effects.{operated}
 use Rattle.ink_effects.proofs.Bools.{or_more}
 use Rattle.ink_effects.proofs.Tops.{top_taken}

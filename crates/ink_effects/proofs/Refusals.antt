@@ -2,8 +2,7 @@
 use Rattle.std.proofs.Common.{◌≡◌, ◌∙◌, ◌⊎◌, ap, inl, inr, refl, subst, sym, ℕ, List, [], ◌∷◌, Bool, true, false, bytes_eq, Option, Some, Result, Ok, Err, if◌then◌else◌}
 use Rattle.std.proofs.lemmas.Slice.Eq.{bytes_eq-Decides}
 use Rattle.ink_host.specs.Desk.{DeskView, Rows, at, counted, refusals_at, without}
-use Rattle.ink_model.specs.declared.fault.Fault.{Fault}
-use Rattle.ink_model.specs.declared.fault.Fault.TheVariants.{OutOfMemory}
+use Rattle.ink_effects.proofs.Common.{Fault, OutOfMemory}
 use Rattle.ink_effects.specs.Refusals.{KeepsRefusals, StepStopsAtRefusal, StopsAtRefusal, refusals_for}
 
 -- what stands at a name stands there too without the row of another

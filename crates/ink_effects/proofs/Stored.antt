@@ -1,29 +1,16 @@
 -- What reading, declaring and assigning do, by the variable that is read or written.
 use Rattle.std.proofs.Common.{◌≡◌, ◌∙◌, ℕ, List, Bool, true, false, not, ◌&&◌, ◌||◌, Some, Result, Ok, Err, OnOk, ap, inl, inr, is_ok, refl, subst, sym}
-use Rattle.ink_model.specs.Memory.Asks.{has_room}
-use Rattle.ink_model.specs.Run.Effect.{Fields, Effect, Stores}
+use Rattle.ink_effects.proofs.Common.{has_room, Fields, Effect, Stores, Leaves, Page, popped, pushed, Values, StoryTree, Fault, OutOfMemory, Value, Rest, seen_by, Transfer, place_of, Spot}
 use Rattle.ink_model.specs.Flow.Frames.{ThreadOf, ThreadsOf, fresh_depth, map_thread}
-use Rattle.ink_model.specs.Memory.Refusals.{Leaves}
-use Rattle.ink_model.specs.Text.Page.{Page}
-use Rattle.ink_model.specs.Values.Stack.{popped, pushed}
 use Rattle.ink_model.specs.Run.Step.Variables as effects
 use Rattle.ink_model.specs.Run.Step.Variables.{storing}
-use Rattle.ink_model.specs.Variables.Store.{Values}
-use Rattle.ink_model.specs.Story.Tree.{StoryTree}
 use Rattle.ink_model.specs.Memory.Variables.{assign_asks, declare_asks, is_pointer, on_popped, setting_asks}
 use Rattle.ink_model.specs.Variables.Access.{assign, declare, declared, kept, read}
-use Rattle.ink_model.specs.declared.fault.Fault.{Fault}
-use Rattle.ink_model.specs.declared.fault.Fault.TheVariants.{OutOfMemory}
 use Rattle.ink_model.specs.declared.scope.Scope.{Scope}
-use Rattle.ink_model.specs.declared.value.Value.{Value}
 use Rattle.ink_effects.specs.Performs.{Changes, KeepsThreads, Performs, fields}
-use Rattle.ink_effects.specs.Standing.{Rest, seen_by}
-use Rattle.ink_effects.specs.declared.transfer.Transfer.{Transfer}
 use Rattle.ink_effects.proofs.Effects.{operated, performs_where, short}
 use Rattle.ink_effects.proofs.Bools.{or_first, or_more}
 use Rattle.ink_model.proofs.Maps.{assign_map, declare_map, left_as, read_map, setting_asks_map}
-use Rattle.ink_tree.specs.Nodes.{place_of}
-use Rattle.ink_tree.specs.declared.spot.Spot.{Spot}
 use Rattle.ink_vars.specs.Outcomes.{Declares, HandsOut, LeadsTo, with_variable, writing_asks}
 use Rattle.ink_vars.specs.declared.places.Variable.{Variable}
 

@@ -2,10 +2,7 @@
 use Rattle.std.proofs.Common.{◌≡◌, ◌∙◌, ap, sym, subst, refl, inl, List, [], ◌∷◌, ◌++◌, reverse, slice_get, Bool, true, false, Some, option_map, Ok, Err}
 use Rattle.std.proofs.lemmas.List.{reverse-reverse}
 use Rattle.std.proofs.lemmas.Grind.{reverse_onto}
-use Rattle.ink_model.specs.Values.Stack.{popped}
-use Rattle.ink_model.specs.declared.fault.Fault.{Fault}
-use Rattle.ink_model.specs.declared.fault.Fault.TheVariants.{OutOfMemory, TooDeep}
-use Rattle.ink_model.specs.declared.value.Value.{Value}
+use Rattle.ink_effects.proofs.Common.{popped, Fault, OutOfMemory, TooDeep, Value}
 use Rattle.ink_effects.specs.Stacks.{CopiesTop}
 
 -- one value on top

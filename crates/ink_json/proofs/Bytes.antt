@@ -2,17 +2,13 @@
 use Rattle.std.proofs.Common.{◌≡◌, ℕ, ◌+◌, ◌<◌, ◌≤◌, List, [], ◌∷◌, length, Bool, true, false, ◌==◌, Option, Some, None, Result, Ok, Err, IsSome, IsUtf8, Ordering, Less, Equal, Greater, nat_cmp, refl, sym, ap, ◌∙◌, arith}
 use Rattle.std.proofs.lemmas.Bool.{eqb-true, eqb-false}
 use Rattle.std.proofs.lemmas.Str.{IsUtf8-from_is_utf8, is_utf8-from_IsUtf8}
-use Rattle.std.specs.Cmp.Lexicographic.{slice_cmp}
-use Rattle.std.specs.Ordering.{match_ordering}
+use Rattle.ink_json.proofs.Common.{slice_cmp, match_ordering, Data, null, boolean, number, string, array, object, Members, no_members, member, read, size, members_size, ReadRefusal}
 use Rattle.std.specs.Str.{is_utf8}
 use Rattle.json.specs.Token.{Token}
 use Rattle.json.specs.Lex.{tokens}
 use Rattle.json.specs.Json.{document}
-use Rattle.serde_json.specs.Data.{Data, null, boolean, number, string, array, object, Members, no_members, member}
 use Rattle.serde_json.specs.Find.{get, get_member}
-use Rattle.serde_json.specs.Read.{read}
 use Rattle.serde_json.proofs.OnLiterals.{serde_json_on_literals}
-use Rattle.json_tape.specs.Size.{size, members_size}
 use Rattle.json_tape.specs.Spelled.{are_sound, data_of, held}
 use Rattle.json_tape.proofs.Size.{read_size}
 use Rattle.json_tape.proofs.Spelled.{there, text_read, held_is, spelled_data}
@@ -21,7 +17,6 @@ use Rattle.ink_model.specs.Story.Grammar.{here, json, unmarked, of_json, story}
 use Rattle.ink_model.specs.declared.fault.Cause.TheVariants.{NotJson}
 use Rattle.ink_model.specs.declared.fault.Failure.{Failure}
 use Rattle.ink_model.specs.declared.fault.Failure.TheVariants.{OutOfMemory, Refused}
-use Rattle.ink_model.specs.declared.fault.ReadRefusal.{ReadRefusal}
 use Rattle.ink_json.specs.Reading.{is_parsable, is_parsed, Reads, ReadsOr}
 use Rattle.ink_json.proofs.Conditions.{not_above}
 

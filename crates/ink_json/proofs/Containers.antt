@@ -1,20 +1,15 @@
 -- Reading content element by element and key by key, beside its faults and its tree.
 use Rattle.std.proofs.Common.{◌≡◌, ℕ, ◌+◌, ◌≤◌, List, [], ◌∷◌, ◌++◌, map, Bool, true, false, not, ◌&&◌, ◌||◌, cond, Option, Some, None, Ok, Err, refl, sym, ap, ◌∙◌, append_assoc, arith}
-use Rattle.serde_json.specs.Data.{Data, null, boolean, number, string, array, object, Items, no_items, item, Members, no_members, member}
+use Rattle.ink_json.proofs.Common.{Data, null, boolean, number, string, array, object, Items, no_items, item, Members, no_members, member, size, items_size, InkVersion, ReadRefusal, Part, Index, Name}
 use Rattle.json_tape.specs.Other.{has_other}
 use Rattle.json_tape.specs.Value.{json_data, members_of, Entry, members_data}
-use Rattle.json_tape.specs.Size.{size, items_size}
 use Rattle.json_tape.proofs.Conditions.{both, neither}
-use Rattle.ink_model.specs.declared.version.InkVersion.{InkVersion}
 use Rattle.ink_model.specs.Story.Tree.{StoryTree, container, Keyed, no_keys}
 use Rattle.ink_model.specs.declared.limits.TheConstants.{MAX_NESTING}
 use Rattle.ink_model.specs.Story.Grammar.{here, under, first, own, own_after, is_empty, is_last, are_flags, member_of, name_key, flags_key, flags_of, name_in, name_of, is_misnamed, is_taken, with_name, is_own, content, faults, faults_inside, faults_keyed, faults_by, tree_of, content_of, keyed_in, keyed_last, keyed_by}
 use Rattle.ink_model.specs.declared.fault.Cause.TheVariants.{Shape}
 use Rattle.ink_model.specs.declared.fault.Failure.{Failure}
 use Rattle.ink_model.specs.declared.fault.Failure.TheVariants.{OutOfMemory, Refused}
-use Rattle.ink_model.specs.declared.fault.ReadRefusal.{ReadRefusal}
-use Rattle.ink_model.specs.declared.place.Part.{Part}
-use Rattle.ink_model.specs.declared.place.Part.TheVariants.{Index, Name}
 use Rattle.ink_json.specs.Reading.{takes_memory, Fails, IsFirst, is_whole, faults_named}
 use Rattle.ink_json.proofs.Conditions.{not_above}
 

@@ -1,17 +1,12 @@
 -- One part down in the list of a story's nodes.
 use Rattle.std.proofs.Common.{◌≡◌, ◌∙◌, ap, sym, refl, ℕ, zero, suc, ◌+◌, ◌<◌, ◌≤◌, List, [], ◌∷◌, ◌++◌, length, drop, get_or, true, false, if◌then◌else◌, Option, Some, None, Ordering, Less, Equal, Greater, is_eq, nat_cmp, append_assoc, add-zero, arith}
 use Rattle.std.proofs.Math.Seq.{drop-append_seam}
-use Rattle.std.specs.Cmp.Lexicographic.{slice_cmp}
-use Rattle.std.specs.Ordering.{match_ordering}
-use Rattle.std.proofs.lemmas.Bool.Decides.{nat_tests}
+use Rattle.ink_json.proofs.Common.{slice_cmp, match_ordering, nat_tests, Part, Index, Name, Node}
 use Rattle.std.proofs.lemmas.List.{append-nil, drop-drop, get_or-drop, length-append, length-drop}
 use Rattle.ink_model.specs.Story.Tree.{StoryTree, leaf, container, Trees, no_trees, tree, Keyed, no_keys, key, nth, by_key, down}
 use Rattle.ink_model.specs.Story.View.{own_content}
-use Rattle.ink_model.specs.declared.place.Part.{Part}
-use Rattle.ink_model.specs.declared.place.Part.TheVariants.{Index, Name}
 use Rattle.ink_json.specs.Descent.{tree_at, Stands, size_of, leads}
 use Rattle.ink_json.specs.Listing.{nodes_of, nodes_from, nodes_by_key, own_node, story_nodes, Standing, first_tree, rebuilt}
-use Rattle.ink_json.specs.Node.{Node}
 use Rattle.ink_json.proofs.Listing.{many, stands, standing_from, standing_by_key}
 
 -- ---- the nodes of what is in a content

@@ -1,25 +1,16 @@
 -- The list of a story's nodes, as content is read.
 use Rattle.std.proofs.Common.{◌≡◌, ℕ, suc, ◌+◌, ◌^◌, ◌≤◌, ◌<◌, List, [], ◌∷◌, ◌++◌, length, Bool, true, false, cond, Option, None, Result, Ok, Err, refl, sym, ap, ◌∙◌, append_assoc, arith}
-use Rattle.std.proofs.lemmas.List.{length-append}
+use Rattle.ink_json.proofs.Common.{length-append, Data, Items, no_items, item, Members, no_members, member, size, items_size, members_size, size_positive, count_keys, Leaf, Part, Index, InkVersion, Node}
 use Rattle.std.specs.Result.{result_unwrap_or}
-use Rattle.serde_json.specs.Data.{Data, Items, no_items, item, Members, no_members, member}
-use Rattle.json_tape.specs.Size.{size, items_size, members_size}
 use Rattle.json_tape.specs.Value.{json_data, Entry, members_data}
-use Rattle.json_tape.proofs.Counts.{size_positive}
 use Rattle.ink_model.specs.Story.Grammar.{first, leaf_faults, is_own, own_after, tree_of, content_of, keyed_by}
 use Rattle.ink_model.specs.Story.Places.{places, places_from}
 use Rattle.ink_model.specs.Story.Tree.{StoryTree, leaf, container, Trees, Keyed, key, count}
-use Rattle.ink_model.specs.Story.View.{count_keys}
 use Rattle.ink_model.specs.declared.content.Content.TheVariants as contents
-use Rattle.ink_model.specs.declared.content.Leaf.{Leaf}
 use Rattle.ink_model.specs.declared.content.Leaf.TheVariants.{Newline}
 use Rattle.ink_model.specs.declared.fault.Cause.{Cause}
-use Rattle.ink_model.specs.declared.place.Part.{Part}
-use Rattle.ink_model.specs.declared.place.Part.TheVariants.{Index}
-use Rattle.ink_model.specs.declared.version.InkVersion.{InkVersion}
 use Rattle.ink_json.specs.Listing.{IsListed, container_node, nodes_of, nodes_from, nodes_by_key, nodes_inside, rebuilt}
 use Rattle.ink_json.specs.Reading.{placed}
-use Rattle.ink_json.specs.Node.{Node}
 use Rattle.ink_json.proofs.Listing.{listed, many, many_from}
 use Rattle.ink_json.proofs.Many.{places_within, under_more}
 

@@ -1,18 +1,13 @@
 -- Nodes as they are kept, one more behind those before.
 use Rattle.std.proofs.Common.{◌≡◌, ◌∙◌, ap, sym, refl, ℕ, zero, suc, ◌+◌, ◌-◌, ◌^◌, ◌<◌, ◌≤◌, List, [], ◌∷◌, ◌++◌, length, take, get_or, slice_get, slice_set, Bool, true, false, nat_lt, ◌==◌, if◌then◌else◌, Option, Some, None, option_map, arith}
 use Rattle.std.proofs.lemmas.Bool.{eqb-true, eqb-false}
-use Rattle.std.proofs.lemmas.Bool.Decides.{nat_tests}
+use Rattle.ink_json.proofs.Common.{nat_tests, Leaf, Part, Index, Name, container_node, Node}
 use Rattle.std.proofs.lemmas.List.{get_or_append_left, get_or_push, length-append, length-set, map-append, map-set}
 use Rattle.std.proofs.lemmas.Option.{get_or_from_slice_get, slice_get-map}
 use Rattle.json.proofs.Found.{Some_inj}
 use Rattle.ink_model.specs.declared.content.Container.{Container}
 use Rattle.ink_model.specs.declared.content.Content.TheVariants as contents
-use Rattle.ink_model.specs.declared.content.Leaf.{Leaf}
-use Rattle.ink_model.specs.declared.place.Part.{Part}
-use Rattle.ink_model.specs.declared.place.Part.TheVariants.{Index, Name}
 use Rattle.ink_json.specs.Kept.{part_at, node_of, nodes_kept, IsNoName, IsKnown, AreKnown, filled, filled_at}
-use Rattle.ink_json.specs.Listing.{container_node}
-use Rattle.ink_json.specs.Node.{Node}
 use Rattle.ink_json.specs.declared.kept.Kept.{Kept}
 use Rattle.ink_json.specs.declared.kept.TheConstants.{FIRST_NAME, NO_PART}
 use Rattle.ink_json.proofs.Listing.{set_at}

@@ -1,3 +1,4 @@
+pub mod Common
 pub mod Adding
 pub mod Narrow
 pub mod Sets

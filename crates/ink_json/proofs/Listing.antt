@@ -1,13 +1,10 @@
 -- A tree from the list of its nodes, and listing them one element and one key at a time.
 use Rattle.std.proofs.Common.{◌≡◌, ◌∙◌, ap, sym, refl, ℕ, suc, ◌+◌, List, [], ◌∷◌, ◌++◌, length, map, take, drop, slice_set, Option, Some, None, append_assoc}
-use Rattle.std.proofs.lemmas.List.{append-nil, length-append, length-map}
+use Rattle.ink_json.proofs.Common.{append-nil, length-append, length-map, Part, Index, Name, Node}
 use Rattle.ink_model.specs.Story.Places.{places, places_from, places_by_key}
 use Rattle.ink_model.specs.Story.Tree.{StoryTree, leaf, container, Trees, no_trees, tree, Keyed, no_keys, key, count}
 use Rattle.ink_model.specs.Story.View.{own_content, count_keys}
-use Rattle.ink_model.specs.declared.place.Part.{Part}
-use Rattle.ink_model.specs.declared.place.Part.TheVariants.{Index, Name}
 use Rattle.ink_json.specs.Listing.{nodes_of, nodes_from, nodes_by_key, story_nodes, Standing, trees_in, keys_in, with_content, standing, first_tree, rebuilt}
-use Rattle.ink_json.specs.Node.{Node}
 
 -- ---- as many as there are places
 

@@ -1,15 +1,8 @@
 -- A story that bytes spell has few places, since each takes a byte.
 use Rattle.std.proofs.Common.{◌≡◌, ℕ, ◌+◌, ◌^◌, ◌≤◌, ◌<◌, List, ◌∷◌, ◌++◌, length, map, Bool, true, false, Ok, ap, arith}
 use Rattle.std.proofs.lemmas.Bool.{cond_both}
-use Rattle.std.proofs.lemmas.List.{length-append, length-map}
-use Rattle.serde_json.specs.Data.{Data, null, boolean, number, string, array, object, Items, no_items, item, Members, no_members, member}
-use Rattle.json_tape.specs.Size.{size, items_size, members_size}
-use Rattle.ink_model.specs.Story.Tree.{StoryTree}
+use Rattle.ink_json.proofs.Common.{length-append, length-map, Data, null, boolean, number, string, array, object, Items, no_items, item, Members, no_members, member, size, items_size, members_size, StoryTree, Part, Index, Name, is_own, tree_of, content_of, keyed_in, keyed_last, keyed_by, story, InkVersion}
 use Rattle.ink_model.specs.Story.Places.{places, places_from, places_by_key}
-use Rattle.ink_model.specs.declared.place.Part.{Part}
-use Rattle.ink_model.specs.declared.place.Part.TheVariants.{Index, Name}
-use Rattle.ink_model.specs.Story.Grammar.{is_own, tree_of, content_of, keyed_in, keyed_last, keyed_by, story}
-use Rattle.ink_model.specs.declared.version.InkVersion.{InkVersion}
 use Rattle.ink_json.proofs.Root.{story_root, root_size}
 
 -- ---- trees

@@ -1,13 +1,9 @@
 -- In a tree whose containers are narrow each container that a way leads to is narrow.
 use Rattle.std.proofs.Common.{◌≡◌, ℕ, zero, suc, ◌<◌, ◌^◌, List, [], ◌∷◌, Option, Some, None, option_and_then, Ordering, Less, Equal, Greater, nat_cmp, nat_lt, true, arith}
-use Rattle.std.proofs.lemmas.Bool.Decides.{nat_tests}
-use Rattle.std.specs.Cmp.Lexicographic.{slice_cmp}
-use Rattle.std.specs.Ordering.{match_ordering}
+use Rattle.ink_json.proofs.Common.{nat_tests, slice_cmp, match_ordering, Part, Index, Name}
 use Rattle.json_tape.proofs.Conditions.{both}
 use Rattle.ink_model.specs.Story.Tree.{StoryTree, leaf, container, Trees, no_trees, tree, Keyed, no_keys, key, nth, by_key, down, at, width, count}
 use Rattle.ink_model.specs.Story.Narrow.{is_narrow, are_narrow, are_keyed_narrow}
-use Rattle.ink_model.specs.declared.place.Part.{Part}
-use Rattle.ink_model.specs.declared.place.Part.TheVariants.{Index, Name}
 
 abbrev IsNarrow : Option StoryTree → Type 0
 IsNarrow None = Unit {0}

@@ -3,7 +3,7 @@ use Rattle.std.proofs.Common.{◌≡◌, ℕ, List, Bool, true, false, codes, Op
 use Rattle.std.proofs.lemmas.Bool.{and_from, cond_both}
 use Rattle.std.proofs.lemmas.Cmp.{nat_list_cmp_total}
 use Rattle.std.specs.Prelude.{⊤}
-use Rattle.std.specs.Cmp.Lexicographic.{slice_cmp}
+use Rattle.ink_json.proofs.Common.{slice_cmp, StoryTree, is_own, tree_of, content_of, keyed_in, keyed_last, keyed_by, story, InkVersion}
 use Rattle.std.specs.Ordering.{match_ordering, ordering_reverse}
 use Rattle.json.specs.Lex.{tokens}
 use Rattle.json.specs.Json as json
@@ -11,9 +11,6 @@ use Rattle.serde_json.specs.Data.{Data, null, boolean, number, string, array, ob
 use Rattle.serde_json.specs.Find.{get, get_member}
 use Rattle.serde_json.specs.Read.{number_of, of_json, of_items, of_members, max_depth, read}
 use Rattle.json_tape.proofs.Spelled.{chained}
-use Rattle.ink_model.specs.Story.Tree.{StoryTree}
-use Rattle.ink_model.specs.Story.Grammar.{is_own, tree_of, content_of, keyed_in, keyed_last, keyed_by, story}
-use Rattle.ink_model.specs.declared.version.InkVersion.{InkVersion}
 use Rattle.ink_json.specs.Order.{is_below, keys_rise, keys_rise_in, keys_rise_by_key}
 use Rattle.ink_json.proofs.Root.{Root, story_root}
 

@@ -1,18 +1,12 @@
 -- Where the tree of a story that bytes spell comes from: the value at `root` in data that was read.
 use Rattle.std.proofs.Common.{◌≡◌, ℕ, suc, ◌≤◌, List, [], ◌∷◌, length, Bool, true, false, nat_lt, cond, not, codes, Option, Some, None, Result, Ok, Err, refl, sym, arith}
-use Rattle.std.proofs.lemmas.Bool.Decides.{nat_tests}
+use Rattle.ink_json.proofs.Common.{nat_tests, Data, read, size, StoryTree, ReadRefusal, InkVersion}
 use Rattle.std.specs.Str.{is_utf8}
-use Rattle.serde_json.specs.Data.{Data}
 use Rattle.serde_json.specs.Find.{get}
-use Rattle.serde_json.specs.Read.{read}
-use Rattle.json_tape.specs.Size.{size}
 use Rattle.json_tape.proofs.Size.{read_size}
-use Rattle.ink_model.specs.Story.Tree.{StoryTree}
 use Rattle.ink_model.specs.declared.limits.TheConstants.{MAX_STORY}
 use Rattle.ink_model.specs.Story.Grammar.{here, is_object, is_blank_object, tree_of, faults, unmarked, json, of_json, of_value, of_version, version_of, root_of, story}
 use Rattle.ink_model.specs.declared.fault.Cause.TheVariants.{Shape, Unsupported}
-use Rattle.ink_model.specs.declared.fault.ReadRefusal.{ReadRefusal}
-use Rattle.ink_model.specs.declared.version.InkVersion.{InkVersion}
 use Rattle.ink_json.proofs.Bytes.{get_size}
 use Rattle.ink_json.proofs.Containers.{first_ok}
 

@@ -1,14 +1,8 @@
 -- The containers of a story that bytes spell are narrow, since each content takes a byte.
 use Rattle.std.proofs.Common.{◌≡◌, ℕ, ◌^◌, ◌≤◌, ◌<◌, List, Bool, true, false, nat_lt, Ok, refl, sym, ap, ◌∙◌, arith}
 use Rattle.std.proofs.lemmas.Bool.{and_from, cond_both}
-use Rattle.std.proofs.lemmas.Bool.Decides.{nat_tests}
-use Rattle.serde_json.specs.Data.{Data, null, boolean, number, string, array, object, Items, no_items, item, Members, no_members, member}
-use Rattle.json_tape.specs.Size.{size, items_size, members_size}
-use Rattle.json_tape.proofs.Counts.{size_positive}
-use Rattle.ink_model.specs.Story.Tree.{StoryTree, count}
+use Rattle.ink_json.proofs.Common.{nat_tests, Data, null, boolean, number, string, array, object, Items, no_items, item, Members, no_members, member, size, items_size, members_size, size_positive, StoryTree, count, is_own, tree_of, content_of, keyed_in, keyed_last, keyed_by, story, InkVersion}
 use Rattle.ink_model.specs.Story.Narrow.{is_narrow, are_narrow, are_keyed_narrow}
-use Rattle.ink_model.specs.Story.Grammar.{is_own, tree_of, content_of, keyed_in, keyed_last, keyed_by, story}
-use Rattle.ink_model.specs.declared.version.InkVersion.{InkVersion}
 use Rattle.ink_json.proofs.Root.{story_root, root_size}
 
 -- ---- trees

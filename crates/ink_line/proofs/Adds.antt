@@ -11,7 +11,8 @@ use Rattle.ink_model.specs.Story.Tree.{StoryTree}
 use Rattle.ink_model.specs.declared.host.Given.{Given}
 use Rattle.ink_model.specs.declared.mark.Mark.{Mark}
 use Rattle.ink_line.proofs.Grows.{OutcomeHolds, SteppedHolds, answered_holds, step_holds}
-use Rattle.ink_line.proofs.Opens.{has_more-append, open_is, shown_below}
+use Rattle.ink_model.proofs.Opens.{has_more-append}
+use Rattle.ink_line.proofs.Opens.{open_is, shown_below}
 
 abbrev Adds : List Mark → List Mark → Type 0
 Adds before after = (added : List Mark) × (after ≡ before ++ added)

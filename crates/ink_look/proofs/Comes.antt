@@ -1,15 +1,10 @@
 -- What a running command comes to, from the run that it makes.
 use Rattle.std.proofs.Common.{◌≡◌, ◌∙◌, ◌⊎◌, ap, sym, refl, subst, inl, inr, List, [], true, false, true≢false, Some, Result, Ok, Err}
 use Rattle.ink_look.specs.Ends.{RunsThrough}
-use Rattle.ink_look.specs.Said.{said, said_asks}
-use Rattle.ink_look.specs.declared.said.Said.{Said}
+use Rattle.ink_look.proofs.Common.{said, said_asks, Said, Bound, StoryTree, Fault, OutOfMemory}
 use Rattle.ink_model.specs.Run.Configuration.{Configuration, begun, settled}
-use Rattle.ink_model.specs.Host.Bindings.{Bound}
 use Rattle.ink_model.specs.Memory.Refusals.{CallsAt, FallsShort, GetsTo}
 use Rattle.ink_model.specs.Run.Moments.{Broke, EndsThrough, Kept, Made, Moment, RunEnd, Stopped, answers_of, cut_off, end_of, moment, through}
-use Rattle.ink_model.specs.Story.Tree.{StoryTree}
-use Rattle.ink_model.specs.declared.fault.Fault.{Fault}
-use Rattle.ink_model.specs.declared.fault.Fault.TheVariants.{OutOfMemory}
 use Rattle.ink_model.specs.declared.limits.TheConstants.{MAX_STEPS}
 use Rattle.ink_step.specs.Runs.{RunFalls}
 

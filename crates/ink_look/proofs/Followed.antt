@@ -9,7 +9,7 @@ use Rattle.ink_line.specs.Look.{Looking, Over, look_on, looked, looked_by, looke
 use Rattle.ink_look.specs.Ahead.{is_worded, writes_words}
 use Rattle.ink_model.specs.Run.Configuration.{Configuration, current_place}
 use Rattle.ink_model.specs.Run.Effect.{Fields, fields_of, is_fresh, pushing, writing_text}
-use Rattle.ink_model.specs.Host.Bindings.{Bound}
+use Rattle.ink_look.proofs.Common.{Bound, Fault, Given}
 use Rattle.ink_model.specs.Run.Line.{is_call}
 use Rattle.ink_model.specs.Text.Mark.{cut}
 use Rattle.ink_model.specs.Run.Move.{Outcome, Next, Stop, Faults}
@@ -23,9 +23,7 @@ use Rattle.ink_model.specs.Run.Step.Text.{write_text}
 use Rattle.ink_model.specs.Story.Tree.{StoryTree, at, leaf, container}
 use Rattle.ink_model.specs.declared.content.Leaf.{Leaf}
 use Rattle.ink_model.specs.declared.content.Leaf.TheVariants as leaves
-use Rattle.ink_model.specs.declared.fault.Fault.{Fault}
 use Rattle.ink_model.specs.declared.fault.Fault.TheVariants.{TooDeep}
-use Rattle.ink_model.specs.declared.host.Given.{Given}
 use Rattle.ink_model.specs.declared.mark.Mark.{Mark}
 use Rattle.ink_model.specs.declared.place.Part.{Part}
 use Rattle.ink_model.specs.declared.value.Value.TheVariants as value

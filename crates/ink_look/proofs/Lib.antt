@@ -1,3 +1,4 @@
+pub mod Common
 mod Saying
 mod Comes
 mod Steps

@@ -3,14 +3,11 @@ use Rattle.std.proofs.Common.{◌≡◌, ap, refl, subst, inl, inr, ℕ, List, [
 use Rattle.ink_model.specs.Run.Line.{Line}
 use Rattle.ink_host.specs.Desk.{DeskView}
 use Rattle.ink_look.specs.LineEnds.{ComesToLine, LineFalls, LineShort, LineStopsAtRefusal, RunsLine, RunsToLine, SaysLine}
-use Rattle.ink_look.specs.Said.{said, said_asks}
+use Rattle.ink_look.proofs.Common.{said, said_asks, Bound, StoryTree, Fault}
 use Rattle.ink_look.specs.declared.lines.LineEnd.{LineEnd}
 use Rattle.ink_look.specs.declared.lines.LineEnd.TheVariants as line_ends
 use Rattle.ink_model.specs.Run.Configuration.{Configuration, begun}
-use Rattle.ink_model.specs.Host.Bindings.{Bound}
 use Rattle.ink_model.specs.Run.Moments.{Broke, Kept, Made, Moment, At, Stopped, Faulted, answers_of}
-use Rattle.ink_model.specs.Story.Tree.{StoryTree}
-use Rattle.ink_model.specs.declared.fault.Fault.{Fault}
 use Rattle.ink_effects.specs.Refusals.{KeepsRefusals}
 
 module _ (s : StoryTree) (b : Bound) (made : List Made) (c start : Configuration) (is : start ≡ begun c) where

@@ -1,11 +1,9 @@
 -- Where a machine goes back to.
 use Rattle.std.proofs.Common.{◌≡◌, ◌∙◌, subst, sym, ℕ, Option}
 use Rattle.ink_look.specs.Looking.{IsMarked, Waits, waiting_after}
-use Rattle.ink_look.specs.declared.looking.Looked.{Looked}
-use Rattle.ink_model.specs.Story.Tree.{StoryTree}
+use Rattle.ink_look.proofs.Common.{Looked, StoryTree, config_of}
 use Rattle.ink_step.proofs.Marked.{back_to}
 use Rattle.ink_step.specs.Marks.{config_back, marked_at, stood_of}
-use Rattle.ink_step.specs.Standing.{config_of}
 use Rattle.ink_step.specs.declared.machine.Machine.{Machine}
 
 -- a step does not move it

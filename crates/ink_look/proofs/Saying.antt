@@ -1,10 +1,8 @@
 -- What is said, and that it asks for memory.
 use Rattle.std.proofs.Common.{◌≡◌, ◌≢◌, ◌∙◌, ap, sym, refl, subst, ℕ, List, [], ◌∷◌, Bool, true, false, ◌||◌, Result, Ok, Err, OnErr}
-use Rattle.ink_look.specs.Said.{said, said_asks}
-use Rattle.ink_look.specs.declared.said.Said.{Said}
+use Rattle.ink_look.proofs.Common.{said, said_asks, Said, Configuration}
 use Rattle.ink_model.specs.Choices.Making.{has_any}
 use Rattle.ink_model.specs.Text.Clean.{clean}
-use Rattle.ink_model.specs.Run.Configuration.{Configuration}
 use Rattle.ink_model.specs.Text.Mark.{tags}
 use Rattle.ink_model.specs.Text.Shown.{shown_text, shows_more}
 

@@ -11,20 +11,12 @@ use Rattle.ink_line.proofs.Found.{finds, knows, over_is}
 use Rattle.ink_look.proofs.Steps.{kept_found}
 use Rattle.ink_look.specs.LineEnds.{ComesToLine, LineShort, RunsToLine}
 use Rattle.ink_look.specs.Looking.{FindsAs, MarksHere, StepsOn, found_of, search_after, search_at, stepped}
-use Rattle.ink_look.specs.declared.looking.Looked.{Looked}
+use Rattle.ink_look.proofs.Common.{Looked, Configuration, Bound, asks, step, StoryTree, Fault, Event, Given}
 use Rattle.ink_look.specs.declared.looking.Looked.TheVariants as after
-use Rattle.ink_model.specs.Run.Configuration.{Configuration}
 use Rattle.ink_model.specs.Host.Events.{Made, calls}
-use Rattle.ink_model.specs.Host.Bindings.{Bound}
 use Rattle.ink_model.specs.Memory.Refusals.{GetsTo, NoneSoFar}
 use Rattle.ink_model.specs.Run.Moments.{Moment, At, Stopped, Faulted, answers_of, came, moment}
-use Rattle.ink_model.specs.Memory.Asks.{asks}
-use Rattle.ink_model.specs.Run.Step.{step}
-use Rattle.ink_model.specs.Story.Tree.{StoryTree}
-use Rattle.ink_model.specs.declared.fault.Fault.{Fault}
 use Rattle.ink_model.specs.declared.fault.Fault.TheVariants.{OutOfSteps}
-use Rattle.ink_model.specs.declared.host.Event.{Event}
-use Rattle.ink_model.specs.declared.host.Given.{Given}
 use Rattle.ink_model.specs.declared.limits.TheConstants.{MAX_STEPS}
 use Rattle.ink_model.specs.declared.value.Value.{Value}
 use Rattle.ink_step.proofs.Growing.{calls_on}

@@ -3,21 +3,15 @@
 use Rattle.std.proofs.Common.{◌≡◌, ◌≢◌, ◌∙◌, ap, refl, subst, inl, inr, List, [], ◌∷◌, map, Bool, true, false, not, ◌&&◌, ◌||◌, if◌then◌else◌, Result, Ok, Err}
 use Rattle.ink_look.specs.Ends.{EndsWith}
 use Rattle.ink_look.specs.LineEnds.{RunsLine, handed}
-use Rattle.ink_look.specs.Said.{said, said_asks}
+use Rattle.ink_look.proofs.Common.{said, said_asks, Said, Bound, StoryTree, Fault, OutOfMemory, Event}
 use Rattle.ink_look.specs.declared.lines.LineEnd.{LineEnd}
-use Rattle.ink_look.specs.declared.said.Said.{Said}
 use Rattle.ink_model.specs.Choices.Making.{has_any, shown, shown_choice, visible}
 use Rattle.ink_model.specs.Run.Configuration.{ChoiceOf, Configuration, can_go_on, settled, unnumbered_choice}
-use Rattle.ink_model.specs.Host.Bindings.{Bound}
 use Rattle.ink_model.specs.Text.Mark.{tags}
 use Rattle.ink_model.specs.Protocol.Passage.{has_none, is_loose, passage, passage_asks}
 use Rattle.ink_model.specs.Run.Moments.{Broke, Kept, Made, RunEnd}
 use Rattle.ink_model.specs.Text.Shown.{shows_more}
-use Rattle.ink_model.specs.Story.Tree.{StoryTree}
 use Rattle.ink_model.specs.Protocol.Turns.{open_choices}
-use Rattle.ink_model.specs.declared.fault.Fault.{Fault}
-use Rattle.ink_model.specs.declared.fault.Fault.TheVariants.{OutOfMemory}
-use Rattle.ink_model.specs.declared.host.Event.{Event}
 use Rattle.ink_model.specs.declared.passage.Passage.{Passage}
 use Rattle.ink_model.specs.declared.passage.Shown.{Shown}
 use Rattle.ink_model.specs.declared.place.Part.{Part}

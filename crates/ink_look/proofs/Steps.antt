@@ -5,27 +5,18 @@ use Rattle.ink_model.specs.Run.Line.{at_least, is_call}
 use Rattle.ink_line.specs.Look.{Looking, Over, Search, kept_at, look_on, looked, looked_by, looked_on, newline_between}
 use Rattle.ink_line.proofs.Opens.{is_open, open_is, shown_below}
 use Rattle.ink_look.specs.Looking.{FindsAs, MarksHere, StandsAs, StepsOn, found_of, newline_from, search_after, stepped}
-use Rattle.ink_look.specs.declared.looking.Looked.{Looked}
+use Rattle.ink_look.proofs.Common.{Looked, asks, Configuration, Bound, StoryTree, Fault, OutOfMemory, Event, Given, config_of}
 use Rattle.ink_look.specs.declared.looking.Looked.TheVariants as after
 use Rattle.ink_look.specs.declared.looking.Standing.TheVariants as standing
-use Rattle.ink_model.specs.Memory.Asks.{asks}
-use Rattle.ink_model.specs.Run.Configuration.{Configuration}
-use Rattle.ink_model.specs.Host.Bindings.{Bound}
 use Rattle.ink_model.specs.Run.Move.{Outcome, Next, Stop, Faults}
 use Rattle.ink_model.specs.Text.Output.{is_line}
 use Rattle.ink_model.specs.Text.Page.{Page}
 use Rattle.ink_model.specs.Run.Moments.{Made, Moment, At, Stopped, came, moment_after}
 use Rattle.ink_model.specs.Text.Shown.{is_shown, more_from, open_newline}
 use Rattle.ink_model.specs.Run.Step.{Stepped, Comes, Wants, step}
-use Rattle.ink_model.specs.Story.Tree.{StoryTree}
-use Rattle.ink_model.specs.declared.fault.Fault.{Fault}
-use Rattle.ink_model.specs.declared.fault.Fault.TheVariants.{OutOfMemory}
-use Rattle.ink_model.specs.declared.host.Event.{Event}
-use Rattle.ink_model.specs.declared.host.Given.{Given}
 use Rattle.ink_model.specs.declared.mark.Mark.{Mark}
 use Rattle.ink_step.specs.Marks.{presses, stood_of, unmarked}
 use Rattle.ink_step.specs.Steps.{StepEnds, StepMakes, Steps}
-use Rattle.ink_step.specs.Standing.{config_of}
 use Rattle.ink_step.specs.declared.machine.Machine.{Machine}
 use Rattle.ink_moves.specs.declared.flow.StepEnd.{StepEnd}
 use Rattle.ink_moves.specs.declared.flow.StepEnd.TheVariants as ends

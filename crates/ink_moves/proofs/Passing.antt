@@ -1,5 +1,5 @@
 -- Calls that change threads, or what is written to, beside the definitions over places.
-use Rattle.std.proofs.Common.{◌≡◌, ap, sym, subst, refl, inl, inr, ℕ, List, Bool, true, false, is_ok, Result, Ok, Err, IfErr}
+use Rattle.std.proofs.Common.{◌≡◌, ap, sym, subst, refl, inl, inr, ℕ, Bool, true, false, is_ok, Result, Ok, Err, IfErr}
 use Rattle.ink_model.specs.Flow.Transfers.{Written, on_page, or_breaks}
 use Rattle.ink_model.specs.Flow.Frames.{ThreadOf, ThreadsOf, map_thread, map_threads}
 use Rattle.ink_model.specs.Memory.Refusals.{Gives, leaving}

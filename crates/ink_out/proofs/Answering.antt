@@ -2,18 +2,13 @@
 use Rattle.std.proofs.Common.{◌≡◌, ℕ, Bool, true, false, not, ◌&&◌, ◌||◌, eqb, List, [], ◌∷◌, ◌++◌, drop, if◌then◌else◌, is_some, reverse, Option, None, Some, refl, sym, ap, ◌∙◌, subst}
 use Rattle.std.proofs.lemmas.Bool.{or_left, eq-eqb, ne_eqb}
 use Rattle.std.proofs.lemmas.List.{reverse-reverse}
-use Rattle.ink_model.specs.Text.Clean.{clean}
+use Rattle.ink_out.proofs.Common.{clean, Mark, Text, Blank, Newline, Tracker, Waiting, State}
 use Rattle.ink_model.specs.Text.Shown.{blank_shown, unhidden_newline, newline_last, newlines_before, is_among, open_newline, has_more, more_from, is_shown, shown_text, shows_text, shown_before, text_before}
-use Rattle.ink_model.specs.declared.mark.Mark.{Mark}
-use Rattle.ink_model.specs.declared.mark.Mark.TheVariants.{Text, Blank, Newline}
 use Rattle.ink_out.specs.declared.tracker.First.{First}
-use Rattle.ink_out.specs.declared.tracker.Tracker.{Tracker}
-use Rattle.ink_out.specs.declared.tracker.Waiting.{Waiting}
-use Rattle.ink_out.specs.declared.state.State.{State}
 use Rattle.ink_out.specs.Tracks.{stays, waits, Tracks, FitsWaiting, FitsNewline}
 use Rattle.ink_out.specs.Stands.{Stands, is_past}
 use Rattle.ink_out.proofs.Tracking.{hidden_now}
-use Rattle.ink_out.proofs.Opens.{more_is, opens_there, open_none, open_followed}
+use Rattle.ink_out.proofs.Opens.{more_is, open_there, open_none, open_followed}
 
 pub more_of : (marks : List Mark) (settled : List ℕ) (s : State) (i : ℕ) → Stands (reverse marks) settled s → is_past i s.more ≡ more_from marks i
 more_of marks settled s i h =
@@ -30,7 +25,7 @@ open_waiting marks settled s w is untagged h =
     let fits : FitsNewline (reverse marks) s.tracker w = subst (λ o. FitsWaiting (reverse marks) s.tracker o) is h.tracks.fits in
     let now = shown_now (reverse marks) s.tracker settled w is h.tracks in
     let among : is_among w.at (newlines_before (reverse marks) []) ≡ true = ap (is_among w.at) now ∙ or_left (eqb w.at w.at) (is_among w.at settled) (eq-eqb w.at w.at refl) in
-    sym (opens_there (reverse marks) [] w.at among (sym fits.tagged ∙ untagged)).1
+    sym (open_there (reverse marks) [] w.at among (sym fits.tagged ∙ untagged)).1
 
 pub open_tagged : (marks : List Mark) (settled : List ℕ) (s : State) (w : Waiting) → s.tracker.newline ≡ Some w → w.tagged ≡ true → Stands (reverse marks) settled s → None ≡ open_newline marks
 open_tagged marks settled s w is tagged h =

@@ -1,20 +1,14 @@
 -- Where blanks alone are shown, nothing is left of them.
 use Rattle.std.proofs.Common.{◌≡◌, ◌∙◌, inl, inr, ap, refl, sym, ℕ, List, [], ◌∷◌, ◌++◌, Bool, true, false, not, ◌&&◌, ◌||◌, if◌then◌else◌, is_some, reverse, Option, None, Some}
-use Rattle.std.specs.List.{list_any}
+use Rattle.ink_out.proofs.Common.{list_any, list_any-IsPermutation, IsPermutation-reverse, clean, Mark, Text, Blank, Newline, State, Waiting}
 use Rattle.std.proofs.Math.Bool.{or_assoc}
 use Rattle.std.proofs.lemmas.Bool.{and_cases, not-false, or_parts}
-use Rattle.std.proofs.lemmas.List.Sorted.{list_any-IsPermutation, IsPermutation-reverse}
 use Rattle.ink_model.specs.Text.Bytes.{is_blank, is_newline}
-use Rattle.ink_model.specs.Text.Clean.{clean}
 use Rattle.ink_model.specs.Text.Shown.{blank_shown, unhidden_newline, newline_last, has_text, is_filled_blank, newline_shown, shown_text, shows_more, shows_text, shown_before, text_before}
-use Rattle.ink_model.specs.declared.mark.Mark.{Mark}
-use Rattle.ink_model.specs.declared.mark.Mark.TheVariants.{Text, Blank, Newline}
 use Rattle.ink_out.specs.Cleaning.{cleaned_on}
 use Rattle.ink_out.specs.Stands.{Stands}
 use Rattle.ink_out.specs.Tracks.{waiting}
 use Rattle.ink_out.specs.declared.cleaning.Before.TheVariants.{Nothing}
-use Rattle.ink_out.specs.declared.state.State.{State}
-use Rattle.ink_out.specs.declared.tracker.Waiting.{Waiting}
 use Rattle.ink_out.proofs.Answering.{nothing_shown, shows_of, waits_now}
 use Rattle.ink_out.proofs.Lines.{clean_is}
 use Rattle.ink_out.proofs.WhiteEnds.{blank_no_newline}

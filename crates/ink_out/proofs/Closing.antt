@@ -1,6 +1,6 @@
 -- What is open on top is closed.
 use Rattle.std.proofs.Common.{◌≡◌, ℕ, suc, IfErr, ◌+◌, ◌-◌, ◌^◌, ◌<◌, nat_lt, List, [], ◌∷◌, ◌++◌, length, take, drop, reverse, get_or, slice_get, if◌then◌else◌, ◌||◌, Bool, true, false, Option, Some, None, Result, Ok, Err, inl, inr, refl, sym, ap, ◌∙◌, subst, arith}
-use Rattle.std.specs.List.{list_any}
+use Rattle.ink_out.proofs.Common.{list_any, clean, shown_text, Fault, Mark, Enter, Tag, page_of, closed}
 use Rattle.std.specs.Result.{IsErrAnd}
 use Rattle.std.proofs.lemmas.Bool.{lt-ltb}
 use Rattle.std.proofs.lemmas.List.{append-nil, length-reverse, length-take-le, reverse-append, drop_all, take_all}
@@ -8,17 +8,11 @@ use Rattle.std.proofs.lemmas.List.Folds.{list_any-append}
 use Rattle.std.proofs.lemmas.Option.{get_or_from_slice_get, slice_get-get_or, slice_get_within}
 use Rattle.ink_model.specs.Memory.Asks.{asks_for}
 use Rattle.ink_model.specs.Text.Bytes.{fits_text}
-use Rattle.ink_model.specs.Text.Clean.{clean}
 use Rattle.ink_model.specs.Run.Configuration.{Page, Section, SectionKind, string_section, tag_section}
 use Rattle.ink_model.specs.Memory.Refusals.{Gives, Hands, Leaves}
 use Rattle.ink_model.specs.Text.Output.{begins_function, closes_string, closes_string_of, closes_tag, closes_tag_of, is_crowded, is_string, kept_text, opens, tagged, writes_marks, writes_tag}
-use Rattle.ink_model.specs.Text.Shown.{shown_text}
-use Rattle.ink_model.specs.declared.fault.Fault.{Fault}
 use Rattle.ink_model.specs.declared.fault.Fault.TheVariants.{BadMode, OutOfMemory, TooDeep}
 use Rattle.ink_model.specs.declared.limits.TheConstants.{MAX_SECTIONS}
-use Rattle.ink_model.specs.declared.mark.Mark.{Mark}
-use Rattle.ink_model.specs.declared.mark.Mark.TheVariants.{Enter, Tag}
-use Rattle.ink_out.specs.Writing.{page_of, closed}
 use Rattle.ink_out.proofs.Noting.{last_is}
 
 any_section : Section

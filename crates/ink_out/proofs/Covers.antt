@@ -2,8 +2,7 @@
 use Rattle.std.proofs.Common.{◌≡◌, ℕ, ◌<◌, ◌≤◌, true, false, not, ◌||◌, cond, eqb, List, [], ◌∷◌, length, Option, None, Some, refl, sym, arith, inl, inr}
 use Rattle.std.proofs.lemmas.Bool.{cases_lt, or_cases, or_parts, or_from, or_left, or_right, not-false, not_from_true, false≢true, lt-ltb, le-ltb, le-leb, lt-leb}
 use Rattle.ink_model.specs.Text.Shown.{has_enter, passes, covered}
-use Rattle.ink_model.specs.declared.mark.Mark.{Mark}
-use Rattle.ink_model.specs.declared.mark.Mark.TheVariants.{Text, Enter, Leave}
+use Rattle.ink_out.proofs.Common.{Mark, Text, Enter, Leave}
 use Rattle.ink_out.specs.Tracks.{since, enter_at, reach_of, reached}
 
 -- ---- fewer marks between, more is reached

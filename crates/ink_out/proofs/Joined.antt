@@ -2,15 +2,12 @@
 use Rattle.std.proofs.Common.{◌≡◌, ◌≢◌, ℕ, ◌+◌, List, [], ◌∷◌, ◌++◌, true, refl, sym, ap, ◌∙◌, reverse, drop, get_or, length, ◌≤◌, ◌<◌}
 use Rattle.std.specs.List.{list_all}
 use Rattle.std.proofs.lemmas.List.{append-nil, append_assoc, at_drop_more, drop_all, reverse-append}
-use Rattle.ink_model.specs.Text.Output.{is_text}
+use Rattle.ink_out.proofs.Common.{is_text, Mark, texts_of, mark_of}
 use Rattle.ink_model.specs.Text.Shown.{shown_text, text_before, written}
-use Rattle.ink_model.specs.declared.mark.Mark.{Mark}
 use Rattle.ink_model.specs.declared.mark.Mark.TheVariants as kinds
 use Rattle.ink_out.specs.declared.kept.Form.{Form}
 use Rattle.ink_out.specs.declared.kept.Form.TheVariants as forms
 use Rattle.ink_out.specs.declared.kept.Words.{Words}
-use Rattle.ink_out.specs.Joined.{texts_of}
-use Rattle.ink_out.specs.Kept.{mark_of}
 
 -- one mark more in front
 reversed : (m : Mark) (ms before : List Mark) → reverse (m ∷ ms) ++ before ≡ reverse ms ++ m ∷ before

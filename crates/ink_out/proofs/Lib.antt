@@ -1,3 +1,4 @@
+pub mod Common
 pub mod WhiteEnds
 pub mod Lines
 pub mod Covers

@@ -1,19 +1,12 @@
 -- Marks written at the end of the open section.
 use Rattle.std.proofs.Common.{◌≡◌, ℕ, suc, ◌+◌, ◌-◌, ◌<◌, ◌≤◌, nat_lt, Bool, true, false, not, ◌||◌, cond, List, [], ◌∷◌, ◌++◌, length, get_or, set, take, drop, reverse, Result, Ok, refl, sym, ap, ◌∙◌, arith}
 use Rattle.std.proofs.Math.Bool.{and-false}
-use Rattle.std.specs.List.{list_any}
+use Rattle.ink_out.proofs.Common.{list_any, Page, Section, cut, piece, MAX_MARKS, Fault, Mark, Text, Blank, page_of}
 use Rattle.std.proofs.lemmas.Bool.{le-ltb, or_parts}
 use Rattle.std.proofs.Math.Seq.{split_at}
 use Rattle.std.proofs.lemmas.List.{append-nil, reverse-append, set_split, drop_all}
-use Rattle.ink_model.specs.Run.Configuration.{Page, Section}
 use Rattle.ink_model.specs.Text.Bytes.{is_blank, is_white, has_newline, leading, trailing}
-use Rattle.ink_model.specs.Text.Mark.{cut, piece}
 use Rattle.ink_model.specs.Text.Output.{writes_marks, writes_text, let_through, noted_in, is_line}
-use Rattle.ink_model.specs.declared.limits.TheConstants.{MAX_MARKS}
-use Rattle.ink_model.specs.declared.fault.Fault.{Fault}
-use Rattle.ink_model.specs.declared.mark.Mark.{Mark}
-use Rattle.ink_model.specs.declared.mark.Mark.TheVariants.{Text, Blank}
-use Rattle.ink_out.specs.Writing.{page_of}
 
 -- ---- the section that is open
 

@@ -3,8 +3,7 @@ use Rattle.std.proofs.Common.{◌≡◌, ◌∙◌, ◌+◌, ◌-◌, ℕ, List,
 use Rattle.std.proofs.lemmas.List.{append_assoc, drop-drop, take_rest}
 use Rattle.ink_model.specs.Text.Bytes.{has_newline, is_blank, is_white, leading, trailing, trimmed, without}
 use Rattle.ink_model.specs.Text.Mark.{cut, cut_end, piece}
-use Rattle.ink_model.specs.declared.mark.Mark.{Mark}
-use Rattle.ink_model.specs.declared.mark.Mark.TheVariants.{Newline}
+use Rattle.ink_out.proofs.Common.{Mark, Newline}
 
 part_behind : (cs : List ℕ) (from k : ℕ) → take (from + k - from) (drop from cs) ≡ take k (drop from cs)
 part_behind cs from k = let e : from + k - from ≡ k = omega arith in ap (λ n. take n (drop from cs)) e

@@ -1,18 +1,15 @@
 -- What is printed of a number or a truth value is one text, cut nowhere.
 use Rattle.std.proofs.Common.{◌≡◌, ℕ, suc, ◌<◌, ◌≤◌, Bool, eqb, true, false, List, [], ◌∷◌, reverse, ℤ, pos, negsuc, length, refl, sym, ap, ◌∙◌, arith, w32}
 use Rattle.std.specs.Fmt.{decimal, signed_decimal}
-use Rattle.std.specs.List.{list_any}
+use Rattle.ink_out.proofs.Common.{list_any, list_any-IsPermutation, IsPermutation-reverse, cut, piece, Text}
 use Rattle.std.specs.Prelude.{FitsSigned}
 use Rattle.std.proofs.lemmas.Bool.{ne_eqb, or_parts}
 use Rattle.std.proofs.lemmas.Fmt.{decimal_is_IsNumeral}
 use Rattle.std.proofs.lemmas.Int.{ints}
-use Rattle.std.proofs.lemmas.List.Sorted.{list_any-IsPermutation, IsPermutation-reverse}
 use Rattle.std.proofs.lemmas.Str.Parse.{digit_from_value}
 use Rattle.std.specs.Str.Parse.{AllDigits}
 use Rattle.ink_model.specs.Text.Bytes.{is_blank, is_white, leading, trailing}
-use Rattle.ink_model.specs.Text.Mark.{cut, piece}
 use Rattle.ink_model.specs.Values.Value.{truth_text}
-use Rattle.ink_model.specs.declared.mark.Mark.TheVariants.{Text}
 use Rattle.ink_out.proofs.Noting.{whole_cut}
 
 -- ---- a text without blanks and newlines

@@ -3,18 +3,12 @@ use Rattle.std.proofs.Common.{◌≡◌, ℕ, suc, ◌+◌, ◌-◌, ◌<◌, �
 use Rattle.std.proofs.lemmas.Bool.{ne_eqb, or_from}
 use Rattle.std.proofs.lemmas.List.{reverse-append, take_more}
 use Rattle.ink_model.specs.Text.Shown.{newline_shown, newlines_before, is_among}
-use Rattle.ink_model.specs.declared.mark.Mark.{Mark}
-use Rattle.ink_model.specs.declared.mark.Mark.TheVariants.{Newline}
+use Rattle.ink_out.proofs.Common.{Mark, Newline, Enters, State, Tracker, piece_mark, mark_of}
 use Rattle.ink_out.specs.declared.cutting.Piece.{Piece}
 use Rattle.ink_out.specs.declared.cutting.Piece.TheVariants as pieces
-use Rattle.ink_out.specs.declared.enters.Enters.{Enters}
 use Rattle.ink_out.specs.declared.kept.Form.{Form}
 use Rattle.ink_out.specs.declared.kept.Form.TheVariants as forms
 use Rattle.ink_out.specs.declared.kept.Words.{Words}
-use Rattle.ink_out.specs.declared.state.State.{State}
-use Rattle.ink_out.specs.declared.tracker.Tracker.{Tracker}
-use Rattle.ink_out.specs.Cutting.{piece_mark}
-use Rattle.ink_out.specs.Kept.{mark_of}
 use Rattle.ink_out.specs.Tracks.{Tracks, settled_after, waiting_at}
 use Rattle.ink_out.specs.Stands.{more_at, Falling, Stands, Knows, Sees}
 use Rattle.ink_out.proofs.Tracking.{or_nothing}

@@ -3,15 +3,8 @@ use Rattle.std.proofs.Common.{◌≡◌, ◌∙◌, ℕ, Bool, true, false, not,
 use Rattle.std.proofs.Math.Seq.{drop-append_seam, take-append_seam}
 use Rattle.std.proofs.lemmas.List.{append-nil, append_assoc, length-append, length-reverse, nil_from_length, reverse-append, reverse-reverse, length-take-le, take-append-drop, take_more}
 use Rattle.ink_model.specs.Text.Shown.{unhidden_newline, newline_last, newlines_before, shown_before}
-use Rattle.ink_model.specs.declared.mark.Mark.{Mark}
-use Rattle.ink_model.specs.declared.mark.Mark.TheVariants.{Text, Blank, Newline, Enter}
-use Rattle.ink_out.specs.declared.enters.Enters.{Enters}
-use Rattle.ink_out.specs.declared.enters.Start.{Start}
-use Rattle.ink_out.specs.declared.state.State.{State}
-use Rattle.ink_out.specs.declared.tracker.Hides.{Hides}
+use Rattle.ink_out.proofs.Common.{Mark, Text, Blank, Newline, Enter, Enters, Start, State, Hides, Tracker, Waiting}
 use Rattle.ink_out.specs.declared.tracker.Hides.TheVariants.{Near}
-use Rattle.ink_out.specs.declared.tracker.Tracker.{Tracker}
-use Rattle.ink_out.specs.declared.tracker.Waiting.{Waiting}
 use Rattle.ink_out.specs.Stands.{IsStateOf, Knows, Leads, Sees, Stands, started, starts_of}
 use Rattle.ink_out.specs.Tracks.{Tracks, enter_at, hidden_by, settled_after, settled_by, waiting, waiting_at, waits}
 

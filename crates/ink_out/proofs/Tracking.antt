@@ -4,13 +4,10 @@ use Rattle.std.specs.Option.{is_some}
 use Rattle.std.proofs.lemmas.Bool.{cases_Bool, or_parts, or_right, not-true, false≢true}
 use Rattle.std.proofs.Math.Bool.{and-true}
 use Rattle.ink_model.specs.Text.Shown.{glued, newline_before, glues, covered, shown_before, unhidden_newline, newline_last, newlines_before, has_more}
-use Rattle.ink_model.specs.declared.mark.Mark.{Mark}
+use Rattle.ink_out.proofs.Common.{Mark, Hides, Waiting, Tracker}
 use Rattle.ink_model.specs.declared.mark.Mark.TheVariants.{Text, Blank, Newline, Glue, Tag, Leave}
-use Rattle.ink_out.specs.declared.tracker.Hides.{Hides}
 use Rattle.ink_out.specs.declared.tracker.Hides.TheVariants.{Near, Any, Never}
-use Rattle.ink_out.specs.declared.tracker.Waiting.{Waiting}
 use Rattle.ink_out.specs.declared.tracker.First.{First}
-use Rattle.ink_out.specs.declared.tracker.Tracker.{Tracker}
 use Rattle.ink_out.specs.Tracks.{since, hidden_by, waits, waiting, waiting_at, IsBroken, FitsNewline, FitsWaiting, stays, FitsBlank, FitsFirst, Tracks, reach_of, reached}
 use Rattle.ink_out.specs.Next.{hides_behind, hides_next, newline_left, blank_left}
 use Rattle.ink_out.proofs.Covers.{uncovered, since_more, since_here, passes_reached}

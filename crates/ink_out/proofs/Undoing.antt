@@ -2,15 +2,10 @@
 use Rattle.std.proofs.Common.{◌≡◌, ◌∙◌, ◌≤◌, ◌<◌, ◌-◌, ℕ, Bool, true, false, List, [], ◌∷◌, ◌++◌, Option, None, Some, Result, Ok, Err, OnOk, ◌^◌, ap, arith, cond, get_or, is_some, length, refl, reverse, set, subst, sym, take}
 use Rattle.std.specs.Result.{IsErrAnd}
 use Rattle.std.proofs.lemmas.List.{length-reverse, reverse-append}
-use Rattle.ink_model.specs.Run.Configuration.{Page, Section}
+use Rattle.ink_out.proofs.Common.{Page, Section, Fault, MAX_MARKS, Mark, page_of, State}
 use Rattle.ink_model.specs.Text.Output.{is_crowded, noted, writes_marks}
-use Rattle.ink_model.specs.declared.fault.Fault.{Fault}
 use Rattle.ink_model.specs.declared.fault.Fault.TheVariants.{TooDeep}
-use Rattle.ink_model.specs.declared.limits.TheConstants.{MAX_MARKS}
-use Rattle.ink_model.specs.declared.mark.Mark.{Mark}
 use Rattle.ink_out.specs.Undo.{GoesBack, Held, KeepsState, open_in, open_marks, output_back, room_of, with_open, with_open_in}
-use Rattle.ink_out.specs.Writing.{page_of}
-use Rattle.ink_out.specs.declared.state.State.{State}
 use Rattle.ink_out.specs.declared.undo.OutputPair.{OutputPair}
 use Rattle.ink_out.specs.declared.undo.OutputPair.TheVariants.{Wrote, Began, Closed, Sections}
 use Rattle.ink_out.proofs.Noting.{last_is, last_set}

@@ -3,20 +3,14 @@ use Rattle.std.proofs.Common.{◌≡◌, ℕ, suc, ◌<◌, ◌≤◌, Bool, tru
 use Rattle.std.proofs.lemmas.Bool.{cases_Bool, or_left, or_right, or_from, ne_eqb, eqb-true, eq-eqb, lt-ltb, le-ltb, leb-false, lt-leb}
 use Rattle.std.proofs.lemmas.List.{append-nil, append_assoc, append_cancel_right, nil_from_length}
 use Rattle.ink_model.specs.Text.Shown.{glued, glues, covered, passes, newline_shown, newlines_before, is_among, text_before, written, newline_before}
-use Rattle.ink_model.specs.declared.mark.Mark.{Mark}
+use Rattle.ink_out.proofs.Common.{Mark, Hides, Waiting, Tracker, Start, Walk, Holds}
 use Rattle.ink_model.specs.declared.mark.Mark.TheVariants as kinds
 use Rattle.ink_out.specs.declared.pile.Held.{Held}
 use Rattle.ink_out.specs.declared.pile.Held.TheVariants.{Blank, Newline}
-use Rattle.ink_out.specs.declared.tracker.Hides.{Hides}
 use Rattle.ink_out.specs.declared.tracker.Hides.TheVariants.{Near, Any, Never}
-use Rattle.ink_out.specs.declared.tracker.Waiting.{Waiting}
-use Rattle.ink_out.specs.declared.tracker.Tracker.{Tracker}
 use Rattle.ink_out.specs.Tracks.{since, hidden_by, waits, waiting_at, reached, reach_of, FitsWaiting, Tracks, settled_by}
 use Rattle.std.specs.Borrow.{Bor}
-use Rattle.ink_out.specs.declared.enters.Start.{Start}
-use Rattle.ink_out.specs.declared.walk.Walk.{Walk}
 use Rattle.ink_out.specs.declared.cleaning.Shown.{Shown}
-use Rattle.ink_out.specs.Cleaning.{Holds}
 use Rattle.ink_out.specs.Stands.{Passes, Passing}
 use Rattle.ink_out.specs.Walks.{Walks, held_at, glue_at, held_text, pile_text, left_pile, is_at, now_text, pile_now, Falls}
 use Rattle.ink_out.proofs.Covers.{since_more, since_here, passes_reached}

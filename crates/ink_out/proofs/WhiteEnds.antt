@@ -1,12 +1,11 @@
 -- A text's white ends: whether they hold a newline, and what is cut off there.
 use Rattle.std.proofs.Common.{◌≡◌, ℕ, ◌+◌, ◌-◌, ◌<◌, ◌≤◌, true, false, ◌||◌, cond, eqb, List, [], ◌∷◌, ◌++◌, reverse, length, get_or, take, drop, refl, sym, ap, ◌∙◌, arith, inl, inr}
-use Rattle.std.specs.List.{prefix_len, suffix_len}
+use Rattle.ink_out.proofs.Common.{prefix_len, suffix_len, list_any-IsPermutation, IsPermutation-reverse}
 use Rattle.std.proofs.lemmas.Bool.{eqb-true, or_cases, cases_Bool}
 use Rattle.std.proofs.lemmas.List.{length-take-le, length-reverse, take-append-drop, drop-append-le, get_or-reverse, get_or_past}
 use Rattle.std.proofs.lemmas.List.Sums.{prefix_len-le-length}
 use Rattle.std.proofs.Math.Numerals.{one-add}
 use Rattle.std.proofs.Math.Seq.{take-add}
-use Rattle.std.proofs.lemmas.List.Sorted.{list_any-IsPermutation, IsPermutation-reverse}
 use Rattle.ink_model.proofs.Ends.{blank_ascii, leading_is, trailing_is, trimmed_is, without_is}
 use Rattle.ink_model.specs.Text.Bytes.{has_newline, is_blank, is_newline, is_white, leading, trailing, trimmed, without}
 

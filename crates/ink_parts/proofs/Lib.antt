@@ -1,3 +1,4 @@
+pub mod Common
 pub mod Arrays
 pub mod Texts
 pub mod Numbering

@@ -1,16 +1,13 @@
 -- The rows of slots, one by one.
 use Rattle.std.proofs.Common.{◌≡◌, ◌∙◌, sym, ap, refl, subst, ℕ, suc, ◌+◌, ◌<◌, length, List, [], ◌∷◌, ◌++◌, get_or, map, take, Option, Some, None, arith}
 use Rattle.std.proofs.lemmas.List.{append-nil, length-take-le, map-append, take_more}
-use Rattle.serde_json.specs.View.{view}
+use Rattle.ink_parts.proofs.Common.{view, row_data, Added, data_tokens, rows_from}
 use Rattle.serde_json.specs.declared.value.Value.{Value}
-use Rattle.ink_model.specs.Save.Spelling.{row_data}
 use Rattle.ink_model.specs.Story.Tree.{StoryTree}
 use Rattle.json.specs.Written.{Written}
-use Rattle.ink_tokens.specs.Tokens.{Added, data_tokens}
 use Rattle.ink_tokens.proofs.Adding.{after, more_items}
 use Rattle.ink_parts.proofs.Texts.{all_tokens}
 use Rattle.ink_parts.specs.Counted.{place_at, row_at, rows_at, slot_row}
-use Rattle.ink_vars.specs.Slots.{rows_from}
 
 rows_last : (k : ℕ) (xs : List (Option ℕ)) (o : Option ℕ) → rows_from k (xs ++ o ∷ []) ≡ rows_from k xs ++ slot_row (k + length xs) o
 rows_last k [] None = refl

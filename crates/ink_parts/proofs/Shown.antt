@@ -6,8 +6,7 @@ use Rattle.ink_model.specs.Host.Events.{items_of}
 use Rattle.ink_model.specs.Run.Flows.{AsideOf, all_flows}
 use Rattle.ink_model.specs.Save.Spelling.{list_data, named_flow_data}
 use Rattle.ink_model.specs.Story.Tree.{StoryTree}
-use Rattle.ink_parts.specs.Parts.{row_in}
-use Rattle.serde_json.specs.Data.{array}
+use Rattle.ink_parts.proofs.Common.{row_in, array}
 
 module _ (s : StoryTree) (f : Flow) where
   or_else : (o : Option Flow) → flow_of s (unwrap_or o f) ≡ unwrap_or (option_map (flow_of s) o) (flow_of s f)

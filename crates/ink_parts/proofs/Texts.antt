@@ -7,13 +7,11 @@ use Rattle.json.specs.Token.{Token}
 use Rattle.json.specs.Token as token
 use Rattle.json.specs.Tree.{members_tokens}
 use Rattle.json.specs.Written.{Written}
-use Rattle.serde_json.specs.Data.{Data, object}
+use Rattle.ink_parts.proofs.Common.{Data, object, value_data, Added, data_tokens}
 use Rattle.serde_json.specs.Written.{members_outline}
 use Rattle.ink_model.specs.Save.Spelling.{list_data, temps_members}
 use Rattle.ink_model.specs.Variables.Store.{Values}
-use Rattle.ink_model.specs.Protocol.ValueJson.{value_data}
 use Rattle.ink_model.specs.declared.value.Value.{Value}
-use Rattle.ink_tokens.specs.Tokens.{Added, data_tokens}
 use Rattle.ink_tokens.proofs.Adding.{after, finally, list_whole, more_items}
 
 -- ---- the same tokens

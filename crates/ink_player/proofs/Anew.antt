@@ -1,21 +1,13 @@
 -- A player that goes on with another machine.
 use Rattle.std.proofs.Common.{◌≡◌, ◌∙◌, ap, inl, refl, sym, List, [], Bool, true, Option, None, Ok}
 use Rattle.ink_commands.specs.Telling.{TellsWatchers}
-use Rattle.ink_host.specs.Desk.{DeskView, watches}
-use Rattle.ink_host.specs.Telling.{Watching}
-use Rattle.ink_host.specs.declared.objects.Called.{Called}
+use Rattle.ink_player.proofs.Common.{DeskView, watches, Watching, Called, Configuration, told, Fault, Change, Event, Machine}
 use Rattle.ink_model.specs.Protocol.Answer.{Acts, Reply}
-use Rattle.ink_model.specs.Run.Configuration.{Configuration}
 use Rattle.ink_model.specs.Protocol.Session.{BeginsAnew, condition_told, reply_told}
 use Rattle.ink_model.specs.Protocol.State.{Ready, globals_of}
-use Rattle.ink_model.specs.Host.Told.{told}
-use Rattle.ink_model.specs.declared.fault.Fault.{Fault}
-use Rattle.ink_model.specs.declared.host.Change.{Change}
-use Rattle.ink_model.specs.declared.host.Event.{Event}
 use Rattle.ink_player.specs.Standing.{DeliveredOnce, PlayerView, condition_by, desk_of, fault_told, is_empty, state_of, story_of, told_from}
 use Rattle.ink_player.proofs.Tellings.{globals-by, globals-told, none-left, told-done, told-state, with_parts}
 use Rattle.ink_step.specs.Standing as step
-use Rattle.ink_step.specs.declared.machine.Machine.{Machine}
 
 module _ {P F O : Type 0} (turn_log : F → List Called) (state : O → Watching) (p : PlayerView P F O) (m : Machine) where
   abbrev before : Configuration

@@ -1,14 +1,7 @@
 -- What a command does to the objects of a host.
 use Rattle.std.proofs.Common.{◌≡◌, ap, refl, ℕ, List, [], Option, Some}
-use Rattle.ink_host.specs.Desk.{DeskView}
-use Rattle.ink_host.specs.Telling.{Watching}
-use Rattle.ink_host.specs.declared.objects.Called.{Called}
-use Rattle.ink_model.specs.Protocol.Answer.{Reply, Refuses}
+use Rattle.ink_player.proofs.Common.{DeskView, Watching, Called, Reply, Refuses, Command, Refusal, Event, Given}
 use Rattle.ink_model.specs.Protocol.Command as command
-use Rattle.ink_model.specs.Protocol.Command.{Command}
-use Rattle.ink_model.specs.declared.fault.Refusal.{Refusal}
-use Rattle.ink_model.specs.declared.host.Event.{Event}
-use Rattle.ink_model.specs.declared.host.Given.{Given}
 use Rattle.ink_model.specs.declared.value.Value.{Value}
 use Rattle.ink_player.specs.Standing.{CommandStopsAtRefusal, DeliveredBy, DeliveredOf, Scene, bindings, changed}
 use Rattle.ink_player.proofs.Refusals.{kept_with, none_called, replied}

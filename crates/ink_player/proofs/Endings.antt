@@ -1,16 +1,8 @@
 -- How often the source of a session was at its end.
 use Rattle.std.proofs.Common.{◌≡◌, inl, inr, subst, ℕ, List, true, Option, Err}
-use Rattle.ink_host.specs.Telling.{Watching}
-use Rattle.ink_host.specs.declared.objects.Called.{Called}
-use Rattle.ink_model.specs.Host.Bindings.{Bindings}
-use Rattle.ink_model.specs.Story.Tree.{StoryTree}
+use Rattle.ink_player.proofs.Common.{Watching, Called, Bindings, StoryTree, Answers, Scene, PlayFault, after_call, RunFault}
 use Rattle.ink_player.specs.Ends.{EndsOnce, FailsOnce, IsLastLine}
-use Rattle.ink_player.specs.Serving.{Answers}
-use Rattle.ink_player.specs.Standing.{Scene}
-use Rattle.ink_player.specs.declared.end.PlayFault.{PlayFault}
 use Rattle.ink_player.specs.declared.end.PlayFault.TheVariants as play
-use Rattle.ink_protocol.specs.Ends.{after_call}
-use Rattle.ink_protocol.specs.declared.fault.RunFault.{RunFault}
 use Rattle.ink_protocol.specs.declared.fault.RunFault.TheVariants as fault
 
 -- from where it stood at first

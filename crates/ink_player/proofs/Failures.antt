@@ -1,19 +1,11 @@
 -- Whose failure ended a session or a play.
 use Rattle.std.proofs.Common.{◌≡◌, refl, subst, sym, ℕ, List, Bool, Option, Err}
-use Rattle.ink_host.specs.Telling.{Watching}
-use Rattle.ink_host.specs.declared.objects.Called.{Called}
-use Rattle.ink_model.specs.Host.Bindings.{Bindings}
-use Rattle.ink_model.specs.Story.Tree.{StoryTree}
+use Rattle.ink_player.proofs.Common.{Watching, Called, Bindings, StoryTree, Answers, Scene, PlayFault, Buffered, RunFault}
 use Rattle.ink_player.specs.Ends.{in_run}
 use Rattle.ink_player.specs.Playing.{OpenFails, play_fault}
-use Rattle.ink_player.specs.Serving.{Answers}
-use Rattle.ink_player.specs.Standing.{Scene}
-use Rattle.ink_player.specs.declared.end.PlayFault.{PlayFault}
 use Rattle.ink_player.specs.declared.end.PlayFault.TheVariants as play
-use Rattle.ink_protocol.specs.Buffered.{Buffered}
 use Rattle.ink_protocol.specs.Ends.{Reports, after_call, is_read, is_write}
 use Rattle.ink_protocol.specs.Lines.{GivesLine}
-use Rattle.ink_protocol.specs.declared.fault.RunFault.{RunFault}
 use Rattle.ink_protocol.specs.declared.fault.RunFault.TheVariants as fault
 
 -- a line that could not be taken is no failure of the sink

@@ -1,3 +1,4 @@
+pub mod Common
 pub mod Sessions
 pub mod Refusing
 pub mod Playings

@@ -5,11 +5,7 @@ use Rattle.std.proofs.KnownBytes.{Appends-nil, Consumes-trans}
 use Rattle.ink_model.specs.Text.Bytes.{has_newline}
 use Rattle.ink_model.specs.declared.limits.TheConstants.{MAX_STORY, MAX_INPUT}
 use Rattle.ink_model.specs.Run.Opening.{opened}
-use Rattle.ink_model.specs.Host.Bindings.{Bindings}
-use Rattle.ink_host.specs.Desk.{DeskView}
-use Rattle.ink_host.specs.Telling.{Watching}
-use Rattle.ink_host.specs.declared.objects.Called.{Called}
-use Rattle.ink_protocol.specs.Buffered.{Buffered}
+use Rattle.ink_player.proofs.Common.{Bindings, DeskView, Watching, Called, Buffered, PlayFault, RunFault}
 use Rattle.ink_protocol.specs.Input.{Takes}
 use Rattle.ink_protocol.specs.Lines.{TakesLine, GivesLine}
 use Rattle.ink_player.specs.Ends.{IsLastLine}
@@ -18,9 +14,7 @@ use Rattle.ink_player.specs.Serving.{RunEnds, Runs}
 use Rattle.ink_protocol.specs.Spelled.{HasRoom}
 use Rattle.ink_player.specs.Standing.{PlayerView, Scene, anew, scene_of, story_of}
 use Rattle.ink_player.specs.declared.end.PlayEnd.{PlayEnd}
-use Rattle.ink_player.specs.declared.end.PlayFault.{PlayFault}
 use Rattle.ink_player.specs.declared.end.PlayFault.TheVariants as play
-use Rattle.ink_protocol.specs.declared.fault.RunFault.{RunFault}
 use Rattle.ink_protocol.specs.declared.fault.RunFault.TheVariants as fault
 use Rattle.ink_protocol.proofs.Reading.{has_room}
 use Rattle.ink_player.proofs.Sessions.{none_left}

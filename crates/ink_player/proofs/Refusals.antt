@@ -2,9 +2,7 @@
 use Rattle.std.proofs.Common.{◌≡◌, ◌∙◌, ap, inl, inr, refl, subst, sym, ℕ, List}
 use Rattle.ink_host.specs.Desk.{DeskView, at, refusals_at}
 use Rattle.ink_model.specs.Protocol.Answer.{Reply, Breaks}
-use Rattle.ink_model.specs.declared.fault.Fault.{Fault}
-use Rattle.ink_model.specs.declared.fault.Fault.TheVariants.{OutOfMemory}
-use Rattle.ink_model.specs.declared.host.Event.{Event}
+use Rattle.ink_player.proofs.Common.{Fault, OutOfMemory, Event}
 use Rattle.ink_effects.specs.Refusals.{KeepsRefusals, StopsAtRefusal}
 use Rattle.ink_player.specs.Standing.{CommandStopsAtRefusal}
 

@@ -7,10 +7,9 @@ use Rattle.ink_json.specs.Reading.{is_parsed}
 use Rattle.ink_model.specs.Story.Acceptance.{accepted, accepted_story, and_then}
 use Rattle.ink_model.specs.Text.Bytes.{is_filled}
 use Rattle.ink_model.specs.Story.Grammar.{here, of_json, story, unmarked}
-use Rattle.ink_model.specs.Story.Tree.{StoryTree}
+use Rattle.ink_player.proofs.Common.{StoryTree, MAX_STORY}
 use Rattle.ink_model.specs.declared.fault.Cause.TheVariants.{Limit, OutOfMemory}
 use Rattle.ink_model.specs.declared.fault.ReadRefusal.{ReadRefusal}
-use Rattle.ink_model.specs.declared.limits.TheConstants.{MAX_STORY}
 use Rattle.ink_player.specs.Playing.{IsRefused}
 
 nothing_read : read [] ≡ None

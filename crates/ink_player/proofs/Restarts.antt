@@ -1,19 +1,12 @@
 -- A restart, by what opening comes to.
 use Rattle.std.proofs.Common.{◌≡◌, ap, refl, subst, sym, inl, inr, List, [], Ok}
-use Rattle.ink_model.specs.Protocol.Answer.{Reply, Refuses}
-use Rattle.ink_model.specs.Run.Configuration.{Configuration}
+use Rattle.ink_player.proofs.Common.{Reply, Refuses, Configuration, Bindings, Values, told, StoryTree, Refusal, Event}
 use Rattle.ink_model.specs.Run.Flows.{Game, alone}
-use Rattle.ink_model.specs.Host.Bindings.{Bindings}
 use Rattle.ink_model.specs.Memory.Refusals.{OpensShort}
 use Rattle.ink_model.specs.Run.Opening.{opening}
 use Rattle.ink_model.specs.Protocol.Session.{BeginsAnew, Restart, RestartsAs}
 use Rattle.ink_model.specs.Protocol.State.{State, globals_of}
-use Rattle.ink_model.specs.Variables.Store.{Values}
-use Rattle.ink_model.specs.Host.Told.{told}
-use Rattle.ink_model.specs.Story.Tree.{StoryTree}
-use Rattle.ink_model.specs.declared.fault.Refusal.{Refusal}
 use Rattle.ink_model.specs.declared.fault.Refusal.TheVariants as refusal
-use Rattle.ink_model.specs.declared.host.Event.{Event}
 
 module _ (s : StoryTree) (h : Bindings) (old : State) where
   -- with these globals before

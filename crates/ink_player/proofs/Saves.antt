@@ -5,32 +5,19 @@ use Rattle.serde_json.specs.View.{view}
 use Rattle.serde_json.specs.Written.{compact_text, has_float}
 use Rattle.serde_json.specs.declared.value.Value.{Value}
 use Rattle.ink_model.specs.Protocol.Answer.{Reply, Acts, Refuses, Saves, reply_of_events}
-use Rattle.ink_model.specs.Protocol.Command.{json_of}
-use Rattle.ink_model.specs.Run.Configuration.{Configuration}
+use Rattle.ink_player.proofs.Common.{json_of, Configuration, Bindings, Values, told, StoryTree, Fault, Refusal, Change, Event, ConditionFits, StoryFits, at_stamp, TextReadsAsState, condition_by}
 use Rattle.ink_model.specs.Host.Events.{later}
 use Rattle.ink_model.specs.Run.Flows.{Aside, Game}
-use Rattle.ink_model.specs.Host.Bindings.{Bindings}
 use Rattle.ink_model.specs.Save.Reads.{Reads, Spells}
 use Rattle.ink_model.specs.Save.Sound.{AsideFits}
 use Rattle.ink_model.specs.Save.Spelling.{spelling}
 use Rattle.ink_model.specs.Protocol.Session.{BeginsAnew, Load, Save, condition_told, reply_told}
 use Rattle.ink_model.specs.Protocol.State.{State, Ready, globals_of}
-use Rattle.ink_model.specs.Variables.Store.{Values}
-use Rattle.ink_model.specs.Host.Told.{told}
-use Rattle.ink_model.specs.Story.Tree.{StoryTree}
-use Rattle.ink_model.specs.declared.fault.Fault.{Fault}
-use Rattle.ink_model.specs.declared.fault.Refusal.{Refusal}
 use Rattle.ink_model.specs.declared.fault.Refusal.TheVariants as refusal
-use Rattle.ink_model.specs.declared.host.Change.{Change}
-use Rattle.ink_model.specs.declared.host.Event.{Event}
 use Rattle.ink_model.specs.declared.fault.Halt.{Halt}
-use Rattle.ink_sound.specs.Kept.{ConditionFits, StoryFits}
 use Rattle.ink_sound.proofs.Orderly.{spelled_back}
 use Rattle.ink_sound.proofs.Respelling.{reads_one}
-use Rattle.ink_commands.specs.States.{at_stamp}
-use Rattle.ink_player.specs.Loading.{TextReadsAsState}
 use Rattle.ink_player.specs.Saving.{IsOldSave, IsSave, IsSaveText, LoadsAs, NotLoaded, ReadsAsState, StandsIn}
-use Rattle.ink_player.specs.Standing.{condition_by}
 use Rattle.ink_protocol.specs.Plain.{IsPlain}
 use Rattle.ink_protocol.specs.Replies.{IsTextOf, reply_of_json, reply_of_text}
 use Rattle.ink_sound.proofs.Plain.{spelling_plain}

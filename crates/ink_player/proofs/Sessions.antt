@@ -4,19 +4,13 @@ use Rattle.std.specs.List.{AllByRecursion}
 use Rattle.std.specs.Option.{option_map}
 use Rattle.std.specs.Io.KnownBytes.{Appends, IsAtEnd}
 use Rattle.std.proofs.KnownBytes.{Appends-nil, Appends-trans, Consumes-trans}
-use Rattle.ink_host.specs.Telling.{Watching}
-use Rattle.ink_host.specs.declared.objects.Called.{Called}
+use Rattle.ink_player.proofs.Common.{Watching, Called, State, Bindings, StoryTree, Event, Buffered, Extent, RunFault}
 use Rattle.ink_model.specs.Protocol.Answer.{Reply, Refuses, answer}
 use Rattle.ink_model.specs.Text.Bytes.{has_newline, onto}
 use Rattle.ink_model.specs.Protocol.Command as command
 use Rattle.ink_model.specs.Protocol.Command.{Command, command_of, json_of, line_asks, lines_of}
 use Rattle.ink_model.specs.Protocol.Session.{Does, Serves}
-use Rattle.ink_model.specs.Protocol.State.{State}
-use Rattle.ink_model.specs.Host.Bindings.{Bindings}
-use Rattle.ink_model.specs.Story.Tree.{StoryTree}
-use Rattle.ink_model.specs.declared.host.Event.{Event}
 use Rattle.ink_model.specs.declared.fault.Refusal.TheVariants as refusal
-use Rattle.ink_protocol.specs.Buffered.{Buffered}
 use Rattle.ink_player.specs.Loading.{LoadsText}
 use Rattle.ink_protocol.specs.Commands.{command_by}
 use Rattle.ink_protocol.specs.declared.command.LineCommand.{LineCommand}
@@ -24,14 +18,12 @@ use Rattle.ink_protocol.specs.Ends.{Falls, WritesText}
 use Rattle.ink_protocol.specs.Input.{Takes}
 use Rattle.ink_protocol.specs.Lines.{TakesLine, GivesLine}
 use Rattle.ink_player.specs.Extents.{GoesOn, running}
-use Rattle.ink_look.specs.declared.passages.Extent.{Extent}
 use Rattle.ink_look.specs.declared.passages.Extent.TheVariants as extent
 use Rattle.ink_player.specs.Serving.{Answered, Answers, IsTold, RunEnds, Runs, ServesFront, ServesLine, ServesLineBy, ServesLines}
 use Rattle.ink_player.specs.Standing.{CommandStopsAtRefusal, DeliveredByRun, DeliveredOf, Scene, changed}
 use Rattle.ink_protocol.specs.Spelled.{IsLine, spelled, Splits, IsFirst, IsLongInput, HasRoom}
 use Rattle.ink_model.specs.Protocol.Unread.{TextFails}
 use Rattle.ink_model.specs.declared.limits.TheConstants.{MAX_LINE}
-use Rattle.ink_protocol.specs.declared.fault.RunFault.{RunFault}
 use Rattle.ink_protocol.specs.declared.fault.RunFault.TheVariants as fault
 use Rattle.ink_protocol.proofs.Reading.{neither, has_room}
 

@@ -3,7 +3,7 @@ use Rattle.std.proofs.Common.{◌≡◌, ◌∙◌, ◌||◌, ap, refl, subst, s
 use Rattle.ink_model.specs.Protocol.Answer.{Reply, Acts, Refuses, reply_of_landing}
 use Rattle.ink_model.specs.Choices.Choosing.{open_choice}
 use Rattle.ink_model.specs.Protocol.Command as command
-use Rattle.ink_model.specs.Protocol.Command.{Command}
+use Rattle.ink_player.proofs.Common.{Command, State, Ready, Values, store, stored, StoryTree, Fault, OutOfMemory, Refusal, Event, Given, Machine, Extent}
 use Rattle.ink_model.specs.Run.Configuration.{ChoiceOf, Configuration, can_go_on, settled, with_globals}
 use Rattle.ink_model.specs.Host.Events.{Made, calls, later}
 use Rattle.ink_model.specs.Run.Flows.{Game, alone, one_flow}
@@ -13,16 +13,8 @@ use Rattle.ink_model.specs.Run.Moments as run
 use Rattle.ink_model.specs.Save.Reads as rules
 use Rattle.ink_model.specs.Save.Sound.{AsideFits}
 use Rattle.ink_model.specs.Protocol.Session.{Does, TellsDone, left_with, settable, telling}
-use Rattle.ink_model.specs.Protocol.State.{State, Ready}
-use Rattle.ink_model.specs.Variables.Store.{Values, store, stored}
 use Rattle.ink_model.specs.Host.Told.{ToldAs, told}
-use Rattle.ink_model.specs.Story.Tree.{StoryTree}
 use Rattle.ink_model.specs.Protocol.Turns.{ChoosesBy}
-use Rattle.ink_model.specs.declared.fault.Fault.{Fault}
-use Rattle.ink_model.specs.declared.fault.Fault.TheVariants.{OutOfMemory}
-use Rattle.ink_model.specs.declared.fault.Refusal.{Refusal}
-use Rattle.ink_model.specs.declared.host.Event.{Event}
-use Rattle.ink_model.specs.declared.host.Given.{Given}
 use Rattle.ink_model.specs.declared.place.Part.{Part}
 use Rattle.ink_sound.specs.Kept.{ConditionFits, StateFits, StoryFits}
 use Rattle.ink_sound.proofs.Going.{one_fits}
@@ -30,13 +22,11 @@ use Rattle.ink_sound.proofs.Sessions.{does_fit}
 use Rattle.ink_step.specs.Marks.{Stood, choosing_lacks, entered_by, stood_of, turn_lacks, unmarked}
 use Rattle.ink_step.specs.Steps.{Chooses}
 use Rattle.ink_step.specs.Standing.{aside_in, aside_of, config_of, game_of}
-use Rattle.ink_step.specs.declared.machine.Machine.{Machine}
 use Rattle.ink_commands.proofs.Jumps.{turn_free}
 use Rattle.ink_commands.proofs.Tellings.{nobody-told}
 use Rattle.ink_commands.specs.Paths.{JumpsTo}
 use Rattle.ink_commands.specs.States.{at_stamp, condition_by, state_in}
 use Rattle.ink_look.specs.Extents.{EndsBy}
-use Rattle.ink_look.specs.declared.passages.Extent.{Extent}
 use Rattle.ink_look.specs.declared.passages.Extent.TheVariants as extent
 use Rattle.ink_player.specs.Extents.{GoesOn}
 use Rattle.ink_player.specs.Standing.{Stands, fault_told, is_empty}

@@ -3,38 +3,27 @@ use Rattle.std.proofs.Common.{◌≡◌, ◌≢◌, ◌⊎◌, ◌∙◌, ap, sy
 use Rattle.ink_commands.specs.States.{at_stamp, condition_by}
 use Rattle.ink_commands.specs.Visits.{FindsVisits, TellsVisits}
 use Rattle.ink_host.specs.Desk.{DeskView, Grew, Resting, Rows, at, bound_by, each, put, watches, without}
-use Rattle.ink_host.specs.declared.objects.Called.{Called}
+use Rattle.ink_player.proofs.Common.{Called, Extent, Bindings, value_given, Values, store, stored, StoryTree, Fault, OutOfMemory, Refusal, Change, Event, Given, Machine}
 use Rattle.ink_host.specs.Telling.{IsRound, Watching, log_of, rests}
 use Rattle.ink_host.proofs.Laws.{bound-same, grew-grew, grew-none, watches-same}
 use Rattle.ink_look.specs.Ends.{EndsWith}
 use Rattle.ink_look.specs.Extents.{EndsBy, FallsShortBy, RunsBy}
-use Rattle.ink_look.specs.declared.passages.Extent.{Extent}
 use Rattle.ink_model.specs.Protocol.Answer.{Reply, Acts, Breaks, Counts, Refuses, Tells, reply_of_visits}
 use Rattle.ink_model.specs.Run.Configuration.{Configuration, can_go_on, settled, with_globals}
 use Rattle.ink_model.specs.Host.Events.{Made, calls, later}
 use Rattle.ink_model.specs.Run.Flows.{Aside}
-use Rattle.ink_model.specs.Host.Bindings.{Bindings, value_given}
 use Rattle.ink_model.specs.Choices.Making.{has_any}
 use Rattle.ink_model.specs.Protocol.Passage.{passage, passage_asks}
 use Rattle.ink_model.specs.Run.Moments as run
 use Rattle.ink_model.specs.Protocol.Session as rules
 use Rattle.ink_model.specs.Protocol.Session.{BreaksBy, FailsAllocation, OnlyRefuses, RunsTo, Set, SetsIn, TellsDone, TellsOrKeeps, condition_told, reply_told, settable, telling}
 use Rattle.ink_model.specs.Protocol.State.{State, Condition, Ready, Broken, globals_of}
-use Rattle.ink_model.specs.Variables.Store.{Values, store, stored}
 use Rattle.ink_model.specs.Host.Told.{ToldAs, told}
-use Rattle.ink_model.specs.Story.Tree.{StoryTree}
-use Rattle.ink_model.specs.declared.fault.Fault.{Fault}
-use Rattle.ink_model.specs.declared.fault.Fault.TheVariants.{OutOfMemory}
-use Rattle.ink_model.specs.declared.fault.Refusal.{Refusal}
 use Rattle.ink_model.specs.declared.fault.Refusal.TheVariants as refusal
-use Rattle.ink_model.specs.declared.host.Change.{Change}
-use Rattle.ink_model.specs.declared.host.Event.{Event}
-use Rattle.ink_model.specs.declared.host.Given.{Given}
 use Rattle.ink_model.specs.declared.passage.Passage.{Passage}
 use Rattle.ink_model.specs.declared.value.Value.{Value}
 use Rattle.ink_player.specs.Extents.{GoesFrom, GoesOn}
 use Rattle.ink_player.specs.Standing.{DeliveredByRun, DeliveredOnce, PlayerView, TellsOnce, all_told, aside_seen, bindings, desk_of, fault_told, is_empty, state_of, story_of, told_from}
-use Rattle.ink_step.specs.declared.machine.Machine.{Machine}
 use Rattle.ink_step.specs.Standing.{aside_in, aside_of, config_of}
 
 -- ---- the globals of a player

@@ -1,24 +1,15 @@
 -- Loading a text.
 use Rattle.std.proofs.Common.{◌≡◌, ◌∙◌, ap, refl, subst, sym, inl, inr, ℕ, List, [], None, Some, Result, Ok, Err, IfOk}
 use Rattle.serde_json.specs.Data.{Data}
-use Rattle.ink_model.specs.Protocol.Answer.{Reply, Refuses, reply_of_events}
-use Rattle.ink_model.specs.Protocol.Command.{json_of}
+use Rattle.ink_player.proofs.Common.{Reply, Refuses, reply_of_events, json_of, Bindings, State, StoryTree, Refusal, Event, StoryFits, game_of, Machine}
 use Rattle.ink_model.specs.Run.Flows.{Game}
-use Rattle.ink_model.specs.Host.Bindings.{Bindings}
 use Rattle.ink_model.specs.Save.Reads.{Reads}
 use Rattle.ink_model.specs.Protocol.Session.{Load}
-use Rattle.ink_model.specs.Protocol.State.{State}
-use Rattle.ink_model.specs.Story.Tree.{StoryTree}
 use Rattle.ink_model.specs.declared.fault.Halt.{Halt}
-use Rattle.ink_model.specs.declared.fault.Refusal.{Refusal}
 use Rattle.ink_model.specs.declared.fault.Refusal.TheVariants as refusal
-use Rattle.ink_model.specs.declared.host.Event.{Event}
 use Rattle.ink_player.specs.Loading.{LoadsText, TextReads, TextReadsAsState}
 use Rattle.ink_player.proofs.Saves.{load-reads, load-refused, load-stands}
 use Rattle.ink_player.specs.Saving.{FindsText, LoadsAs, ReadsAsState}
-use Rattle.ink_sound.specs.Kept.{StoryFits}
-use Rattle.ink_step.specs.Standing.{game_of}
-use Rattle.ink_step.specs.declared.machine.Machine.{Machine}
 
 module _ (s : StoryTree) (text : List ℕ) where
   -- what a machine was made of

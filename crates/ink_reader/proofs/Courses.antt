@@ -1,24 +1,18 @@
 -- The deeds for what was typed.
 use Rattle.std.proofs.Common.{◌≡◌, ◌∙◌, ◌≤◌, ◌-◌, ℕ, suc, List, [], ◌∷◌, ◌++◌, Bool, true, false, MatchBool, Option, Some, None, is_some, Result, Ok, Err, is_ok, refl, sym, ap, subst, inl, inr, append_assoc, append-nil, true≢false, arith}
 use Rattle.std.specs.Option.{option_to_list}
-use Rattle.serde_json.specs.Data.{Data}
+use Rattle.ink_reader.proofs.Common.{Data, Watching, Called, Reply, Look, NotKept, Told}
 use Rattle.serde_json.specs.Read.{read}
-use Rattle.ink_host.specs.Telling.{Watching}
-use Rattle.ink_host.specs.declared.objects.Called.{Called}
-use Rattle.ink_model.specs.Protocol.Answer.{Reply}
 use Rattle.ink_model.specs.Protocol.Command as command
 use Rattle.ink_model.specs.Protocol.Command.{Command}
 use Rattle.ink_model.specs.declared.host.Given.{Given}
 use Rattle.ink_model.specs.declared.value.Value.{Value}
 use Rattle.ink_page.specs.Typed.{Asked}
-use Rattle.ink_page.specs.declared.page.Look.{Look}
 use Rattle.ink_player.specs.Standing.{PlayerView}
 use Rattle.ink_reader.specs.Course.{EndsAt, GoesOn, IsBack, IsBeginning, IsCourse, IsLoading, IsStop, IsTelling, IsTold, Places, Then, UpTo, acts}
 use Rattle.ink_reader.specs.Deeds.{Deed, Fetches, Gives, Goes, Offers, Played, Says}
 use Rattle.ink_reader.specs.Steps.{IsMissing, NoPlace}
 use Rattle.ink_reader.specs.Notices.{Word, LastLacks, Stopped}
-use Rattle.ink_reader.specs.declared.shelf.NotKept.{NotKept}
-use Rattle.ink_reader.specs.declared.telling.Told.{Told}
 use Rattle.ink_reader.specs.declared.telling.Told.TheVariants as told
 use Rattle.ink_reader.proofs.Tellings.{any-stop}
 

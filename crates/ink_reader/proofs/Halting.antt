@@ -1,14 +1,11 @@
 -- After an answer that is no passage, the story does not go on.
 use Rattle.std.proofs.Common.{◌≡◌, ◌∙◌, List, [], Bool, true, false, MatchBool, ap, inl, inr, refl, sym, true≢false}
-use Rattle.ink_model.specs.Protocol.Answer.{Reply, Refuses, Tells, reply_of_halt}
+use Rattle.ink_reader.proofs.Common.{Reply, Refuses, Tells, reply_of_halt, Bindings, StoryTree, Halt}
 use Rattle.ink_model.specs.Run.Configuration.{Configuration, can_go_on, settled}
-use Rattle.ink_model.specs.Host.Bindings.{Bindings}
 use Rattle.ink_model.specs.Run.Moments.{Made, RunEnd, Kept, Broke}
 use Rattle.ink_model.specs.Protocol.Session.{Continue, EndsAs, OnlyRefuses, RunsFrom, RunsLine, condition_told, reply_told, telling}
 use Rattle.ink_model.specs.Protocol.State.{State, Condition, Ready, Broken, is_running}
 use Rattle.ink_model.specs.Variables.Store.{Values}
-use Rattle.ink_model.specs.Story.Tree.{StoryTree}
-use Rattle.ink_model.specs.declared.fault.Halt.{Halt}
 use Rattle.ink_model.specs.declared.fault.Refusal.TheVariants as refusal
 use Rattle.ink_model.specs.declared.fault.Halt.TheVariants as halt
 use Rattle.ink_model.specs.declared.host.Event.{Event}

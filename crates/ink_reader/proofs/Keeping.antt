@@ -1,9 +1,7 @@
 -- What is kept reads as where the story stands.
 use Rattle.std.proofs.Common.{◌≡◌, ◌⊎◌, ℕ, List, Option, Some, inl, inr}
-use Rattle.serde_json.specs.Data.{Data}
+use Rattle.ink_reader.proofs.Common.{Data, State, StoryTree}
 use Rattle.serde_json.specs.Written.{compact_text}
-use Rattle.ink_model.specs.Protocol.State.{State}
-use Rattle.ink_model.specs.Story.Tree.{StoryTree}
 use Rattle.ink_player.specs.Saving.{ReadsAsState}
 use Rattle.ink_reader.specs.Kept.{KeptAs}
 

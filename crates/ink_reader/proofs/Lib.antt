@@ -1,3 +1,4 @@
+pub mod Common
 pub mod Playing
 pub mod Tellings
 pub mod Courses

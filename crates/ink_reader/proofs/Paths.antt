@@ -3,9 +3,8 @@ use Rattle.std.proofs.Common.{◌≡◌, ◌∙◌, ap, sym, refl, arith, ℕ, �
 use Rattle.std.proofs.lemmas.Bool.{cond_both, lt-ltb}
 use Rattle.std.proofs.lemmas.List.{reverse-append}
 use Rattle.std.specs.List.{AllByRecursion as Each}
-use Rattle.serde_json.specs.Data.{Data}
+use Rattle.ink_reader.proofs.Common.{Data, Saves, StoryTree}
 use Rattle.serde_json.specs.Find.{get}
-use Rattle.ink_model.specs.Protocol.Answer.{Saves}
 use Rattle.ink_model.specs.Run.Configuration.{Configuration, FlowOf}
 use Rattle.ink_model.specs.Host.Events.{items_of}
 use Rattle.ink_model.specs.Run.Flows.{Aside, all_flows, current_name, holes}
@@ -16,7 +15,6 @@ use Rattle.ink_model.specs.Save.Spelling.{frame_data, named_flow_data, part_data
 use Rattle.ink_model.specs.Save.Unspelled.{all_of, part_of, place_of}
 use Rattle.ink_model.specs.Protocol.Session.{SavesFrom}
 use Rattle.ink_model.specs.Protocol.State.{Condition, Ready, Broken}
-use Rattle.ink_model.specs.Story.Tree.{StoryTree}
 use Rattle.ink_model.specs.declared.place.Part.{Part}
 use Rattle.ink_model.specs.declared.place.Part.TheVariants.{Index, Name}
 use Rattle.ink_sound.specs.Kept.{ConditionFits, StoryFits}

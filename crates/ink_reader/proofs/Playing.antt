@@ -1,37 +1,24 @@
 -- What a reading does, one deed after another, and what is shown of it.
 use Rattle.std.proofs.Common.{◌≡◌, ◌∙◌, ℕ, List, [], ◌∷◌, ◌++◌, Bool, true, false, Option, Some, Result, Ok, Err, OnErr, OnOk, is_ok, refl, sym, ap, subst, append_assoc, append-nil, true≢false, codes}
 use Rattle.std.proofs.KnownBytes.{Appends-nil, Appends-trans}
-use Rattle.std.specs.Io.KnownBytes.{Appends}
+use Rattle.ink_reader.proofs.Common.{Appends, Watching, Called, Reply, reply_of_halt, Bindings, StoryTree, Halt, Shown, said, Look, saving_told, unsaved_told, break_told, stop_told, NotKept, Told}
 use Rattle.ink_host.specs.Desk.{DeskView}
-use Rattle.ink_host.specs.Telling.{Watching}
-use Rattle.ink_host.specs.declared.objects.Called.{Called}
-use Rattle.ink_model.specs.Protocol.Answer.{Reply, reply_of_halt}
 use Rattle.ink_model.specs.Protocol.Command as command
 use Rattle.ink_model.specs.Protocol.Command.{Command}
-use Rattle.ink_model.specs.Host.Bindings.{Bindings}
 use Rattle.ink_model.specs.Protocol.Session.{Does}
 use Rattle.ink_model.specs.Protocol.State.{State, is_running}
-use Rattle.ink_model.specs.Story.Tree.{StoryTree}
 use Rattle.ink_model.specs.Protocol.Turns.{ShowsChoices}
-use Rattle.ink_model.specs.declared.fault.Halt.{Halt}
 use Rattle.ink_model.specs.declared.fault.Refusal.{Refusal}
 use Rattle.ink_model.specs.declared.host.Event.{Event}
 use Rattle.ink_model.specs.declared.host.Given.{Given}
-use Rattle.ink_model.specs.declared.passage.Shown.{Shown}
 use Rattle.ink_model.specs.declared.value.Value.{Value}
-use Rattle.ink_page.specs.Showing.{said}
-use Rattle.ink_page.specs.declared.page.Look.{Look}
 use Rattle.ink_protocol.specs.Ends.{WritesText}
 use Rattle.ink_protocol.specs.declared.fault.RunFault.{RunFault}
 use Rattle.ink_player.specs.Standing.{DeliveredBy, DeliveredOf, PlayerView, bindings, desk_of, scene_of, state_of, story_of}
 use Rattle.ink_player.proofs.Dealing.{command_binds, same_refusals}
-use Rattle.ink_reader.specs.Course.{saving_told, unsaved_told}
 use Rattle.ink_reader.specs.Deeds.{AreDelivered, AreDone, AreShelved, Asks, Deed, Fetches, Gave, Gives, Goes, IsShelved, Keeps, Played, Says, answer_shown, deed_shown, deeds_shown, reply_shown}
 use Rattle.ink_reader.specs.Kept as shelf
-use Rattle.ink_reader.specs.Steps.{break_told, stop_told}
 use Rattle.ink_reader.specs.Notices.{Word, broke_off, word_text}
-use Rattle.ink_reader.specs.declared.shelf.NotKept.{NotKept}
-use Rattle.ink_reader.specs.declared.telling.Told.{Told}
 use Rattle.ink_reader.proofs.Tellings.{break-dealt, break-done, break-shelved}
 
 -- ---- more deeds

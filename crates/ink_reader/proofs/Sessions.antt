@@ -1,15 +1,13 @@
 -- Lines that are typed, one after another.
 use Rattle.std.proofs.Common.{◌≡◌, ◌∙◌, ℕ, List, [], ◌∷◌, ◌++◌, Bool, true, false, ◌&&◌, MatchBool, Option, Some, None, Result, Ok, Err, IfOk, is_ok, not, refl, sym, ap, subst, append_assoc, append-nil, true≢false}
-use Rattle.ink_model.specs.Protocol.Answer.{Refuses}
+use Rattle.ink_reader.proofs.Common.{Refuses, Deed, Asks, Gives, Says, Refused}
 use Rattle.ink_model.specs.Protocol.Command as command
 use Rattle.ink_model.specs.declared.fault.Refusal.TheVariants as refusal
 use Rattle.ink_page.specs.Typed.{Asked, asked_by}
 use Rattle.ink_page.specs.declared.typed.Typed.{Typed}
 use Rattle.ink_page.specs.declared.typed.Typed.TheVariants as as_typed
 use Rattle.ink_reader.specs.Course.{EndsAt, IsBeginning, IsCourse, IsEnding, IsLoading, Places, UpTo, has_loaded}
-use Rattle.ink_reader.specs.Deeds.{Deed, Asks, Gives, Says}
 use Rattle.ink_reader.specs.Session.{AreNext, Begins, Follows, IsReading, ReadBy, ReadTo, Resumes, asked_for, quits}
-use Rattle.ink_reader.specs.Notices.{Refused}
 use Rattle.ink_reader.proofs.Courses.{any-telling, up-behind, up-well}
 
 pub next-append : (lines more : List (Option (List ℕ))) (old mid new : Option (List (List ℕ))) → AreNext old lines mid → AreNext mid more new → AreNext old (lines ++ more) new

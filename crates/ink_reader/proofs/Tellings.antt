@@ -1,25 +1,17 @@
 -- Lines that are told one after another, and the stop behind them.
 use Rattle.std.proofs.Common.{◌≡◌, ◌≢◌, ℕ, List, [], ◌∷◌, ◌++◌, Bool, true, false, Option, None, Some, Result, Ok, Err, IfOk, ◌∙◌, ap, inl, inr, refl, sym, subst, append_assoc, append-nil, true≢false}
-use Rattle.serde_json.specs.Data.{Data}
+use Rattle.ink_reader.proofs.Common.{Data, Watching, Called, Bindings, State, StoryTree, Halt, Shown, Told}
 use Rattle.ink_host.specs.Desk.{DeskView}
-use Rattle.ink_host.specs.Telling.{Watching}
-use Rattle.ink_host.specs.declared.objects.Called.{Called}
 use Rattle.ink_model.specs.Protocol.Answer.{Reply, Acts, Breaks, Counts, Refuses, Saves, Shows, Tells, reply_of_halt}
 use Rattle.ink_model.specs.Protocol.Command as command
-use Rattle.ink_model.specs.Host.Bindings.{Bindings}
-use Rattle.ink_model.specs.Protocol.State.{State}
-use Rattle.ink_model.specs.Story.Tree.{StoryTree}
-use Rattle.ink_model.specs.declared.fault.Halt.{Halt}
 use Rattle.ink_model.specs.declared.fault.Halt.TheVariants as halt
 use Rattle.ink_model.specs.declared.fault.Refusal.{Refusal}
 use Rattle.ink_model.specs.declared.fault.Refusal.TheVariants as refusal
-use Rattle.ink_model.specs.declared.passage.Shown.{Shown}
 use Rattle.ink_reader.specs.Course.{IsBreak, IsNoted, IsStop, IsTold, TellsPlace, end_behind, place_told}
 use Rattle.ink_reader.specs.Deeds.{AreDelivered, AreDone, AreShelved, Deed, Gives, Goes, Offers, Says}
 use Rattle.ink_reader.specs.Steps.{ToldBy, are_offered, break_told, end_after, stop_told, whereabouts_told}
 use Rattle.ink_reader.specs.Whereabouts.{path_of}
 use Rattle.ink_reader.specs.Notices.{PlaceLacks, Stopped}
-use Rattle.ink_reader.specs.declared.telling.Told.{Told}
 use Rattle.ink_reader.specs.declared.telling.Told.TheVariants as told
 
 -- ---- lines

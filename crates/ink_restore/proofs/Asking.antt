@@ -1,14 +1,7 @@
 -- Where memory is asked for: what fits asks, and of a list the first element.
 use Rattle.std.proofs.Common.{◌≡◌, ◌⊎◌, inl, inr, sym, refl, subst, ℕ, ◌+◌, ◌<◌, length, List, [], ◌∷◌, ◌++◌, drop, get_or, reverse, IsTrue, true, true≢false}
-use Rattle.std.proofs.lemmas.List.{drop_more, reverse-append}
-use Rattle.std.specs.List.{AllByRecursion}
-use Rattle.ink_model.specs.Text.Bytes.{fits_text}
-use Rattle.ink_model.specs.Run.Configuration.{ChoiceOf, FlowOf}
+use Rattle.ink_restore.proofs.Common.{drop_more, reverse-append, AllByRecursion, fits_text, ChoiceOf, FlowOf, Rows, ChoiceFits, FlowSound, ThreadStands, ThreadsFit, ValueFits, StoryTree, Part}
 use Rattle.ink_model.specs.Flow.Frames.{ThreadOf, ThreadsOf}
-use Rattle.ink_model.specs.Variables.Named.{Rows}
-use Rattle.ink_model.specs.Save.Sound.{ChoiceFits, FlowSound, ThreadStands, ThreadsFit, ValueFits}
-use Rattle.ink_model.specs.Story.Tree.{StoryTree}
-use Rattle.ink_model.specs.declared.place.Part.{Part}
 use Rattle.ink_restore.specs.Asks.{FlowAsks, FlowsAsk, NamedAsks}
 use Rattle.ink_restore.specs.Building.{ChoiceAsks, FirstAsks, FrameBuilds, ListAsks, ThreadAsks, ThreadBuilds, ThreadsAsk, bottom}
 use Rattle.ink_restore.specs.Gathered.{FlowsFit, NamedSound, may_be_all}

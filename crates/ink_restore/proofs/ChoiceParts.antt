@@ -1,15 +1,8 @@
 -- What choices are made of.
 use Rattle.std.proofs.Common.{◌≡◌, ◌∙◌, ap, ℕ, List, IsTrue, Some}
-use Rattle.std.specs.List.{AllByRecursion}
-use Rattle.ink_model.specs.Text.Bytes.{fits_text}
-use Rattle.ink_model.specs.Run.Configuration.{ChoiceOf, map_choice}
+use Rattle.ink_restore.proofs.Common.{AllByRecursion, fits_text, ChoiceOf, map_choice, StoryTree, Part, Builds, place_of, Spot}
 use Rattle.ink_model.specs.Flow.Frames.{ThreadOf, map_thread}
 use Rattle.ink_model.specs.Save.Sound.{ChoiceFits, PlaceFits, ThreadStands}
-use Rattle.ink_model.specs.Story.Tree.{StoryTree}
-use Rattle.ink_model.specs.declared.place.Part.{Part}
-use Rattle.ink_restore.specs.Building.{Builds}
-use Rattle.ink_tree.specs.Nodes.{place_of}
-use Rattle.ink_tree.specs.declared.spot.Spot.{Spot}
 
 pub choice_built : (s : StoryTree) (c : ChoiceOf (List Part)) (text : List ℕ) (tags : List (List ℕ)) (target : Spot) (thread : ThreadOf Spot)
     → (text ≡ c.text) × IsTrue (fits_text c.text) → (tags ≡ c.tags) × AllByRecursion (λ t. IsTrue (fits_text t)) c.tags

@@ -1,19 +1,14 @@
 -- What threads are made of.
 use Rattle.std.proofs.Common.{◌≡◌, ◌∙◌, sym, ap, refl, subst, ◌≤◌, length, List, [], ◌∷◌, ◌++◌, map, reverse, Bool, true, false, nat_le, if◌then◌else◌, Option, Some, None, option_map}
-use Rattle.std.proofs.lemmas.List.{reverse-append}
-use Rattle.std.specs.List.{AllByRecursion, list_all}
+use Rattle.ink_restore.proofs.Common.{reverse-append, AllByRecursion, list_all, StoryTree, Part, place_of, Spot}
 use Rattle.ink_model.specs.Flow.Frames.{ThreadOf, ThreadsOf, map_thread, map_threads}
-use Rattle.ink_model.specs.Story.Tree.{StoryTree}
 use Rattle.ink_model.specs.declared.limits.TheConstants.{MAX_THREADS}
-use Rattle.ink_model.specs.declared.place.Part.{Part}
 use Rattle.ink_restore.specs.Building.{Builds, ThreadBuilds, flows, placed}
 use Rattle.ink_restore.proofs.Standing.{any_place, both, each_reverse, each_reversed, is_within, long, some_mapped, some_place, within}
 use Rattle.ink_model.specs.Save.Sound.{AnyPlace, FlowStands, ThreadStands, ThreadsFit}
 use Rattle.ink_stack.proofs.Reversing.{map-reverse}
 use Rattle.ink_stack.specs.Saving.{threads_from, threads_with}
 use Rattle.ink_stack.specs.Threads.{ThreadsView}
-use Rattle.ink_tree.specs.Nodes.{place_of}
-use Rattle.ink_tree.specs.declared.spot.Spot.{Spot}
 
 module _ (s : StoryTree) where
   -- ---- threads that stand

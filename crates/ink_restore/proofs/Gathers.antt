@@ -1,17 +1,10 @@
 -- The flows that a save spells, gathered one by one.
 use Rattle.std.proofs.Common.{◌≡◌, ◌∙◌, sym, ap, refl, subst, ℕ, ◌+◌, ◌<◌, ◌≤◌, length, List, [], ◌∷◌, ◌++◌, drop, get_or, Bool, true, false, true≢false, ◌&&◌, bytes_eq, if◌then◌else◌, Option, Some, None, is_none, option_map}
-use Rattle.std.proofs.lemmas.List.{append_assoc, append-nil, drop_all, drop_more}
-use Rattle.std.specs.List.{AllByRecursion}
+use Rattle.ink_restore.proofs.Common.{append_assoc, append-nil, drop_all, drop_more, AllByRecursion, FlowOf, Rows, at, once, FlowSound, aside_but, StoryTree, Part}
 use Rattle.ink_flows.specs.Standing.{aside_of, flow_of}
 use Rattle.ink_flows.specs.declared.flow.Flow.{Flow}
 use Rattle.ink_flows.proofs.Mapped.{at_seen, more_seen}
-use Rattle.ink_model.specs.Run.Configuration.{FlowOf}
 use Rattle.ink_model.specs.Run.Flows.{Aside, AsideOf, is_flow_name}
-use Rattle.ink_model.specs.Variables.Named.{Rows, at, once}
-use Rattle.ink_model.specs.Save.Sound.{FlowSound}
-use Rattle.ink_model.specs.Save.Unspelled.{aside_but}
-use Rattle.ink_model.specs.Story.Tree.{StoryTree}
-use Rattle.ink_model.specs.declared.place.Part.{Part}
 use Rattle.ink_restore.specs.Gathered.{FlowsFit, NamedSound}
 use Rattle.ink_restore.proofs.Joining.{at_behind, at_but, at_front, but_append, once_more, once_twice, same_names}
 use Rattle.ink_restore.proofs.Standing.{both}

@@ -3,11 +3,8 @@ use Rattle.std.proofs.Common.{◌≡◌, ◌∙◌, sym, ap, refl, ℕ, suc, Lis
 use Rattle.std.proofs.lemmas.Bool.{and_from}
 use Rattle.std.proofs.lemmas.List.{map-append}
 use Rattle.std.proofs.lemmas.Slice.Eq.{bytes_eq-Decides}
-use Rattle.ink_model.specs.Run.Configuration.{FlowOf}
+use Rattle.ink_restore.proofs.Common.{FlowOf, Rows, at, once, aside_but, Part}
 use Rattle.ink_model.specs.Run.Flows.{begins_with_default, holes}
-use Rattle.ink_model.specs.Variables.Named.{Rows, at, once}
-use Rattle.ink_model.specs.Save.Unspelled.{aside_but}
-use Rattle.ink_model.specs.declared.place.Part.{Part}
 use Rattle.ink_restore.specs.Gathered.{first_is_default}
 use Rattle.ink_restore.proofs.Standing.{both}
 

@@ -1,12 +1,9 @@
 -- Where targets lead.
 use Rattle.std.proofs.Common.{◌≡◌, ◌∙◌, sym, ap, refl, Bool, false, List, [], Option, Some, None, is_some, option_map, IsTrue, if◌then◌else◌}
 use Rattle.ink_model.specs.Story.Path.{path_text, read_path, target, walked}
-use Rattle.ink_model.specs.Story.Tree.{StoryTree}
-use Rattle.ink_model.specs.declared.place.Part.{Part}
+use Rattle.ink_restore.proofs.Common.{StoryTree, Part, place_of, Spot}
 use Rattle.ink_model.specs.declared.place.Path.{Path}
 use Rattle.ink_model.specs.Save.Sound.{PathFits}
-use Rattle.ink_tree.specs.Nodes.{place_of}
-use Rattle.ink_tree.specs.declared.spot.Spot.{Spot}
 
 some_mapped : {A B : Type 0} (f : A → B) (o : Option A) → is_some (option_map f o) ≡ is_some o
 some_mapped f None = refl

@@ -1,3 +1,4 @@
+pub mod Common
 pub mod Making
 pub mod ChoiceParts
 pub mod Standing

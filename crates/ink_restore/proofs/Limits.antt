@@ -1,20 +1,12 @@
 -- Lists within their limits, and globals.
 use Rattle.std.proofs.Common.{◌≡◌, ◌∙◌, sym, ap, refl, subst, ℕ, ◌+◌, ◌<◌, ◌≤◌, length, List, [], ◌∷◌, ◌++◌, drop, get_or, map, Bool, true, false, not, bytes_eq, nat_le, if◌then◌else◌, Option, Some, None, is_some, option_map}
-use Rattle.std.proofs.lemmas.List.{append_assoc, append-nil, drop_all, drop_more, length-map}
+use Rattle.ink_restore.proofs.Common.{append_assoc, append-nil, drop_all, drop_more, length-map, AllByRecursion, ChoiceOf, map_choice, StoryTree, Part, Value, Builds, place_of, Spot}
 use Rattle.std.proofs.lemmas.Slice.Eq.{bytes_eq-Decides}
-use Rattle.std.specs.List.{AllByRecursion}
-use Rattle.ink_model.specs.Run.Configuration.{ChoiceOf, map_choice}
 use Rattle.ink_model.specs.Variables.Store.{Values, store, stored}
-use Rattle.ink_model.specs.Story.Tree.{StoryTree}
 use Rattle.ink_model.specs.declared.limits.TheConstants.{MAX_CHOICES, MAX_STACK}
-use Rattle.ink_model.specs.declared.place.Part.{Part}
-use Rattle.ink_model.specs.declared.value.Value.{Value}
 use Rattle.ink_choice.specs.Choices.{ChoicesView}
-use Rattle.ink_restore.specs.Building.{Builds}
 use Rattle.ink_restore.proofs.Standing.{both, is_within, same_list, within}
 use Rattle.ink_model.specs.Save.Sound.{ChoiceFits, ChoicesFit, GlobalsFit, RowFits, StackFits, ValueFits, names_once}
-use Rattle.ink_tree.specs.Nodes.{place_of}
-use Rattle.ink_tree.specs.declared.spot.Spot.{Spot}
 use Rattle.ink_value.specs.Stack.{Stack}
 use Rattle.ink_vars.specs.Globals.{DifferInName}
 

@@ -1,8 +1,6 @@
 -- A list of what is made, element by element.
 use Rattle.std.proofs.Common.{◌≡◌, ◌∙◌, ◌⊎◌, inl, sym, ap, ℕ, ◌+◌, ◌<◌, ◌≤◌, length, List, [], ◌∷◌, ◌++◌, drop, get_or, map, subst, Option, Some, None}
-use Rattle.std.proofs.lemmas.List.{append-nil, drop_all, drop_more}
-use Rattle.std.specs.List.{AllByRecursion}
-use Rattle.ink_restore.specs.Building.{Builds, FirstAsks}
+use Rattle.ink_restore.proofs.Common.{append-nil, drop_all, drop_more, AllByRecursion, Builds, FirstAsks}
 
 -- nothing is made of what does not fit
 pub never : {A B : Type 0} → (in_story : A → B) (fits : B → Type 0) (b c : B) (o : Option A) → b ≡ c → o ≡ None → Builds in_story fits b o → fits c → ⊥

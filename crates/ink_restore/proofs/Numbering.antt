@@ -2,7 +2,7 @@
 use Rattle.std.proofs.Common.{◌≡◌, ◌∙◌, ◌⊎◌, inl, inr, sym, ap, refl, subst, ℕ, suc, ◌+◌, ◌<◌, ◌≤◌, length, List, [], ◌∷◌, ◌++◌, drop, get_or, reverse, Bool, true, ◌||◌, if◌then◌else◌, Option, Some, None, is_some, option_map, is_lt, arith}
 use Rattle.std.proofs.lemmas.List.{append_assoc, append-nil, drop_all, drop_more, map-append}
 use Rattle.std.specs.Cmp.{nat_cmp_is, ranked}
-use Rattle.std.specs.List.{AllByRecursion}
+use Rattle.ink_restore.proofs.Common.{AllByRecursion, MAX_COUNT, Part, Spot}
 use Rattle.std.specs.Ordering.{nat_cmp}
 use Rattle.std.specs.declared.cmp.Ordering.{Ordering}
 use Rattle.std.specs.declared.cmp.Ordering.TheVariants.{Less, Equal, Greater}
@@ -11,12 +11,9 @@ use Rattle.ink_model.specs.Variables.Rows.{is_before, place_order, rows_rise}
 use Rattle.ink_model.specs.Save.Sound.{RowCounts, RowsCount}
 use Rattle.ink_model.specs.Story.Path.{ends_at, is_place}
 use Rattle.ink_model.specs.Story.Tree.{StoryTree, at}
-use Rattle.ink_model.specs.declared.limits.TheConstants.{MAX_COUNT}
-use Rattle.ink_model.specs.declared.place.Part.{Part}
 use Rattle.ink_restore.specs.Counted.{AreBelow, place_at, row_at, rows_at}
 use Rattle.ink_restore.proofs.Standing.{both}
 use Rattle.ink_tree.specs.Nodes.{NumbersInOrder, place_of}
-use Rattle.ink_tree.specs.declared.spot.Spot.{Spot}
 use Rattle.ink_vars.specs.Slots.{AreCounts, rows_from}
 
 -- ---- what stands at a place

@@ -3,20 +3,16 @@ use Rattle.std.proofs.Common.{◌≡◌, ◌∙◌, sym, ap, refl, subst, ℕ, �
 use Rattle.std.proofs.lemmas.Bool.{and_from}
 use Rattle.std.proofs.lemmas.Bool.Decides.{nat_tests}
 use Rattle.std.proofs.lemmas.List.{length-reverse, length-append, length-map, reverse-append, reverse-reverse}
-use Rattle.std.specs.List.{AllByRecursion, list_all}
+use Rattle.ink_restore.proofs.Common.{AllByRecursion, list_all, StoryTree, Part, place_of, Spot}
 use Rattle.ink_model.specs.Flow.Frames.{FrameOf, ThreadOf, map_frame, map_thread}
 use Rattle.ink_model.specs.Variables.Store.{Values}
-use Rattle.ink_model.specs.Story.Tree.{StoryTree}
 use Rattle.ink_model.specs.declared.frame.FrameKind.{FrameKind}
 use Rattle.ink_model.specs.declared.limits.TheConstants.{MAX_FRAMES}
-use Rattle.ink_model.specs.declared.place.Part.{Part}
 use Rattle.ink_restore.specs.Building.{Builds, FrameBuilds, ThreadBuilds}
 use Rattle.ink_model.specs.Save.Sound.{AnyPlace, FrameStands, SomePlace}
 use Rattle.ink_stack.proofs.Reversing.{map-reverse}
 use Rattle.ink_stack.proofs.BaseTests.{base_is, based, based_from, based_to}
 use Rattle.ink_stack.specs.Saving.{base_first, is_call, thread_from, thread_with}
-use Rattle.ink_tree.specs.Nodes.{place_of}
-use Rattle.ink_tree.specs.declared.spot.Spot.{Spot}
 
 pub same_list : {A : Type 0} → (xs : List A) → map (λ x. x) xs ≡ xs
 same_list [] = refl

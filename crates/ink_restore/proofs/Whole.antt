@@ -1,20 +1,15 @@
 -- What is restored, whole.
 use Rattle.std.proofs.Common.{◌≡◌, ◌∙◌, sym, ap, refl, subst, ℕ, length, List, [], ◌∷◌, ◌≤◌, Bool, true, false, true≢false, ◌&&◌, bytes_eq, nat_le, if◌then◌else◌, Option, Some, None, is_none, option_map, IfSome, arith}
-use Rattle.std.proofs.lemmas.List.{length-map}
-use Rattle.std.specs.List.{AllByRecursion}
+use Rattle.ink_restore.proofs.Common.{length-map, AllByRecursion, Rows, at, once, StoryTree, Part, Builds}
 use Rattle.ink_flows.specs.Standing.{aside_of, flow_of}
 use Rattle.ink_flows.specs.declared.flow.Flow.{Flow}
 use Rattle.ink_model.specs.Run.Configuration.{Configuration, FlowOf, settled, unnumbered_flow}
 use Rattle.ink_model.specs.Run.Flows.{Aside, AsideOf, Game, alone, holes, one_flow}
-use Rattle.ink_model.specs.Variables.Named.{Rows, at, once}
 use Rattle.ink_model.specs.Text.Output.{empty_page}
 use Rattle.ink_model.specs.Save.Reads.{Rests, Stands}
 use Rattle.ink_model.specs.Save.Sound.{AsideFits, FlowSound, FlowStandsAside, NamedFits, PageFits, SharedSound}
 use Rattle.ink_model.specs.Save.Unspelled.{Spelled, aside_but, game_spelled, game_with}
-use Rattle.ink_model.specs.Story.Tree.{StoryTree}
 use Rattle.ink_model.specs.declared.limits.TheConstants.{MAX_FLOWS}
-use Rattle.ink_model.specs.declared.place.Part.{Part}
-use Rattle.ink_restore.specs.Building.{Builds}
 use Rattle.ink_restore.specs.Gathered.{AllStand, CurrentSound, FlowsFit, NamedSound, first_is_default, flows_as, parts_of, with_rows}
 use Rattle.ink_restore.specs.Parts.{Restores, restored_as, shared_as}
 use Rattle.ink_restore.specs.declared.restoring.AllFlows.{AllFlows}

@@ -2,7 +2,7 @@
 use Rattle.std.proofs.Common.{◌≡◌, ap, refl, true, ℕ, List, [], ◌∷◌, inl, inr, Bool, false, Option, Some, None, is_some, Result, Ok, Err, MatchBool}
 use Rattle.ink_model.specs.Protocol.Answer.{Reply, Refuses}
 use Rattle.ink_model.specs.Protocol.Changed.{OnlyRefuses}
-use Rattle.ink_model.specs.Choices.Choosing.{chosen, jump_place, jumped, open_choice}
+use Rattle.ink_sound.proofs.Common.{chosen, jump_place, jumped, open_choice, Values, store, stored, StoryTree, Fault, Given, Data}
 use Rattle.ink_model.specs.Protocol.Command as command
 use Rattle.ink_model.specs.Protocol.Command.{Command}
 use Rattle.ink_model.specs.Run.Configuration.{Configuration, can_go_on, settled, with_globals}
@@ -14,18 +14,13 @@ use Rattle.ink_model.specs.Run.Opening.{Unopened, opening}
 use Rattle.ink_model.specs.Run.Moments.{Made, RunEnd, Kept, Broke, EndsThrough}
 use Rattle.ink_model.specs.Protocol.Session.{BeginsAnew, BreaksBy, ContinueFrom, Does, EndsAs, FailsToRestart, GetsFrom, Load, RestartsAs, RunsFrom, RunsLine, RunsThrough, RunsTo, SavesFrom, SetsFrom, SetsIn, TellsDone, TellsOrKeeps, ThroughFrom, VisitsBy, VisitsFrom, settable}
 use Rattle.ink_model.specs.Protocol.State.{State, Condition, Ready, Broken}
-use Rattle.ink_model.specs.Variables.Store.{Values, store, stored}
 use Rattle.ink_model.specs.Host.Told.{told}
-use Rattle.ink_model.specs.Story.Tree.{StoryTree}
 use Rattle.ink_model.specs.Protocol.Turns.{ChoosesBy, ChoosesFrom, JumpsBy, JumpsFrom, LandsFor}
 use Rattle.ink_model.specs.Run.Visits.{visits_by}
-use Rattle.ink_model.specs.declared.fault.Fault.{Fault}
 use Rattle.ink_model.specs.declared.fault.Fault.TheVariants.{OutOfMemory}
 use Rattle.ink_model.specs.declared.fault.Refusal.TheVariants as refusal
 use Rattle.ink_model.specs.declared.host.Change.{Change}
 use Rattle.ink_model.specs.declared.host.Event.{Event}
-use Rattle.ink_model.specs.declared.host.Given.{Given}
-use Rattle.serde_json.specs.Data.{Data}
 use Rattle.ink_sound.specs.Beside.{keeps_flows, shows_no_flows}
 
 module _ (s : StoryTree) (h : Bindings) (others : Aside) where

@@ -1,19 +1,13 @@
 -- Visits and turns: only of containers with the flag, and at their least or above.
 use Rattle.std.proofs.Common.{◌≡◌, arith, ℕ, ◌≤◌, lit≤, List, [], ◌∷◌, Bool, true, nat_lt, Option, Some, None, unwrap_or}
-use Rattle.std.proofs.lemmas.Bool.{cond_both}
-use Rattle.std.proofs.lemmas.Bool.Decides.{nat_tests}
+use Rattle.ink_sound.proofs.Common.{cond_both, nat_tests, flags_at, counts_visits, notes_turns, StoryTree, at, MAX_COUNT, Part, Finds}
 use Rattle.std.specs.List.{AllByRecursion as Each}
 use Rattle.ink_model.specs.Variables.Counts.{CountsOf, one_more, visited, visits_at}
-use Rattle.ink_model.specs.Run.Entered.{flags_at}
-use Rattle.ink_model.specs.Story.Flags.{counts_visits, notes_turns}
 use Rattle.ink_model.specs.Variables.Rows.{place_order, row, with_row}
-use Rattle.ink_model.specs.Story.Tree.{StoryTree, at}
 use Rattle.ink_model.specs.Run.Visits.{all_visited}
-use Rattle.ink_model.specs.declared.limits.TheConstants.{MAX_COUNT}
-use Rattle.ink_model.specs.declared.place.Part.{Part}
-use Rattle.ink_sound.specs.Kept.{Finds}
 use Rattle.ink_model.specs.Save.Sound.{CountsFit, RowCounts, RowsCount}
-use Rattle.ink_sound.proofs.Rows.{each_put, place_total, rise_put, row_finds}
+use Rattle.ink_model.proofs.Orders.{place_total}
+use Rattle.ink_sound.proofs.Rows.{each_put, rise_put, row_finds}
 use Rattle.ink_sound.proofs.Values.{each_of}
 
 module _ (s : StoryTree) where

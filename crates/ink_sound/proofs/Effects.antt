@@ -1,14 +1,11 @@
 -- The effect of any content fits, but for that of an external function's call, which is made apart.
 use Rattle.std.proofs.Common.{arith, pos, length, ◌≡◌, ap, List, Option, Some, None, is_some}
-use Rattle.ink_model.specs.Run.Effect.{Context, Fields}
+use Rattle.ink_sound.proofs.Common.{Context, Fields, Leaf, Function, Tunnel, Part}
 use Rattle.ink_model.specs.Run.Step.{control_effect, effect, leaf_effect}
 use Rattle.ink_model.specs.Story.Tree.{StoryTree, leaf, container, at}
 use Rattle.ink_model.specs.declared.content.Control.{Control}
 use Rattle.ink_model.specs.declared.content.Control.TheVariants as control
-use Rattle.ink_model.specs.declared.content.Leaf.{Leaf}
 use Rattle.ink_model.specs.declared.content.Leaf.TheVariants as leaves
-use Rattle.ink_model.specs.declared.frame.FrameKind.TheVariants.{Function, Tunnel}
-use Rattle.ink_model.specs.declared.place.Part.{Part}
 use Rattle.ink_model.specs.declared.scope.Scope.TheVariants.{Global, Temporary}
 use Rattle.ink_model.specs.declared.value.Value.TheVariants as value
 use Rattle.ink_sound.specs.Kept.{ContextFits, EffectFits, FieldsFit, LeafFits, StoryFits}

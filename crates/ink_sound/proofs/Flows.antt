@@ -1,19 +1,12 @@
 -- Where flow goes among frames and threads, all places stay places of the story, and no limit is passed.
 use Rattle.std.proofs.Common.{◌≡◌, ◌≢◌, refl, subst, arith, ℕ, ◌+◌, ◌≤◌, lit≤, List, [], ◌∷◌, length, nat_eq, nat_lt, Option, Some, None, option_and_then, Result, Ok, Err, inl, inr}
-use Rattle.std.proofs.lemmas.Bool.{cases_Bool, cond_both}
-use Rattle.std.proofs.lemmas.Bool.Decides.{nat_tests}
+use Rattle.ink_sound.proofs.Common.{cases_Bool, cond_both, nat_tests, next_place, StoryTree, Fault, FrameKind, Base, Function, Part}
 use Rattle.std.specs.List.{AllByRecursion as Each}
 use Rattle.ink_model.specs.Flow.Transfers.{Written, Reached, Reaches, Breaks, Ending, Continues, Finishes, Collapses, called, depth_of, done, done_by, doubled_in, enter_for, forked, frames_on, halt, leave_for, moved_on, number_for, on_ending, or_breaks, or_end, reach, reach_or_on, returned, thread_of, threads_on, void_for}
 use Rattle.ink_model.specs.Flow.Frames.{FrameOf, ThreadOf, ThreadsOf, base_threads, gone, is_function, place_in, put_in}
 use Rattle.ink_model.specs.Text.Output.{is_line}
-use Rattle.ink_model.specs.Run.Place.{next_place}
 use Rattle.ink_model.specs.Flow.Threads.{back_to, dropped_to, frame_count, frame_popped, frame_pushed, same_kind, thread_count}
-use Rattle.ink_model.specs.Story.Tree.{StoryTree}
-use Rattle.ink_model.specs.declared.fault.Fault.{Fault}
-use Rattle.ink_model.specs.declared.frame.FrameKind.{FrameKind}
-use Rattle.ink_model.specs.declared.frame.FrameKind.TheVariants.{Base, Function}
 use Rattle.ink_model.specs.declared.limits.TheConstants.{MAX_FRAMES, MAX_SECTIONS, MAX_THREADS}
-use Rattle.ink_model.specs.declared.place.Part.{Part}
 use Rattle.ink_sound.specs.Kept.{EndingFits, Finds, Gives, ReachedFits, WrittenFits}
 use Rattle.ink_model.specs.Save.Sound.{AnyPlace, FlowStands, PlaceFits, SomePlace, ThreadFits, ThreadStands, ThreadsFit}
 use Rattle.ink_sound.proofs.Texts.{enter_fits, leave_fits, void_fits}

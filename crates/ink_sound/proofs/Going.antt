@@ -1,18 +1,13 @@
 -- Going to a flow and taking one away keep what is asked of flows.
 use Rattle.std.proofs.Common.{◌≡◌, ◌∙◌, ap, sym, refl, ℕ, ◌≤◌, List, [], ◌∷◌, length, Bool, true, false, true≢false, ◌||◌, cond, bytes_eq, nat_lt, Some, None, is_some, unwrap_or, option_and_then, arith, lit≤}
-use Rattle.std.proofs.lemmas.Bool.{cond_both}
-use Rattle.std.proofs.lemmas.Bool.Decides.{nat_tests}
+use Rattle.ink_sound.proofs.Common.{cond_both, nat_tests, empty_page, Rests, Stands, StoryTree, Part}
 use Rattle.std.specs.List.{AllByRecursion as Each}
 use Rattle.ink_model.specs.Run.Configuration.{Configuration, FlowOf, settled, unnumbered_flow}
 use Rattle.ink_model.specs.Run.Flows.{Aside, FlowsOf, Game, current_name, default_flow, dropped, filled, first_flow, flow_named, flows_in, goes_to, has_room, is_flow_name, one_flow, with_flows}
 use Rattle.ink_model.specs.Variables.Named.{at, put, without}
-use Rattle.ink_model.specs.Text.Output.{empty_page}
 use Rattle.ink_model.specs.Run.Place.{start_place}
-use Rattle.ink_model.specs.Save.Reads.{Rests, Stands}
 use Rattle.ink_model.specs.Save.Sound.{AsideFits, FlowSound, NamedFits}
-use Rattle.ink_model.specs.Story.Tree.{StoryTree}
 use Rattle.ink_model.specs.declared.limits.TheConstants.{MAX_FLOWS}
-use Rattle.ink_model.specs.declared.place.Part.{Part}
 use Rattle.ink_sound.proofs.Aside.{default_there, filled_at, filled_first, filled_holes, filled_length, filled_once, going_current, put_first, put_holes, without_first, without_holes}
 use Rattle.ink_sound.proofs.Between.{fresh_flow_sound, page_rests}
 use Rattle.ink_sound.proofs.Named.{each_put, each_without, length_put, length_put_most, length_without, once_put, once_without}

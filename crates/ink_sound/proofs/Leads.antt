@@ -1,24 +1,17 @@
 -- The effects of diverts, calls and returns; what calls of external functions come to, and what a host answers.
 use Rattle.std.proofs.Common.{◌≢◌, arith, List, Bool, true, false, if◌then◌else◌, Option, Some, None, option_map, Ok, Err, ◌≡◌, ℕ, zero, suc, ◌-◌, nat_le, [], ◌∷◌, length, take, Result}
-use Rattle.std.proofs.lemmas.Bool.{cond_both}
+use Rattle.ink_sound.proofs.Common.{cond_both, lands, Values, StoryTree, FrameKind, Base, Tunnel, Function, Part, Value, Fault, Given}
 use Rattle.std.specs.Option.{ok_or}
-use Rattle.ink_model.specs.Story.Acceptance.{lands}
 use Rattle.ink_model.specs.Run.Effect.{Context, Effect, Fields, Landing, Moves, Lands, Calls, Returns}
 use Rattle.ink_model.specs.Run.Move.{place_to}
 use Rattle.ink_model.specs.Run.Step.Calls.{call, call_to, return_landing, return_function, return_tunnel}
 use Rattle.ink_model.specs.Run.Step.Diverts.{condition, divert, divert_to, landing_by, leaving_fields, led_by, led_to, truth_on, where_true}
 use Rattle.ink_model.specs.Values.Stack.{popped}
-use Rattle.ink_model.specs.Variables.Store.{Values}
-use Rattle.ink_model.specs.Story.Tree.{StoryTree}
 use Rattle.ink_model.specs.Values.Value.{is_true}
 use Rattle.ink_model.specs.Variables.Access.{read}
 use Rattle.ink_model.specs.declared.content.Destination.{Destination}
 use Rattle.ink_model.specs.declared.content.Destination.TheVariants as destination
 use Rattle.ink_model.specs.declared.fault.Fault.TheVariants.{BadTarget, Unbound}
-use Rattle.ink_model.specs.declared.frame.FrameKind.{FrameKind}
-use Rattle.ink_model.specs.declared.frame.FrameKind.TheVariants.{Base, Tunnel, Function}
-use Rattle.ink_model.specs.declared.place.Part.{Part}
-use Rattle.ink_model.specs.declared.value.Value.{Value}
 use Rattle.ink_model.specs.declared.value.Value.TheVariants as value
 use Rattle.ink_sound.specs.Kept.{EffectFits, FieldsFit, Finds, Gives, CallFits}
 use Rattle.ink_model.specs.Save.Sound.{AnyPlace, PlaceFits, StackFits, ValueFits}
@@ -29,8 +22,6 @@ use Rattle.std.specs.List.{AllByRecursion as Each, list_all}
 use Rattle.ink_model.specs.Host.Bindings.{Binding, Bound, turn_function, pure_function, fits_given, value_given}
 use Rattle.ink_model.specs.Run.Place.{knot}
 use Rattle.ink_model.specs.Run.Step.Host.{CallEffect, answering, arguments_of, arguments_on, arguments_taken, call_bound, call_external, has_string, is_argument, or_fails}
-use Rattle.ink_model.specs.declared.fault.Fault.{Fault}
-use Rattle.ink_model.specs.declared.host.Given.{Given}
 use Rattle.ink_model.specs.declared.host.Given.TheVariants as given
 
 module _ (s : StoryTree) where

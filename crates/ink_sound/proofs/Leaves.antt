@@ -1,7 +1,6 @@
 -- Each text that a story spells is within its limit, and each number has 32 bits.
 use Rattle.std.proofs.Common.{◌≡◌, sym, refl, arith, ℕ, zero, suc, ◌^◌, ℤ, pos, negsuc, List, [], ◌∷◌, ◌++◌, length, Bool, true, false, true≢false, ◌==◌, bytes_eq, codes, nat_lt, if◌then◌else◌, Option, Some, None, unwrap_or, Result, Ok, Err, IsTrue}
-use Rattle.std.proofs.lemmas.Bool.{cond_both}
-use Rattle.std.proofs.lemmas.Bool.Decides.{nat_tests}
+use Rattle.ink_sound.proofs.Common.{cond_both, nat_tests, Leaf}
 use Rattle.std.specs.List.{AllByRecursion as Each, list_all}
 use Rattle.std.specs.Option.{ok_or}
 use Rattle.serde_json.specs.Data.{Data, number, string, object}
@@ -9,7 +8,6 @@ use Rattle.serde_json.specs.Find.{as_integer, as_str, get}
 use Rattle.ink_model.specs.Story.Leaves.{by_head, choice_leaf, external_leaf, frame_option, integer_leaf, is_beyond, is_small, jump_leaf, jump_readings, leading_to, leaf_of, object_leaf, plain_leaf, pointer_frame, pointer_leaf, pointer_to, read_choice, read_external, read_jump, read_plain, read_pointer, read_store, read_tag, sole, store_leaf, store_readings, string_leaf, switch, tag_leaf, under_head, value_readings, whole_or}
 use Rattle.ink_model.specs.Story.Word.{arithmetic_words, comparison_words, count_words, evaluation_words, flow_words, frame_words, logic_words, meant, number_words, operator_word, section_words, word}
 use Rattle.ink_model.specs.declared.content.Destination.{Destination}
-use Rattle.ink_model.specs.declared.content.Leaf.{Leaf}
 use Rattle.ink_model.specs.declared.content.Leaf.TheVariants as leaves
 use Rattle.ink_model.specs.declared.fault.Cause.{Cause}
 use Rattle.ink_model.specs.declared.fault.Cause.TheVariants.{Limit, Unsupported}

@@ -1,3 +1,4 @@
+pub mod Common
 pub mod Values
 pub mod Ints
 pub mod Operators

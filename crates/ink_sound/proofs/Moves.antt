@@ -1,20 +1,15 @@
 -- What an effect that fits makes of a sound configuration is sound.
 use Rattle.std.proofs.Common.{ap, refl, arith, ℕ, suc, lit≤, List, [], ◌∷◌, Bool, true, false, ◌||◌, nat_eq, Option, Some, None}
-use Rattle.std.proofs.lemmas.Bool.{cond_both}
+use Rattle.ink_sound.proofs.Common.{cond_both, BaseFirst, next_place, StoryTree, FrameKind, Part}
 use Rattle.std.specs.List.{AllByRecursion as Each}
-use Rattle.ink_model.specs.Flow.Bases.{BaseFirst}
 use Rattle.ink_model.specs.Run.Configuration.{ChoiceOf, Configuration, ended, with_choices, with_safe}
 use Rattle.ink_model.specs.Run.Effect.{Effect, Fields, Moves, Stores, Offers, Lands, Calls, Returns, Forks, Done, Ends, Fails, context_of, fields_of, with_fields, with_mode, with_staleness, with_thread}
 use Rattle.ink_model.specs.Flow.Transfers.{Written, Reached, Reaches, Halts, Breaks, is_last, moved_on}
 use Rattle.ink_model.specs.Flow.Frames.{FrameOf, ThreadOf, ThreadsOf, base_threads, is_function, place_in}
 use Rattle.ink_model.specs.Run.Move.{end_all, landed_in, may_enter, move, place_to, reached_in, with_flow, written_in}
 use Rattle.ink_model.specs.Text.Output.{is_line}
-use Rattle.ink_model.specs.Run.Place.{next_place}
 use Rattle.ink_model.specs.Flow.Threads.{stale, stale_run, staled}
-use Rattle.ink_model.specs.Story.Tree.{StoryTree}
 use Rattle.ink_model.specs.Run.Visits.{around, entering}
-use Rattle.ink_model.specs.declared.frame.FrameKind.{FrameKind}
-use Rattle.ink_model.specs.declared.place.Part.{Part}
 use Rattle.ink_sound.specs.Kept.{ContextFits, EffectFits, FieldsFit, OutcomeFits, ReachedFits, Runs, WrittenFits}
 use Rattle.ink_model.specs.Save.Sound.{ChoicesFit, FrameFits, FrameStands, SomePlace, Sound, ThreadStands, ThreadsFit}
 use Rattle.ink_sound.proofs.Counts.{all_visited_fits}

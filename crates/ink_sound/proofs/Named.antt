@@ -1,7 +1,6 @@
 -- Rows by name, changed.
 use Rattle.std.proofs.Common.{◌≡◌, ◌∙◌, ap, sym, refl, ℕ, suc, ◌≤◌, List, [], ◌∷◌, length, true, false, true≢false, cond, bytes_eq, Some, None, is_none, is_some, inl, inr, arith}
-use Rattle.std.proofs.lemmas.Bool.{cases_Bool, cond_both}
-use Rattle.std.proofs.lemmas.Slice.Eq.{bytes_eq-Decides}
+use Rattle.ink_sound.proofs.Common.{cases_Bool, cond_both, bytes_eq-Decides}
 use Rattle.std.specs.List.{AllByRecursion as Each}
 use Rattle.ink_model.specs.Variables.Named.{Rows, at, each, once, put, without}
 use Rattle.ink_sound.proofs.Rows.{both, one, turned, two}

@@ -1,15 +1,10 @@
 -- The indexes in places of a story that fits have 32 bits.
 use Rattle.std.proofs.Common.{◌≡◌, ◌∙◌, ap, sym, refl, subst, arith, ℕ, zero, suc, ◌<◌, ◌^◌, List, [], ◌∷◌, ◌++◌, reverse, true, true≢false, nat_eq, Option, Some, None, is_some, option_and_then, inl, inr}
-use Rattle.std.proofs.lemmas.Bool.{cases_Bool}
-use Rattle.std.proofs.lemmas.Bool.Decides.{nat_tests}
+use Rattle.ink_sound.proofs.Common.{cases_Bool, nat_tests, Part, Index, Name, StoryFits, PlaceFits}
 use Rattle.std.proofs.lemmas.List.{append_assoc, reverse-append, reverse-reverse}
 use Rattle.std.specs.List.{AllByRecursion as Each}
 use Rattle.ink_model.specs.Story.Path.{ends_at, is_container, is_place}
 use Rattle.ink_model.specs.Story.Tree.{StoryTree, leaf, container, Trees, no_trees, tree, at, count, nth, width}
-use Rattle.ink_model.specs.declared.place.Part.{Part}
-use Rattle.ink_model.specs.declared.place.Part.TheVariants.{Index, Name}
-use Rattle.ink_sound.specs.Kept.{StoryFits}
-use Rattle.ink_model.specs.Save.Sound.{PlaceFits}
 use Rattle.ink_sound.proofs.Places.{Stands, at_append, stands_before}
 use Rattle.ink_sound.proofs.Rows.{one, two}
 use Rattle.ink_sound.proofs.Values.{each_one}

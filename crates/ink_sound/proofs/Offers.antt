@@ -1,26 +1,16 @@
 -- The effect of a choice point.
 use Rattle.std.proofs.Common.{◌≡◌, sym, refl, subst, arith, ℕ, ◌≤◌, List, [], ◌∷◌, length, length-append, reverse, Bool, true, false, nat_lt, Option, Some, None, Result, Ok, Err, IsTrue}
-use Rattle.std.proofs.lemmas.Bool.{cond_both}
-use Rattle.std.proofs.lemmas.Bool.Decides.{nat_tests}
+use Rattle.ink_sound.proofs.Common.{cond_both, nat_tests, lands, fits_text, ChoiceOf, ThreadOf, StoryTree, Fault, Part, Value, ContextFits, EffectFits, FieldsFit, Finds, Gives}
 use Rattle.std.proofs.lemmas.List.{length-reverse, reverse-append}
 use Rattle.std.specs.List.{AllByRecursion as Each}
-use Rattle.ink_model.specs.Story.Acceptance.{lands}
-use Rattle.ink_model.specs.Text.Bytes.{fits_text}
 use Rattle.ink_model.specs.Choices.Making.{Operands, Words, added, after_tags, choice_of, choice_text, is_offered, make, operands, pop_any_words, pop_condition, pop_words, tags_first, then_pop}
-use Rattle.ink_model.specs.Run.Configuration.{ChoiceOf}
 use Rattle.ink_model.specs.Run.Effect.{Context, Fields, Offers}
 use Rattle.ink_model.specs.Story.Flags.{has_choice_only_text, has_start_text, is_conditional}
-use Rattle.ink_model.specs.Flow.Frames.{ThreadOf}
 use Rattle.ink_model.specs.Run.Step.Choices.{offer, offering, was_visited}
-use Rattle.ink_model.specs.Story.Tree.{StoryTree}
 use Rattle.ink_model.specs.Values.Value.{is_true}
-use Rattle.ink_model.specs.declared.fault.Fault.{Fault}
 use Rattle.ink_model.specs.declared.fault.Fault.TheVariants.{BadTarget}
 use Rattle.ink_model.specs.declared.limits.TheConstants.{MAX_CHOICES, MAX_STACK}
-use Rattle.ink_model.specs.declared.place.Part.{Part}
-use Rattle.ink_model.specs.declared.value.Value.{Value}
 use Rattle.ink_model.specs.declared.value.Value.TheVariants.{Tag, Text}
-use Rattle.ink_sound.specs.Kept.{ContextFits, EffectFits, FieldsFit, Finds, Gives}
 use Rattle.ink_model.specs.Save.Sound.{ChoiceFits, ChoicesFit, PlaceFits, StackFits, ThreadStands, ValueFits}
 use Rattle.ink_sound.proofs.Places.{Stands, lands_fits}
 use Rattle.ink_sound.proofs.Values.{each_append, each_one, or_else_fits, or_fault_fits}

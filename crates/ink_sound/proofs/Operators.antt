@@ -1,22 +1,14 @@
 -- What operators make of values fits, whatever the values are.
 use Rattle.std.proofs.Common.{◌≡◌, refl, arith, ℕ, zero, suc, ◌+◌, ◌≤◌, lit≤, ℤ, List, [], ◌∷◌, ◌++◌, length, length-append, Bool, true, false, Option, Some, None, option_and_then, Result, Ok, Err, IsTrue}
-use Rattle.std.proofs.lemmas.Bool.{cond_both}
+use Rattle.ink_sound.proofs.Common.{cond_both, fits_text, is_small, StoryTree, Fault, Path, Value, EffectFits, FieldsFit, Finds, Gives, StackFits, ValueFits}
 use Rattle.std.specs.List.{AllByRecursion as Each}
-use Rattle.ink_model.specs.Text.Bytes.{fits_text}
 use Rattle.ink_model.specs.Run.Effect.{Fields, Moves}
-use Rattle.ink_model.specs.Story.Leaves.{is_small}
 use Rattle.ink_model.specs.Values.Operator.{Operand, number, words, target, Operands, numbers, texts, targets, unlike, apply, both, operand, can_divide, of_numbers, of_one, of_targets, of_texts, of_two, takes, truth_number}
 use Rattle.ink_model.specs.Values.Stack.{applied, applied_to, on_top, popped, taken}
 use Rattle.ink_model.specs.Run.Step.Evaluation.{operate}
-use Rattle.ink_model.specs.Story.Tree.{StoryTree}
-use Rattle.ink_model.specs.declared.fault.Fault.{Fault}
 use Rattle.ink_model.specs.declared.operator.Op.{Op}
 use Rattle.ink_model.specs.declared.operator.Op.TheVariants as op
-use Rattle.ink_model.specs.declared.place.Path.{Path}
-use Rattle.ink_model.specs.declared.value.Value.{Value}
 use Rattle.ink_model.specs.declared.value.Value.TheVariants.{Int, Bool as Truth}
-use Rattle.ink_sound.specs.Kept.{EffectFits, FieldsFit, Finds, Gives}
-use Rattle.ink_model.specs.Save.Sound.{StackFits, ValueFits}
 use Rattle.ink_sound.proofs.Ints.{add_small, div_small, max_small, min_small, mul_small, neg_small, rem_small, sub_small}
 use Rattle.ink_sound.proofs.Values.{TakenFits, each_one, or_fault_fits, popped_fits}
 

@@ -1,33 +1,16 @@
 -- How deep a spelling nests, and that the spelling of a sound game has small integers, and names that rise: so its text is read back.
 use Rattle.std.proofs.Common.{◌≤◌, lit≤, arith, ℕ, List, [], ◌∷◌, map, reverse, Option, Some, None, ◌≡◌, ◌∙◌, ap, sym, refl, ◌<◌, ◌^◌, ℤ, pos, negsuc, ◌++◌, append_assoc, codes, cond, Bool, true, false}
 use Rattle.serde_json.specs.Data.{Data, string, depth, items_depth, members_depth, object}
-use Rattle.ink_model.specs.Run.Configuration.{ChoiceOf, FlowOf}
-use Rattle.ink_model.specs.Host.Events.{items_of}
-use Rattle.ink_model.specs.Run.Flows.{Game, all_flows}
-use Rattle.ink_model.specs.Flow.Frames.{FrameOf, ThreadOf}
-use Rattle.ink_model.specs.Protocol.ValueJson.{value_data}
-use Rattle.ink_model.specs.declared.frame.FrameKind.{FrameKind}
-use Rattle.ink_model.specs.declared.frame.FrameKind.TheVariants.{Base}
-use Rattle.ink_model.specs.declared.place.Part.{Part}
-use Rattle.ink_model.specs.declared.place.Part.TheVariants.{Index, Name}
-use Rattle.ink_model.specs.declared.value.Value.{Value}
+use Rattle.ink_sound.proofs.Common.{ChoiceOf, FlowOf, items_of, Game, all_flows, FrameOf, ThreadOf, value_data, FrameKind, Base, Part, Index, Name, Value, choice_data, frame_data, global_data, kind_data, named_flow_data, part_data, place_data, place_or_null, row_data, spelling, temps_members, thread_data, nat_tests, of_integer, counts_visits, notes_turns, is_small, StoryTree, Stands, StoryFits}
 use Rattle.ink_model.specs.declared.value.Value.TheVariants as value
-use Rattle.ink_model.specs.Save.Spelling.{choice_data, frame_data, global_data, kind_data, named_flow_data, part_data, place_data, place_or_null, row_data, spelling, temps_members, thread_data}
-use Rattle.std.proofs.lemmas.Bool.Decides.{nat_tests}
 use Rattle.std.specs.List.{AllByRecursion as Each}
 use Rattle.std.specs.Str.{is_utf8}
-use Rattle.serde_json.specs.Find.{of_integer}
 use Rattle.serde_json.specs.Written.{compact_text}
 use Rattle.serde_json.proofs.OnLiterals.{serde_json_on_literals}
 use Rattle.ink_model.specs.Protocol.Answer.{Saves, answer}
 use Rattle.ink_model.specs.Protocol.Command.{Load, command_of, command_word, json_of}
-use Rattle.ink_model.specs.Story.Flags.{counts_visits, notes_turns}
-use Rattle.ink_model.specs.Story.Leaves.{is_small}
 use Rattle.ink_model.specs.Variables.Rows.{is_before, name_order, rows_rise}
-use Rattle.ink_model.specs.Story.Tree.{StoryTree}
-use Rattle.ink_model.specs.Save.Reads.{Stands}
 use Rattle.ink_model.specs.Save.Sound.{AnyPlace, ChoiceFits, FlowSound, PlaceFits, RowCounts, RowFits, ValueFits}
-use Rattle.ink_sound.specs.Kept.{StoryFits}
 use Rattle.ink_sound.proofs.Narrow.{PartNarrow, place_narrow}
 use Rattle.ink_sound.proofs.Offers.{each_reverse}
 use Rattle.ink_sound.proofs.Rereading.{AreOrderly, InRange, IsOrderly, HasOrderly, is_first, names_rise, text_back}

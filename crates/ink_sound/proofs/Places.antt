@@ -1,23 +1,13 @@
 -- Places of a story: where flow enters, goes on, lands, and where paths lead.
-use Rattle.std.proofs.Common.{◌≡◌, ◌∙◌, ap, sym, refl, subst, arith, ℕ, zero, suc, ◌+◌, ◌<◌, List, [], ◌∷◌, ◌++◌, reverse, Bool, true, false, ◌&&◌, ◌||◌, nat_lt, nat_le, nat_eq, cond, if◌then◌else◌, Option, Some, None, is_some, option_and_then}
-use Rattle.std.proofs.lemmas.Bool.{cond_both}
-use Rattle.std.proofs.lemmas.Bool.Decides.{nat_tests}
+use Rattle.std.proofs.Common.{◌≡◌, ◌∙◌, ap, sym, refl, subst, arith, ℕ, zero, suc, ◌+◌, ◌<◌, List, [], ◌∷◌, ◌++◌, reverse, Bool, true, false, ◌&&◌, ◌||◌, nat_lt, nat_le, nat_eq, if◌then◌else◌, Option, Some, None, is_some, option_and_then}
+use Rattle.ink_model.proofs.Listed.{listed_within, named_within}
+use Rattle.ink_sound.proofs.Common.{cond_both, nat_tests, option_map, lands, jump_place, landing_by, Part, Index, Name, Path, Value, Finds, PlaceFits}
 use Rattle.std.proofs.lemmas.List.{append-nil, reverse-append, reverse-reverse}
-use Rattle.std.specs.Option.{option_map}
-use Rattle.ink_model.specs.Story.Acceptance.{lands}
-use Rattle.ink_model.specs.Choices.Choosing.{jump_place}
 use Rattle.ink_model.specs.Run.Effect.{Landing}
 use Rattle.ink_model.specs.Story.Path.{above, absolute_target, by_name, ends_at, ends_in_index, is_container, is_place, is_up, landing, listed_index, read_path, stepped, stepped_last, target, walked}
-use Rattle.ink_model.specs.Run.Place.{content_place, first_content, first_content_at, first_content_of, is_named, knot, landed, named_index, next_place, next_upwards, start_place}
-use Rattle.ink_model.specs.Run.Step.Diverts.{landing_by}
+use Rattle.ink_model.specs.Run.Place.{content_place, first_content, first_content_at, first_content_of, knot, landed, named_index, next_place, next_upwards, start_place}
 use Rattle.ink_model.specs.Story.Tree.{StoryTree, leaf, container, Trees, no_trees, tree, Keyed, at, by_key, count, down, nth, width}
-use Rattle.ink_model.specs.declared.place.Part.{Part}
-use Rattle.ink_model.specs.declared.place.Part.TheVariants.{Index, Name}
-use Rattle.ink_model.specs.declared.place.Path.{Path}
-use Rattle.ink_model.specs.declared.value.Value.{Value}
 use Rattle.ink_model.specs.declared.value.Value.TheVariants as value
-use Rattle.ink_sound.specs.Kept.{Finds}
-use Rattle.ink_model.specs.Save.Sound.{PlaceFits}
 use Rattle.ink_sound.proofs.Values.{Any, any_finds, map_finds, on_finds}
 
 -- content stands there
@@ -57,21 +47,6 @@ in_stands i (Some (container name flags content named)) h = nth_stands i content
 
 pub index_stands : (s : StoryTree) (p : List Part) (i : ℕ) → i < width (at s p) → Stands s (p ++ Index i ∷ [])
 index_stands s p i h = ap is_some (at_append p (Index i ∷ []) s) ∙ in_stands i (at s p) h
-
-first_or : (b : Bool) (i n k : ℕ) (rest : Option ℕ) → (rest ≡ Some k → k < suc i + n) → cond b (Some i) rest ≡ Some k → k < i + suc n
-first_or true i n k rest h e = let same : i ≡ k = cc in omega arith
-first_or false i n k rest h e = let below = h e in omega arith
-
-named_within : (name : List ℕ) (i : ℕ) (ts : Trees) (k : ℕ) → named_index name i ts ≡ Some k → k < i + count ts
-named_within name i no_trees k e = absurd cc
-named_within name i (tree (leaf l) ts) k e = omega (arith, named_within name (i + 1) ts k e)
-named_within name i (tree (container own flags content named) ts) k e =
-    first_or (is_named name own) i (count ts) k (named_index name (i + 1) ts) (λ f. omega (arith, named_within name (i + 1) ts k f)) e
-
-listed_within : (name : List ℕ) (o : Option StoryTree) (k : ℕ) → listed_index name o ≡ Some k → k < width o
-listed_within name None k e = absurd cc
-listed_within name (Some (leaf l)) k e = absurd cc
-listed_within name (Some (container own flags content named)) k e = omega (arith, named_within name 0 content k e)
 
 -- ---- places
 

@@ -1,20 +1,9 @@
 -- A spelling has no float.
 use Rattle.std.proofs.Common.{◌≡◌, refl, ℕ, ℤ, pos, negsuc, List, [], ◌∷◌, map, reverse, false, Option, Some, None}
 use Rattle.serde_json.specs.Data.{Data, number, string}
-use Rattle.serde_json.specs.Find.{of_integer}
+use Rattle.ink_sound.proofs.Common.{of_integer, ChoiceOf, FlowOf, items_of, Game, all_flows, FrameOf, ThreadOf, value_data, FrameKind, Base, Part, Index, Name, Value, choice_data, frame_data, global_data, kind_data, named_flow_data, part_data, place_data, place_or_null, row_data, spelling, temps_members, thread_data}
 use Rattle.serde_json.specs.Written.{has_float, items_have_float, members_have_float}
-use Rattle.ink_model.specs.Run.Configuration.{ChoiceOf, FlowOf}
-use Rattle.ink_model.specs.Host.Events.{items_of}
-use Rattle.ink_model.specs.Run.Flows.{Game, all_flows}
-use Rattle.ink_model.specs.Flow.Frames.{FrameOf, ThreadOf}
-use Rattle.ink_model.specs.Protocol.ValueJson.{value_data}
-use Rattle.ink_model.specs.declared.frame.FrameKind.{FrameKind}
-use Rattle.ink_model.specs.declared.frame.FrameKind.TheVariants.{Base}
-use Rattle.ink_model.specs.declared.place.Part.{Part}
-use Rattle.ink_model.specs.declared.place.Part.TheVariants.{Index, Name}
-use Rattle.ink_model.specs.declared.value.Value.{Value}
 use Rattle.ink_model.specs.declared.value.Value.TheVariants as value
-use Rattle.ink_model.specs.Save.Spelling.{choice_data, frame_data, global_data, kind_data, named_flow_data, part_data, place_data, place_or_null, row_data, spelling, temps_members, thread_data}
 
 items_plain : {A : Type 0} (f : A → Data) → ((x : A) → has_float (f x) ≡ false) → (xs : List A) → items_have_float (items_of (map f xs)) ≡ false
 items_plain f h [] = refl

@@ -1,26 +1,17 @@
 -- The effects of questions for counts.
 use Rattle.std.proofs.Common.{refl, ℕ, ◌≤◌, ℤ, pos, negsuc, IsTrue, List, reverse, Option, Some, None, Result, Ok, Err}
-use Rattle.std.proofs.lemmas.Bool.{cond_both}
+use Rattle.ink_sound.proofs.Common.{cond_both, flags_at, counts_visits, notes_turns, is_small, MAX_COUNT, landing_by, StoryTree, at, Fault, Part, ContextFits, EffectFits, FieldsFit, Finds, Gives}
 use Rattle.ink_model.specs.Story.Acceptance.{leads}
 use Rattle.ink_model.specs.Variables.Counts as counts
-use Rattle.ink_model.specs.Run.Entered.{flags_at}
-use Rattle.ink_model.specs.Story.Flags.{counts_visits, notes_turns}
-use Rattle.ink_model.specs.Story.Leaves.{is_small}
 use Rattle.ink_model.specs.Variables.Rows.{place_order, row}
-use Rattle.ink_model.specs.declared.limits.TheConstants.{MAX_COUNT}
 use Rattle.ink_sound.proofs.Counts.{most_of, visits_most}
 use Rattle.ink_sound.proofs.Ints.{count_small, difference_small, less_small}
 use Rattle.ink_sound.proofs.Rows.{row_finds}
 use Rattle.ink_model.specs.Run.Effect.{Context, Fields, pushing}
 use Rattle.ink_model.specs.Story.Path.{above, is_container}
 use Rattle.ink_model.specs.Run.Step.Counts.{asking, push_count, push_read_count, push_turn, push_turns, push_visit, pushing_count, less_one, turns_at, turns_there, visits_at, visits_there}
-use Rattle.ink_model.specs.Run.Step.Diverts.{landing_by}
-use Rattle.ink_model.specs.Story.Tree.{StoryTree, at}
-use Rattle.ink_model.specs.declared.fault.Fault.{Fault}
 use Rattle.ink_model.specs.declared.fault.Fault.TheVariants.{BadTarget, NotCounted}
-use Rattle.ink_model.specs.declared.place.Part.{Part}
 use Rattle.ink_model.specs.declared.value.Value.TheVariants as value
-use Rattle.ink_sound.specs.Kept.{ContextFits, EffectFits, FieldsFit, Finds, Gives}
 use Rattle.ink_sound.proofs.Values.{Any, any_finds, or_else_fits, or_fault_fits, popping_fits, pushing_fits}
 
 module _ (s : StoryTree) where

@@ -3,27 +3,14 @@ use Rattle.std.proofs.Common.{◌≡◌, ◌∙◌, ap, sym, refl, inl, inr, ari
 use Rattle.std.proofs.lemmas.Bool.{cases_Bool, cond_both, false_from_ne_true, lt-ltb}
 use Rattle.std.proofs.lemmas.List.{map-append, reverse-append, reverse-reverse}
 use Rattle.std.specs.List.{AllByRecursion as Each}
-use Rattle.std.specs.Option.{option_map}
+use Rattle.ink_sound.proofs.Common.{option_map, of_integer, flags_at, items_of, counts_visits, notes_turns, is_small, empty_page, StoryTree, at, value_data, FrameKind, Base, Function, Tunnel, Part, Index, Name, Value}
 use Rattle.serde_json.specs.Data.{Data, string}
-use Rattle.serde_json.specs.Find.{of_integer}
 use Rattle.ink_model.specs.Run.Configuration.{Configuration, FlowOf, settled, unnumbered_choice, unnumbered_flow}
-use Rattle.ink_model.specs.Run.Entered.{flags_at}
-use Rattle.ink_model.specs.Host.Events.{items_of}
-use Rattle.ink_model.specs.Story.Flags.{counts_visits, notes_turns}
 use Rattle.ink_model.specs.Run.Flows.{Aside, Game, all_flows, alone, current_name, holes, is_flow_name}
 use Rattle.ink_model.specs.Flow.Frames.{FrameOf, ThreadOf, unnumbered_frame, unnumbered_thread}
-use Rattle.ink_model.specs.Story.Leaves.{is_small}
 use Rattle.ink_model.specs.Variables.Named.{Rows, each, once}
 use Rattle.ink_model.specs.Variables.Named.{at as at_name}
-use Rattle.ink_model.specs.Text.Output.{empty_page}
 use Rattle.ink_model.specs.Story.Path.{path_text}
-use Rattle.ink_model.specs.Story.Tree.{StoryTree, at}
-use Rattle.ink_model.specs.Protocol.ValueJson.{value_data}
-use Rattle.ink_model.specs.declared.frame.FrameKind.{FrameKind}
-use Rattle.ink_model.specs.declared.frame.FrameKind.TheVariants.{Base, Function, Tunnel}
-use Rattle.ink_model.specs.declared.place.Part.{Part}
-use Rattle.ink_model.specs.declared.place.Part.TheVariants.{Index, Name}
-use Rattle.ink_model.specs.declared.value.Value.{Value}
 use Rattle.ink_model.specs.declared.value.Value.TheVariants as value
 use Rattle.ink_sound.specs.Kept.{AsideSound, PartsFit, StoryFits}
 use Rattle.ink_model.specs.Save.Reads.{Reads, Spells}

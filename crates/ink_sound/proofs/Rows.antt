@@ -1,19 +1,12 @@
 -- Rows that rise, names that stand once, and facts of each row, when a value is put.
 use Rattle.std.proofs.Common.{◌≡◌, ◌∙◌, ap, sym, refl, rules, ℕ, List, [], ◌∷◌, Bool, true, false, true≢false, not, ◌&&◌, bytes_eq, cond, Option, Some, is_some}
-use Rattle.std.proofs.lemmas.Bool.{cond_both}
-use Rattle.std.proofs.lemmas.Cmp.{nat_cmp_total, nat_list_cmp_total, lists_total}
-use Rattle.std.proofs.lemmas.Slice.Eq.{bytes_eq-Decides}
+use Rattle.ink_sound.proofs.Common.{cond_both, bytes_eq-Decides, Values, store, stored, Value, Finds}
 use Rattle.std.specs.Cmp.{IsTotalOrder}
 use Rattle.std.specs.List.{AllByRecursion as Each}
 use Rattle.std.specs.Ordering.{is_lt, match_ordering, ordering_reverse}
 use Rattle.std.specs.declared.cmp.Ordering.{Ordering}
 use Rattle.std.specs.declared.cmp.Ordering.TheVariants.{Less, Equal, Greater}
-use Rattle.ink_model.specs.Variables.Rows.{is_before, part_order, place_order, row, rows_rise, with_row}
-use Rattle.ink_model.specs.Variables.Store.{Values, store, stored}
-use Rattle.ink_model.specs.declared.place.Part.{Part}
-use Rattle.ink_model.specs.declared.place.Part.TheVariants.{Index, Name}
-use Rattle.ink_model.specs.declared.value.Value.{Value}
-use Rattle.ink_sound.specs.Kept.{Finds}
+use Rattle.ink_model.specs.Variables.Rows.{is_before, row, rows_rise, with_row}
 use Rattle.ink_model.specs.Save.Sound.{names_once}
 
 -- ---- tests
@@ -83,34 +76,6 @@ module _ {K V : Type 0} (compare : K → K → Ordering) (P : V → Type 0) wher
   pub row_finds : (k : K) (rs : List (K × V)) → Each (λ r. P r.1) rs → Finds P (row compare k rs)
   row_finds k [] h = tt
   row_finds k (r ∷ rs) h = in_order (Finds P) (compare k r.0) _ _ _ (λ _. tt) (λ _. h.0) (λ _. row_finds k rs h.1)
-
--- ---- the order of places
-
-part_antisymm : (x y : Part) → part_order x y ≡ ordering_reverse (part_order y x)
-part_antisymm (Index i) (Index j) = nat_cmp_total.antisymm i j
-part_antisymm (Index i) (Name n) = refl
-part_antisymm (Name m) (Index j) = refl
-part_antisymm (Name m) (Name n) = nat_list_cmp_total.antisymm m n
-
-part_trans : (x y z : Part) → part_order x y ≡ Less → part_order y z ≡ Less → part_order x z ≡ Less
-part_trans (Index i) (Index j) (Index k) h g = nat_cmp_total.trans i j k h g
-part_trans (Index i) (Index j) (Name n) h g = refl
-part_trans (Index i) (Name m) (Index k) h g = absurd cc
-part_trans (Index i) (Name m) (Name n) h g = refl
-part_trans (Name l) (Index j) z h g = absurd cc
-part_trans (Name l) (Name m) (Index k) h g = absurd cc
-part_trans (Name l) (Name m) (Name n) h g = nat_list_cmp_total.trans l m n h g
-
-part_congr : (x y z : Part) → part_order x y ≡ Equal → part_order x z ≡ part_order y z
-part_congr (Index i) (Index j) (Index k) h = nat_cmp_total.congr i j k h
-part_congr (Index i) (Index j) (Name n) h = refl
-part_congr (Index i) (Name m) z h = absurd cc
-part_congr (Name l) (Index j) z h = absurd cc
-part_congr (Name l) (Name m) (Index k) h = refl
-part_congr (Name l) (Name m) (Name n) h = nat_list_cmp_total.congr l m n h
-
-pub place_total : IsTotalOrder place_order
-place_total = lists_total (record { antisymm = part_antisymm; trans = part_trans; congr = part_congr })
 
 -- ---- names that stand once
 

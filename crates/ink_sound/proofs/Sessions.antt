@@ -2,11 +2,10 @@
 use Rattle.std.proofs.Common.{◌≡◌, ap, sym, refl, subst, ℕ, List, [], ◌∷◌, inl, inr, Bool, true, false, bytes_eq, Option, Some, None, is_some, option_map, Result, Ok, Err, MatchBool}
 use Rattle.ink_model.specs.Protocol.Answer.{Reply, Acts, Refuses}
 use Rattle.ink_model.specs.Host.Told.{told}
-use Rattle.ink_model.specs.declared.fault.Fault.{Fault}
+use Rattle.ink_sound.proofs.Common.{Fault, chosen, jump_place, jumped, open_choice, Values, store, stored, StoryTree, Given, Part, Data, Rests, Stands}
 use Rattle.ink_model.specs.declared.fault.Fault.TheVariants.{OutOfMemory}
 use Rattle.ink_model.specs.declared.fault.Refusal.TheVariants as refusal
 use Rattle.ink_model.specs.Protocol.Changed.{OnlyRefuses}
-use Rattle.ink_model.specs.Choices.Choosing.{chosen, jump_place, jumped, open_choice}
 use Rattle.ink_model.specs.Protocol.Command as command
 use Rattle.ink_model.specs.Protocol.Command.{Command, command_of}
 use Rattle.ink_model.specs.Run.Configuration.{Configuration, FlowOf, can_go_on, settled, unnumbered_choice, with_globals}
@@ -20,19 +19,13 @@ use Rattle.ink_model.specs.Run.Moments.{Made, Moment, At, Stopped, Faulted, RunE
 use Rattle.ink_model.specs.Memory.Refusals.{FallsShort, LineFallsShort}
 use Rattle.ink_model.specs.Protocol.Session.{BeginsAnew, BreaksBy, Continue, Does, EndsAs, FailsToRestart, GetsFrom, Load, LoadsBy, RestartsAs, RunsFrom, RunsLine, RunsThrough, RunsTo, SavesFrom, Serves, Session, SetsFrom, SetsIn, TellsDone, TellsOrKeeps, Through, VisitsBy, VisitsFrom, condition_told, settable}
 use Rattle.ink_model.specs.Protocol.State.{State, Condition, Ready, Broken, in_game}
-use Rattle.ink_model.specs.Variables.Store.{Values, store, stored}
-use Rattle.ink_model.specs.Story.Tree.{StoryTree}
 use Rattle.ink_model.specs.Protocol.Unread.{LineFails, TextFails}
 use Rattle.ink_model.specs.Protocol.Turns.{ChoosesBy, ChoosesFrom, JumpsBy, JumpsFrom, LandsFor}
 use Rattle.ink_model.specs.Run.Visits.{entering_around, visits_by}
 use Rattle.ink_model.specs.declared.host.Change.{Change}
 use Rattle.ink_model.specs.declared.host.Event.{Event}
-use Rattle.ink_model.specs.declared.host.Given.{Given}
 use Rattle.ink_model.specs.declared.host.Given.TheVariants as given
-use Rattle.ink_model.specs.declared.place.Part.{Part}
-use Rattle.serde_json.specs.Data.{Data}
 use Rattle.ink_sound.specs.Kept.{ConditionFits, Finds, MomentFits, StateFits, StoryFits}
-use Rattle.ink_model.specs.Save.Reads.{Rests, Stands}
 use Rattle.ink_model.specs.Save.Sound.{AsideFits, ChoiceFits, PlaceFits, Sound, ValueFits}
 use Rattle.ink_sound.proofs.Between.{Opens, choices_rest, chosen_rests, globals_rest, globals_sound, jumped_rests, opening_fits, settled_rests, settled_sound}
 use Rattle.ink_sound.proofs.Going.{dropping_fits, first_fits, flows_fit, game_fits, going_fits, one_fits}

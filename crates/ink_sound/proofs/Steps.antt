@@ -1,13 +1,12 @@
 -- A step keeps a configuration sound, and so do an answer and a run.
 use Rattle.std.proofs.Common.{◌≡◌, refl, subst, ℕ, zero, suc, lit≤, inl, inr, List, [], ◌∷◌, slice_get, Bool, true, if◌then◌else◌, Option, Some, None, is_some}
-use Rattle.std.proofs.lemmas.Bool.{cond_both}
+use Rattle.ink_sound.proofs.Common.{cond_both, ThreadOf, StoryTree, at, Given, Part}
 use Rattle.std.specs.List.{AllByRecursion as Each}
 use Rattle.ink_model.specs.Choices.Making.{behind, can_take, only_invisible, choice_gone, taken_of, visible}
 use Rattle.ink_model.specs.Choices.Choosing.{chosen, default_choice, following, jumped, open_choice, stopped_by, taken_up}
 use Rattle.ink_model.specs.Run.Configuration.{ChoiceOf, Configuration, begun, can_go_on, current_place, ended, next_turn, put_at}
 use Rattle.ink_model.specs.Run.Effect.{Effect, Fields, context_of, fields_of}
 use Rattle.ink_model.specs.Run.Entered.{passed_places}
-use Rattle.ink_model.specs.Flow.Frames.{ThreadOf}
 use Rattle.ink_model.specs.Host.Bindings.{Bound}
 use Rattle.ink_model.specs.Run.Line.{Line}
 use Rattle.ink_model.specs.Run.Move.{Outcome, Next, Stop, Faults, move}
@@ -15,11 +14,8 @@ use Rattle.ink_model.specs.Run.Place.{content_place}
 use Rattle.ink_model.specs.Run.Moments.{Made, Moment, At, answered, came, cut_off, moment, moment_after, next, run, through}
 use Rattle.ink_model.specs.Run.Step.{Stepped, Comes, Wants, acted, call_made, effect, gone_in, performed, step, step_at}
 use Rattle.ink_model.specs.Run.Step.Host.{Acts, Suspends, Call, CallEffect, answering, call_at, call_external}
-use Rattle.ink_model.specs.Story.Tree.{StoryTree, at}
 use Rattle.ink_model.specs.Run.Visits.{around, entering_around, entering_at}
-use Rattle.ink_model.specs.declared.host.Given.{Given}
 use Rattle.ink_model.specs.declared.limits.TheConstants.{MAX_STEPS}
-use Rattle.ink_model.specs.declared.place.Part.{Part}
 use Rattle.ink_sound.specs.Kept.{CallFits, EffectFits, FieldsFit, Finds, MomentFits, OutcomeFits, Runs, SteppedFits, StoryFits}
 use Rattle.ink_model.specs.Save.Sound.{ChoiceFits, ChoicesFit, FlowStands, PlaceFits, SomePlace, Sound, ThreadFits, ThreadStands}
 use Rattle.ink_sound.proofs.Counts.{one_more_most}

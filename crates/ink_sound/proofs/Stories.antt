@@ -18,14 +18,11 @@ use Rattle.ink_model.specs.Story.Path.{read_path, target}
 use Rattle.ink_model.specs.Story.Places.{places, places_by_key, places_from}
 use Rattle.ink_model.specs.Run.Step.Diverts.{path_of}
 use Rattle.ink_model.specs.Story.Tree.{StoryTree, leaf, container, Trees, no_trees, tree, Keyed, no_keys, key, at, by_key, down, nth}
-use Rattle.ink_model.specs.declared.content.Leaf.{Leaf}
+use Rattle.ink_sound.proofs.Common.{Leaf, Part, Index, Name, Path}
 use Rattle.ink_model.specs.declared.content.Leaf.TheVariants as leaves
 use Rattle.ink_model.specs.declared.fault.Cause.{Cause}
 use Rattle.ink_model.specs.declared.fault.ReadRefusal.{ReadRefusal}
 use Rattle.ink_model.specs.declared.limits.TheConstants.{MAX_STORY}
-use Rattle.ink_model.specs.declared.place.Part.{Part}
-use Rattle.ink_model.specs.declared.place.Part.TheVariants.{Index, Name}
-use Rattle.ink_model.specs.declared.place.Path.{Path}
 use Rattle.ink_model.specs.declared.version.InkVersion.{InkVersion}
 use Rattle.ink_json.proofs.Narrow.{width_at}
 use Rattle.ink_json.proofs.Width.{story_narrow}

@@ -1,15 +1,10 @@
 -- What is written leaves no more sections open than may be; and the effects of values, evaluation mode, text, strings and tags.
 use Rattle.std.proofs.Common.{◌≡◌, refl, arith, ℕ, suc, ◌^◌, List, [], ◌∷◌, length, Bool, true, false, nat_lt, Option, Result, Ok, Err, if◌then◌else◌, Some, None, IsTrue, inl, inr, ◌≤◌}
-use Rattle.std.proofs.lemmas.Bool.{cond_both, cases_Bool}
-use Rattle.std.proofs.lemmas.Bool.Decides.{nat_tests}
+use Rattle.ink_sound.proofs.Common.{cond_both, cases_Bool, nat_tests, StoryTree, Fault, FrameKind, Function, fits_text, Value}
 use Rattle.ink_model.specs.Flow.Transfers.{Written, enter_for, leave_for, on_page, on_stack, void_for}
 use Rattle.ink_model.specs.Text.Output.{begins_function, ends_function, is_crowded, noted, noted_in, opens, with_next, writes_marks, closes_string, closes_string_of, closes_tag, closes_tag_of, is_string, is_text, let_through, prints_text, tagged, writes_glue, writes_newline, writes_printed, writes_tag, writes_text, writes_value}
 use Rattle.ink_model.specs.Text.Page.{Page, Section, SectionKind, string_section, tag_section}
 use Rattle.ink_model.specs.Values.Stack.{pushed, popped}
-use Rattle.ink_model.specs.Story.Tree.{StoryTree}
-use Rattle.ink_model.specs.declared.fault.Fault.{Fault}
-use Rattle.ink_model.specs.declared.frame.FrameKind.{FrameKind}
-use Rattle.ink_model.specs.declared.frame.FrameKind.TheVariants.{Function}
 use Rattle.ink_model.specs.declared.limits.TheConstants.{MAX_SECTIONS}
 use Rattle.ink_model.specs.declared.mark.Mark.{Mark}
 use Rattle.ink_model.specs.declared.mark.Mark.TheVariants.{Enter, Leave}
@@ -18,7 +13,6 @@ use Rattle.ink_sound.specs.Kept.{Gives, WrittenFits, EffectFits, FieldsFit, Find
 use Rattle.ink_model.specs.Save.Sound.{PageFits, StackFits}
 use Rattle.ink_sound.proofs.Values.{pushed_fits, TakenFits, or_fault_fits, popped_fits, popping_fits, pushing_fits}
 use Rattle.std.specs.List.{list_any}
-use Rattle.ink_model.specs.Text.Bytes.{fits_text}
 use Rattle.ink_model.specs.Text.Clean.{clean}
 use Rattle.ink_model.specs.Run.Effect.{Fields, Moves, is_fresh, pushing, writing, writing_text}
 use Rattle.ink_model.specs.Text.Mark.{cut}
@@ -27,7 +21,6 @@ use Rattle.ink_model.specs.Run.Step.Evaluation.{begin_eval, duplicate, end_eval,
 use Rattle.ink_model.specs.Run.Step.Text.{begin_string, begin_tag, beside, closed_tag, end_string, end_tag, in_tag, keeps_tag, write_glue, write_newline, write_tag, write_text}
 use Rattle.ink_model.specs.Values.Value.{printed}
 use Rattle.ink_model.specs.declared.mark.Mark.TheVariants as mark
-use Rattle.ink_model.specs.declared.value.Value.{Value}
 use Rattle.ink_model.specs.declared.value.Value.TheVariants as value
 
 as_many : (ms line : List Mark) (xs : List Section) (n : ℕ) → length (noted_in ms line xs n).sections ≡ length xs

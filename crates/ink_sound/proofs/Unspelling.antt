@@ -1,25 +1,14 @@
 -- A JSON value that is read as a game is its spelling.
 use Rattle.std.proofs.Common.{◌≡◌, ◌∙◌, ◌⊎◌, inl, inr, ap, sym, refl, subst, arith, ℕ, suc, ◌^◌, ℤ, pos, negsuc, List, [], ◌∷◌, map, reverse, codes, Bool, true, false, bytes_eq, nat_lt, ◌==◌, if◌then◌else◌, Option, Some, None, option_and_then}
-use Rattle.std.proofs.lemmas.Bool.{cases_Bool}
-use Rattle.std.proofs.lemmas.Bool.Decides.{nat_tests}
+use Rattle.ink_sound.proofs.Common.{cases_Bool, nat_tests, bytes_eq-Decides, of_integer, items_of, is_small, empty_page, value_data, Base, Function, Tunnel, Part, Index, Name, Value}
 use Rattle.std.proofs.lemmas.List.{reverse-reverse}
-use Rattle.std.proofs.lemmas.Slice.Eq.{bytes_eq-Decides}
 use Rattle.std.specs.Option.{option_map, option_or}
 use Rattle.serde_json.specs.Data.{Num, unsigned, negative, Data, null, boolean, number, string, array, object, Items, no_items, item, Members, no_members, member}
-use Rattle.serde_json.specs.Find.{of_integer}
 use Rattle.ink_model.specs.Run.Configuration.{ChoiceOf, Configuration, FlowOf}
-use Rattle.ink_model.specs.Host.Events.{items_of}
 use Rattle.ink_model.specs.Run.Flows.{Game, all_flows, alone, current_name, holes}
 use Rattle.ink_model.specs.Flow.Frames.{FrameOf, ThreadOf, ThreadsOf}
-use Rattle.ink_model.specs.Story.Leaves.{is_small}
 use Rattle.ink_model.specs.Variables.Named.{Rows, at}
-use Rattle.ink_model.specs.Text.Output.{empty_page}
 use Rattle.ink_model.specs.Story.Path.{path_text, read_path}
-use Rattle.ink_model.specs.Protocol.ValueJson.{value_data}
-use Rattle.ink_model.specs.declared.frame.FrameKind.TheVariants.{Base, Function, Tunnel}
-use Rattle.ink_model.specs.declared.place.Part.{Part}
-use Rattle.ink_model.specs.declared.place.Part.TheVariants.{Index, Name}
-use Rattle.ink_model.specs.declared.value.Value.{Value}
 use Rattle.ink_model.specs.declared.value.Value.TheVariants as value
 use Rattle.ink_model.specs.Save.Reads.{Spells}
 use Rattle.ink_model.specs.Save.Spelling.{choice_data, count_data, frame_data, global_data, kind_data, list_data, named_flow_data, old_spelling, part_data, place_data, place_or_null, row_data, spelling, temps_members, thread_data, threads_data}

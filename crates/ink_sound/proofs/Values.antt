@@ -1,18 +1,12 @@
 -- Values that fit, on a stack and as they are made.
 use Rattle.std.proofs.Common.{◌≡◌, ap, refl, arith, suc, List, [], ◌∷◌, ◌++◌, length, length-append, nat_lt, Option, Some, None, option_and_then, Result, Ok, Err}
-use Rattle.std.proofs.lemmas.Bool.{cond_both}
-use Rattle.std.proofs.lemmas.Bool.Decides.{nat_tests}
+use Rattle.ink_sound.proofs.Common.{cond_both, nat_tests, StoryTree, Fault, Value, EffectFits, FieldsFit, Finds, Gives, StackFits, ValueFits}
 use Rattle.std.specs.List.{AllByRecursion as Each}
 use Rattle.std.specs.Option.{option_map, option_or}
 use Rattle.ink_model.specs.Run.Effect.{Effect, Fields, Moves, or_else, or_fault, popping, pushing}
 use Rattle.ink_model.specs.Values.Stack.{popped, pushed}
-use Rattle.ink_model.specs.Story.Tree.{StoryTree}
-use Rattle.ink_model.specs.declared.fault.Fault.{Fault}
 use Rattle.ink_model.specs.declared.fault.Fault.TheVariants.{StackEmpty}
 use Rattle.ink_model.specs.declared.limits.TheConstants.{MAX_STACK}
-use Rattle.ink_model.specs.declared.value.Value.{Value}
-use Rattle.ink_sound.specs.Kept.{EffectFits, FieldsFit, Finds, Gives}
-use Rattle.ink_model.specs.Save.Sound.{StackFits, ValueFits}
 
 -- ---- lists
 

@@ -1,28 +1,18 @@
 -- Variables that are read, assigned and declared, and pointers.
 use Rattle.std.proofs.Common.{◌≡◌, ap, refl, arith, ℕ, zero, suc, ◌+◌, ◌≤◌, ℤ, pos, negsuc, List, [], ◌∷◌, length, true, nat_eq, Option, Some, None, is_some, option_and_then, unwrap_or, Result, Ok, Err}
-use Rattle.std.proofs.lemmas.Bool.{cond_both}
+use Rattle.ink_sound.proofs.Common.{cond_both, BaseFirst, Context, Fields, is_small, Values, store, stored, StoryTree, Fault, FrameKind, Part, Value, ContextFits, EffectFits, FieldsFit, Finds, Gives}
 use Rattle.std.proofs.lemmas.Cmp.{nat_list_cmp_total}
 use Rattle.std.specs.List.{AllByRecursion as Each}
-use Rattle.ink_model.specs.Flow.Bases.{BaseFirst}
-use Rattle.ink_model.specs.Run.Effect.{Context, Fields}
 use Rattle.ink_model.specs.Flow.Frames.{FrameOf, ThreadOf, frame_numbered}
-use Rattle.ink_model.specs.Story.Leaves.{is_small}
 use Rattle.ink_model.specs.Variables.Rows.{name_order, row}
 use Rattle.ink_model.specs.Run.Step.Evaluation.{push_value}
 use Rattle.ink_model.specs.Run.Step.Variables as step
-use Rattle.ink_model.specs.Variables.Store.{Values, store, stored}
 use Rattle.ink_model.specs.Flow.Threads.{changed, frame_count, with_row_in, with_temp}
-use Rattle.ink_model.specs.Story.Tree.{StoryTree}
 use Rattle.ink_model.specs.Variables.Access.{assign, assign_at, chain_end, declare, declared, held, kept, kept_pointer, last_pointer, named, on_pointer, point, read, stands, value_at, with_declared, with_held, with_named}
-use Rattle.ink_model.specs.declared.fault.Fault.{Fault}
-use Rattle.ink_model.specs.declared.frame.FrameKind.{FrameKind}
 use Rattle.ink_model.specs.declared.limits.TheConstants.{MAX_FRAMES}
-use Rattle.ink_model.specs.declared.place.Part.{Part}
 use Rattle.ink_model.specs.declared.scope.Scope.{Scope}
 use Rattle.ink_model.specs.declared.scope.Scope.TheVariants.{Global, Temporary}
-use Rattle.ink_model.specs.declared.value.Value.{Value}
 use Rattle.ink_model.specs.declared.value.Value.TheVariants.{Int, Pointer}
-use Rattle.ink_sound.specs.Kept.{ContextFits, EffectFits, FieldsFit, Finds, Gives}
 use Rattle.ink_model.specs.Save.Sound.{FrameFits, FrameStands, GlobalsFit, IsFrame, RowFits, ThreadStands, ValueFits}
 use Rattle.ink_sound.proofs.Ints.{count_small}
 use Rattle.ink_sound.proofs.Rows.{each_put, each_stored, once_put, rise_put, row_finds, stored_finds}

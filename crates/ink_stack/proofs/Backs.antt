@@ -1,21 +1,14 @@
 -- What each change of frames and threads puts back.
 use Rattle.std.proofs.Common.{◌≡◌, ◌∙◌, ◌≤◌, ◌<◌, ◌+◌, ◌-◌, MatchOption, arith, drop, get_or, length, option_to_list, ℕ, List, [], ◌∷◌, ◌++◌, Bool, true, false, Option, Some, None, Result, Ok, Err, ap, append_assoc, if◌then◌else◌, is_some, nat_eq, nat_lt, refl, reverse, subst, suc, sym}
 use Rattle.std.proofs.Math.Seq.{get_or-append_seam}
-use Rattle.std.proofs.lemmas.List.{length-append, length-reverse, reverse-append, reverse-reverse}
+use Rattle.ink_stack.proofs.Common.{length-append, length-reverse, reverse-append, reverse-reverse, Fault, FrameKind, MAX_FRAMES, MAX_THREADS, RunningView, threads_in, HasGone, HasMode, threads_back, threads_spare, threads_stood, Changes, Grows, ThreadsPair}
 use Rattle.ink_model.specs.Flow.Frames.{FrameOf, ThreadOf, ThreadsOf, gone, mode_in, on_top, put_in}
 use Rattle.ink_model.specs.Flow.Threads.{back_to, doubled, frame_count, new_frame, number_in, frame_popped, frame_pushed, same_kind, thread_count}
-use Rattle.ink_model.specs.declared.fault.Fault.{Fault}
 use Rattle.ink_model.specs.declared.fault.Fault.TheVariants.{BadMode, BadPop, OutOfMemory, TooDeep}
-use Rattle.ink_model.specs.declared.frame.FrameKind.{FrameKind}
-use Rattle.ink_model.specs.declared.limits.TheConstants.{MAX_FRAMES, MAX_THREADS}
 use Rattle.ink_trail.proofs.Undoing.{none-stood, spare-notes, spare-trails, stood-kept, stood-none, stood-notes, stood-trails}
 use Rattle.ink_trail.specs.Undo.{KeepsTrail, Notes, TrailView, Trails, spare, undone}
 use Rattle.ink_stack.specs.Cells.{number_back, ungone, unpopped, unpushed}
-use Rattle.ink_stack.specs.Running.{RunningView, threads_in}
 use Rattle.ink_stack.specs.Threads.{ThreadsView}
-use Rattle.ink_stack.specs.Undo.{HasGone, HasMode, threads_back, threads_spare, threads_stood}
-use Rattle.ink_stack.specs.Outcomes.{Changes, Grows}
-use Rattle.ink_stack.specs.declared.undo.ThreadsPair.{ThreadsPair}
 use Rattle.ink_stack.specs.declared.undo.ThreadsPair.TheVariants.{Placed, Gone, Evaluating, Numbered, ThreadPushed, ThreadPopped}
 
 -- a list without its last item, seen from its end

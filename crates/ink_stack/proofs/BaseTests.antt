@@ -1,12 +1,9 @@
 -- The bottom frame alone is the base, as it is tested.
 use Rattle.std.proofs.Common.{◌≡◌, ◌∙◌, sym, ap, refl, List, [], ◌∷◌, ◌++◌, reverse, Bool, true, false, not, ◌&&◌}
 use Rattle.std.proofs.Math.Bool.{and_comm, and-true}
-use Rattle.std.proofs.lemmas.List.{reverse-append}
+use Rattle.ink_stack.proofs.Common.{reverse-append, BaseFirst, FrameOf, FrameKind}
 use Rattle.std.proofs.lemmas.List.Folds.{list_all-append}
 use Rattle.std.specs.List.{list_all}
-use Rattle.ink_model.specs.Flow.Bases.{BaseFirst}
-use Rattle.ink_model.specs.Flow.Frames.{FrameOf}
-use Rattle.ink_model.specs.declared.frame.FrameKind.{FrameKind}
 use Rattle.ink_model.specs.declared.frame.FrameKind.TheVariants.{Base, Function, Tunnel}
 use Rattle.ink_stack.specs.Saving.{base_first, is_call}
 

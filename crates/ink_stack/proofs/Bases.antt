@@ -1,17 +1,8 @@
 -- The base stays the bottom frame alone, and threads stay within their limit.
 use Rattle.std.proofs.Common.{◌≡◌, ◌≢◌, ◌∙◌, ℕ, List, [], ◌∷◌, ◌++◌, true, false, Result, Ok, Err, OnOk, OnErr, ap, if◌then◌else◌, map, nat_eq, refl, reverse, subst, sym}
-use Rattle.std.proofs.lemmas.List.{reverse-append}
-use Rattle.ink_model.specs.Flow.Bases.{BaseFirst}
-use Rattle.ink_model.specs.Flow.Frames.{FrameOf, ThreadOf, ThreadsOf, is_function, unnumbered_frame}
-use Rattle.ink_model.specs.Variables.Rows.{name_order, with_row}
-use Rattle.ink_model.specs.Variables.Store.{Values}
+use Rattle.ink_stack.proofs.Common.{reverse-append, BaseFirst, FrameOf, ThreadOf, ThreadsOf, is_function, unnumbered_frame, name_order, with_row, Values, Fault, FrameKind, Value, frame_kind, Changes, Grows}
 use Rattle.ink_model.specs.Flow.Threads.{stale, stale_run, top_result, with_row_in}
-use Rattle.ink_model.specs.declared.fault.Fault.{Fault}
-use Rattle.ink_model.specs.declared.frame.FrameKind.{FrameKind}
 use Rattle.ink_model.specs.declared.frame.FrameKind.TheVariants.{Base}
-use Rattle.ink_model.specs.declared.value.Value.{Value}
-use Rattle.ink_stack.specs.Calls.{frame_kind}
-use Rattle.ink_stack.specs.Outcomes.{Changes, Grows}
 use Rattle.ink_stack.specs.declared.frame.CallKind.{CallKind}
 use Rattle.ink_stack.specs.declared.frame.CallKind.TheVariants as call
 

@@ -3,9 +3,7 @@ use Rattle.std.proofs.Common.{◌≡◌, ◌∙◌, ◌&&◌, ◌<◌, ◌≤◌
 use Rattle.std.proofs.lemmas.Bool.{and_from}
 use Rattle.std.proofs.lemmas.List.{append-nil, drop_all, take_all}
 use Rattle.std.specs.List.{remove}
-use Rattle.ink_model.specs.Variables.Rows.{is_before, name_order, rows_rise}
-use Rattle.ink_model.specs.Variables.Store.{Values}
-use Rattle.ink_model.specs.declared.value.Value.{Value}
+use Rattle.ink_stack.proofs.Common.{is_before, name_order, rows_rise, Values, Value}
 use Rattle.ink_stack.specs.Cells.{value_at}
 use Rattle.ink_stack.proofs.Rises.{both}
 

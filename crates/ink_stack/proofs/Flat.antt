@@ -1,12 +1,8 @@
 -- Frames by their headers and their temporaries.
 use Rattle.std.proofs.Common.{◌≡◌, ◌≢◌, ◌∙◌, ◌<◌, ◌≤◌, ◌+◌, ◌-◌, ℕ, zero, suc, List, [], ◌∷◌, ◌++◌, ap, arith, get_or, if◌then◌else◌, length, map, refl, reverse, set, subst, sym, replicate, Bool, true, false, nat_lt, Option, Some, None, inl, inr}
 use Rattle.std.proofs.lemmas.Bool.{cases_lt}
-use Rattle.std.proofs.lemmas.Bool.Decides.{nat_tests}
+use Rattle.ink_stack.proofs.Common.{nat_tests, FrameOf, unnumbered_frame, Values, Value, temp_back, temps_back}
 use Rattle.std.proofs.lemmas.List.{get_or-set_same, get_or_default, get_or_past, length-append, length-replicate, length-reverse, reverse-append, set-get_or}
-use Rattle.ink_model.specs.Flow.Frames.{FrameOf, unnumbered_frame}
-use Rattle.ink_model.specs.Variables.Store.{Values}
-use Rattle.ink_model.specs.declared.value.Value.{Value}
-use Rattle.ink_stack.specs.Cells.{temp_back, temps_back}
 use Rattle.ink_stack.specs.Frames.{FitsIn, Room, frame_with, framed, is_bare, unnumbered, with_temps}
 use Rattle.ink_stack.specs.declared.frame.Header.{Header}
 

@@ -1,10 +1,8 @@
 -- A change of the frame of a number.
 use Rattle.std.proofs.Common.{◌≡◌, ◌≢◌, ◌∙◌, ◌<◌, ◌≤◌, ◌+◌, ◌-◌, ℕ, List, [], ◌∷◌, ◌++◌, true, false, Option, ap, arith, drop, get_or, if◌then◌else◌, length, length-set, nat_eq, refl, reverse, set, subst, suc, sym, take}
 use Rattle.std.proofs.lemmas.List.{get_or-set_same, length-reverse, set-get_or, set-set}
-use Rattle.ink_model.specs.Flow.Bases.{BaseFirst}
-use Rattle.ink_model.specs.Flow.Frames.{FrameOf, ThreadOf}
+use Rattle.ink_stack.proofs.Common.{BaseFirst, FrameOf, ThreadOf, FrameKind}
 use Rattle.ink_model.specs.Flow.Threads.{changed, frame_count}
-use Rattle.ink_model.specs.declared.frame.FrameKind.{FrameKind}
 use Rattle.ink_stack.specs.Cells.{Within, with_frame}
 use Rattle.ink_stack.specs.Frames.{Room, is_bare, with_temps}
 use Rattle.ink_stack.proofs.Bases.{base_same}

@@ -1,9 +1,7 @@
 -- Threads of the frames that are given, the bottom one first.
 use Rattle.std.proofs.Common.{◌≡◌, ◌≢◌, ◌∙◌, ◌<◌, ◌≤◌, ◌++◌, ◌&&◌, List, [], ◌∷◌, Bool, true, false, Option, None, Some, if◌then◌else◌, ap, arith, length, refl, reverse, subst, sym}
 use Rattle.std.proofs.lemmas.Bool.{le-leb, lt-leb}
-use Rattle.std.proofs.lemmas.List.{length-append, reverse-append}
-use Rattle.ink_model.specs.Flow.Frames.{FrameOf, ThreadOf}
-use Rattle.ink_model.specs.declared.limits.TheConstants.{MAX_FRAMES, MAX_THREADS}
+use Rattle.ink_stack.proofs.Common.{length-append, reverse-append, FrameOf, ThreadOf, MAX_FRAMES, MAX_THREADS}
 use Rattle.ink_stack.specs.Saving.{base_first, thread_from, thread_with, threads_from, threads_with}
 
 module _ {P : Type 0} where

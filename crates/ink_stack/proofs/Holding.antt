@@ -1,17 +1,13 @@
 -- There is room for what is put back of frames and threads.
 use Rattle.std.proofs.Common.{◌≡◌, ◌∙◌, ◌≤◌, ◌<◌, ℕ, List, [], ◌∷◌, ◌++◌, Bool, false, Option, Some, None, ap, arith, is_some, length, refl, subst, sym}
-use Rattle.std.proofs.lemmas.List.{length-append, length-reverse}
-use Rattle.ink_model.specs.Flow.Bases.{BaseFirst}
-use Rattle.ink_model.specs.Flow.Frames.{ThreadOf, ThreadsOf, gone, mode_in, on_top}
+use Rattle.ink_stack.proofs.Common.{length-append, length-reverse, BaseFirst, ThreadOf, ThreadsOf, gone, mode_in, on_top, RunningView, threads_in, ThreadsPair}
 use Rattle.ink_trail.proofs.Staying.{stays-more, stays-now, stays-with}
 use Rattle.ink_trail.specs.Undo.{Undo, trail_of, with_count, with_pair}
 use Rattle.ink_stack.proofs.Backs.{gone-is, mode-is}
 use Rattle.ink_stack.proofs.Bases.{base_same}
 use Rattle.ink_stack.specs.Cells.{Within, ungone}
 use Rattle.ink_stack.specs.Frames.{FitsIn, MoreRoom, Room}
-use Rattle.ink_stack.specs.Running.{RunningView, threads_in}
 use Rattle.ink_stack.specs.Undo.{HasGone, HasMode, Held, More, Rooms, StaysHeld, rooms_of, threads_back}
-use Rattle.ink_stack.specs.declared.undo.ThreadsPair.{ThreadsPair}
 use Rattle.ink_stack.specs.declared.undo.ThreadsPair.TheVariants.{Gone, Evaluating, ThreadPopped, Replaced}
 
 pub room-refl : (r : Room) → MoreRoom r r

@@ -1,11 +1,6 @@
 -- What a thread keeps in mind of the frames below its top one, as frames come and go. In a list the nearest is the last.
 use Rattle.std.proofs.Common.{◌≡◌, ◌∙◌, ◌<◌, ◌≤◌, ℕ, List, [], ◌∷◌, ◌++◌, Bool, true, false, not, ◌&&◌, Option, Some, None, IfSome, IsSomeAnd, ap, arith, is_some, length, reverse, subst, sym}
-use Rattle.std.proofs.lemmas.List.{length-append, reverse-append}
-use Rattle.ink_model.specs.Flow.Bases.{BaseFirst}
-use Rattle.ink_model.specs.Flow.Frames.{FrameOf, is_function}
-use Rattle.ink_model.specs.declared.frame.FrameKind.{FrameKind}
-use Rattle.ink_model.specs.declared.limits.TheConstants.{MAX_FRAMES}
-use Rattle.ink_stack.specs.Quiet.{Covers, IsQuiet, is_unnumbered}
+use Rattle.ink_stack.proofs.Common.{length-append, reverse-append, BaseFirst, FrameOf, is_function, FrameKind, MAX_FRAMES, Covers, IsQuiet, is_unnumbered}
 use Rattle.ink_stack.proofs.Bases.{base_popped, base_same}
 use Rattle.ink_stack.proofs.Quietness.{quiet_weaker}
 

@@ -1,3 +1,4 @@
+pub mod Common
 pub mod Mapping
 pub mod Reversing
 pub mod Runs

@@ -1,13 +1,9 @@
 -- Frames by their number, over a list whose last item is the top one.
 use Rattle.std.proofs.Common.{◌≡◌, ◌≢◌, ◌∙◌, ◌<◌, ◌≤◌, ◌+◌, ◌-◌, ℕ, List, [], ◌∷◌, ◌++◌, true, false, Option, Some, None, option_and_then, Result, Ok, Err, IfSome, OnOk, OnErr, add-one, ap, append_assoc, arith, drop, get_or, length, length-append, nat_eq, refl, reverse, set, subst, sym, take}
-use Rattle.std.proofs.lemmas.Bool.Decides.{nat_tests}
+use Rattle.ink_stack.proofs.Common.{nat_tests, on_err_weaker, on_ok_weaker, name_order, row, Value, IsQuiet}
 use Rattle.std.proofs.lemmas.List.{drop_more, get_or-set_same, length-reverse, length-take-le, reverse-append, set-get_or, set_split, take-append-drop}
-use Rattle.std.proofs.lemmas.Result.{on_err_weaker, on_ok_weaker}
 use Rattle.ink_model.specs.Flow.Frames.{FrameOf, ThreadOf, frame_numbered, is_function}
-use Rattle.ink_model.specs.Variables.Rows.{name_order, row}
 use Rattle.ink_model.specs.Flow.Threads.{changed, frame_count, temp_in, with_row_in, with_temp}
-use Rattle.ink_model.specs.declared.value.Value.{Value}
-use Rattle.ink_stack.specs.Quiet.{IsQuiet}
 
 pub same_number : (n : ℕ) → nat_eq n n ≡ true
 same_number n = grind (arith, nat_tests)

@@ -1,11 +1,8 @@
 -- Function frames of which each fresh one was pushed where fewer sections were open.
 use Rattle.std.proofs.Common.{◌≡◌, ◌∙◌, ℕ, ◌+◌, ◌≤◌, ◌<◌, List, [], ◌∷◌, ◌++◌, Bool, true, false, Option, Some, None, IfSome, ap, append_assoc, arith, drop, get_or, length, map, nat_eq, refl, reverse, set, subst, sym, take}
-use Rattle.std.proofs.lemmas.Bool.Decides.{nat_tests}
+use Rattle.ink_stack.proofs.Common.{nat_tests, FrameOf, is_function, unnumbered_frame, stale, stale_run, Covers, IsQuiet}
 use Rattle.std.proofs.lemmas.List.{append-nil, drop-set, reverse-append, take-append-drop, take_more}
-use Rattle.ink_model.specs.Flow.Frames.{FrameOf, is_function, unnumbered_frame}
-use Rattle.ink_model.specs.Flow.Threads.{stale, stale_run}
 use Rattle.ink_stack.proofs.Runs.{first_stale, first_stays}
-use Rattle.ink_stack.specs.Quiet.{Covers, IsQuiet}
 
 module _ {P : Type 0} where
   -- a frame of another kind comes first

@@ -2,11 +2,8 @@
 use Rattle.std.proofs.Common.{◌≡◌, ◌∙◌, ◌&&◌, ℕ, List, [], ◌∷◌, Bool, true, false, Ordering, Less, Equal, Greater, is_lt, ap, refl}
 use Rattle.std.proofs.lemmas.Bool.{and_from}
 use Rattle.std.proofs.lemmas.Cmp.{nat_list_cmp_total}
-use Rattle.std.proofs.lemmas.Map.Lookups.{exact_bytes}
+use Rattle.ink_stack.proofs.Common.{exact_bytes, is_before, name_order, rows_rise, with_row, Values, Value}
 use Rattle.std.specs.Ordering.{match_ordering, ordering_reverse}
-use Rattle.ink_model.specs.Variables.Rows.{is_before, name_order, rows_rise, with_row}
-use Rattle.ink_model.specs.Variables.Store.{Values}
-use Rattle.ink_model.specs.declared.value.Value.{Value}
 
 pub both : (x y : Bool) → (x && y) ≡ true → (x ≡ true) × (y ≡ true)
 both true y h = (refl, h)

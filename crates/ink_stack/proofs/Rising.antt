@@ -1,7 +1,6 @@
 -- Rows that rise one after another.
 use Rattle.std.proofs.Common.{◌≡◌, ◌∙◌, ◌&&◌, ℕ, List, [], ◌∷◌, Bool, true, false, Some, None, is_lt, sym, ap, refl}
-use Rattle.ink_model.specs.Variables.Rows.{is_before, name_order, rows_rise}
-use Rattle.ink_model.specs.Variables.Store.{Values}
+use Rattle.ink_stack.proofs.Common.{is_before, name_order, rows_rise, Values}
 use Rattle.ink_stack.proofs.Rises.{before_more, is_less}
 use Rattle.ink_stack.specs.Saving.{rise_after}
 

@@ -1,12 +1,8 @@
 -- Rows from the first one that does not come before a name.
 use Rattle.std.proofs.Common.{◌≡◌, ◌∙◌, ◌<◌, ◌+◌, add-one, ℕ, List, ◌++◌, Some, Ok, ap, append_assoc, drop, get_or, length, refl, set, take}
 use Rattle.std.proofs.lemmas.List.{drop_more, get_or_default, set_split, take_more}
-use Rattle.std.proofs.lemmas.Map.Lookups.{exact_bytes}
+use Rattle.ink_stack.proofs.Common.{exact_bytes, name_order, row, with_row, Values, Value, FindsName}
 use Rattle.std.specs.declared.cmp.Ordering.TheVariants.{Equal, Greater}
-use Rattle.ink_model.specs.Variables.Rows.{name_order, row, with_row}
-use Rattle.ink_model.specs.Variables.Store.{Values}
-use Rattle.ink_model.specs.declared.value.Value.{Value}
-use Rattle.ink_stack.specs.Rows.{FindsName}
 
 module _ (name : List ℕ) where
   -- a name that comes after the rows so far is read and written in the rest

@@ -1,8 +1,7 @@
 -- The function frames that come first, seen from the end of a list.
 use Rattle.std.proofs.Common.{◌≡◌, ◌∙◌, ℕ, ◌+◌, ◌<◌, List, [], ◌∷◌, ◌++◌, true, false, ap, append_assoc, arith, drop, get_or, if◌then◌else◌, length, refl, reverse, set, sym, take}
 use Rattle.std.proofs.lemmas.List.{append-nil, drop-set, drop_all, reverse-append, take-append-drop, take-set, take_all, take_more}
-use Rattle.ink_model.specs.Flow.Frames.{FrameOf, is_function}
-use Rattle.ink_model.specs.Flow.Threads.{stale, stale_run}
+use Rattle.ink_stack.proofs.Common.{FrameOf, is_function, stale, stale_run}
 
 module _ {P : Type 0} (depth : ℕ) where
   -- what is done, before what is left

@@ -3,19 +3,15 @@ use Rattle.std.proofs.Common.{◌≡◌, ◌∙◌, ◌<◌, ◌≤◌, ◌++◌
 use Rattle.std.proofs.lemmas.Bool.{cases_lt}
 use Rattle.std.proofs.lemmas.Cmp.{nat_list_cmp_total}
 use Rattle.std.proofs.lemmas.List.{drop_all, drop_more}
-use Rattle.std.proofs.lemmas.Map.Lookups.{exact_bytes}
+use Rattle.ink_stack.proofs.Common.{exact_bytes, is_before, name_order, row, rows_rise, with_row, Values, Value, FindsName}
 use Rattle.std.proofs.lemmas.Map.Text.{is_eq-slice_cmp}
 use Rattle.std.proofs.lemmas.Slice.Eq.{bytes_eq-Decides}
 use Rattle.std.specs.Cmp.{Equal-is}
 use Rattle.std.specs.List.Sorted.{IsBinarySearchResult, IsNonDecreasingBy, IsSearchInRange}
 use Rattle.std.specs.Ordering.{match_ordering, ordering_index, ordering_reverse}
-use Rattle.ink_model.specs.Variables.Rows.{is_before, name_order, row, rows_rise, with_row}
-use Rattle.ink_model.specs.Variables.Store.{Values}
-use Rattle.ink_model.specs.declared.value.Value.{Value}
 use Rattle.ink_model.specs.declared.value.Value.TheVariants.{Void}
 use Rattle.ink_stack.proofs.Rises.{both, is_less}
 use Rattle.ink_stack.proofs.Rows.{Passed, found_here, passed_none, passed_one}
-use Rattle.ink_stack.specs.Rows.{FindsName}
 
 turned : (k l : List ℕ) (o : Ordering) → name_order k l ≡ o → name_order l k ≡ ordering_reverse o
 turned k l o e = nat_list_cmp_total.antisymm l k ∙ ap ordering_reverse e

@@ -1,11 +1,10 @@
 -- The function frames that come first, from the frame of a number on.
 use Rattle.std.proofs.Common.{◌≡◌, ◌∙◌, ◌≤◌, ◌<◌, ◌+◌, ◌-◌, ℕ, List, [], ◌∷◌, Bool, true, false, ap, arith, if◌then◌else◌, length, nat_eq, refl, sym}
-use Rattle.std.proofs.lemmas.Bool.Decides.{nat_tests}
+use Rattle.ink_stack.proofs.Common.{nat_tests, RunningView}
 use Rattle.ink_model.specs.Flow.Frames.{FrameOf, ThreadOf, frame_numbered, is_function}
 use Rattle.ink_model.specs.Flow.Threads.{changed, stale, stale_run, staled}
 use Rattle.ink_stack.specs.Cells.{holds_of, with_frame}
 use Rattle.ink_stack.specs.Frames.{Room}
-use Rattle.ink_stack.specs.Running.{RunningView}
 use Rattle.ink_stack.proofs.Bases.{stale_kind}
 use Rattle.ink_stack.proofs.Framing.{length-changed}
 use Rattle.ink_stack.proofs.Numbers.{other_number, same_number}

@@ -1,17 +1,8 @@
 -- What calls do to the top frame and to the top thread, by the rules.
 use Rattle.std.proofs.Common.{◌≡◌, ◌∙◌, ◌<◌, ◌≤◌, ◌+◌, ℕ, List, [], ◌∷◌, ◌++◌, false, true, Option, None, Some, Result, IfOk, OnErr, OnOk, Err, Ok, ap, arith, length, nat_lt, refl, reverse, subst, sym}
-use Rattle.std.proofs.lemmas.Bool.Decides.{nat_tests}
-use Rattle.std.proofs.lemmas.List.{reverse-append}
-use Rattle.std.proofs.lemmas.Result.{IfOk-weaker, on_err_weaker, on_ok_weaker}
-use Rattle.ink_model.specs.Flow.Frames.{FrameOf, ThreadOf, ThreadsOf}
-use Rattle.ink_model.specs.Variables.Rows.{name_order, row}
+use Rattle.ink_stack.proofs.Common.{nat_tests, reverse-append, IfOk-weaker, on_err_weaker, on_ok_weaker, FrameOf, ThreadOf, ThreadsOf, name_order, row, FrameKind, MAX_THREADS, Value, temp_back, with_frame, Changes, Grows}
 use Rattle.ink_model.specs.Flow.Threads.{back_to, doubled, dropped, dropped_to, frame_count, frame_popped, same_kind, temp_in, thread_count, with_row_in, with_temp}
 use Rattle.ink_model.specs.declared.fault.Fault.TheVariants.{OutOfMemory, TooDeep}
-use Rattle.ink_model.specs.declared.frame.FrameKind.{FrameKind}
-use Rattle.ink_model.specs.declared.limits.TheConstants.{MAX_THREADS}
-use Rattle.ink_model.specs.declared.value.Value.{Value}
-use Rattle.ink_stack.specs.Cells.{temp_back, with_frame}
-use Rattle.ink_stack.specs.Outcomes.{Changes, Grows}
 use Rattle.ink_stack.proofs.Framing.{framed_top}
 use Rattle.ink_stack.proofs.Numbers.{same_number}
 

@@ -1,13 +1,9 @@
 -- What holds of the threads where no mark stands.
 use Rattle.std.proofs.Common.{◌≡◌, ◌≤◌, ◌+◌, ℕ, Result, Ok, Err, arith, false, is_some, refl}
-use Rattle.ink_model.specs.Flow.Frames.{ThreadsOf}
-use Rattle.ink_model.specs.declared.fault.Fault.{Fault}
+use Rattle.ink_stack.proofs.Common.{ThreadsOf, Fault, threads_back, threads_spare, threads_stood, Changes, Grows, ThreadsPair}
 use Rattle.ink_trail.proofs.Undoing.{spare-or-kept, stood-or-kept, trails-unmarked}
 use Rattle.ink_trail.specs.Undo.{TrailView, Trails, TrailsOrKeeps}
 use Rattle.ink_stack.specs.Threads.{ThreadsView}
-use Rattle.ink_stack.specs.Undo.{threads_back, threads_spare, threads_stood}
-use Rattle.ink_stack.specs.Outcomes.{Changes, Grows}
-use Rattle.ink_stack.specs.declared.undo.ThreadsPair.{ThreadsPair}
 use Rattle.ink_stack.proofs.Backs.{changed-kept, grown-kept}
 
 module _ {P : Type 0} where

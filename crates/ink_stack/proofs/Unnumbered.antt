@@ -1,8 +1,6 @@
 -- Frames of which none has the number of its Enter.
 use Rattle.std.proofs.Common.{◌≡◌, ◌∙◌, ◌<◌, ◌≤◌, ◌+◌, ◌-◌, ℕ, List, [], ◌∷◌, ◌++◌, Bool, true, false, not, ◌&&◌, is_some, Option, Some, None, ap, arith, drop, get_or, if◌then◌else◌, length, map, nat_eq, refl, reverse, set, sym, take}
-use Rattle.ink_model.specs.Flow.Frames.{FrameOf, is_function, unnumbered_frame}
-use Rattle.ink_model.specs.Flow.Threads.{stale, stale_run}
-use Rattle.ink_stack.specs.Quiet.{is_unnumbered}
+use Rattle.ink_stack.proofs.Common.{FrameOf, is_function, unnumbered_frame, stale, stale_run, is_unnumbered}
 use Rattle.ink_stack.proofs.Numbers.{split_at, split_set}
 
 none_rest : (o : Option ℕ) (b : Bool) → (not (is_some o) && b) ≡ true → (None ≡ o) × (b ≡ true)

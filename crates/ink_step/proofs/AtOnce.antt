@@ -1,28 +1,17 @@
 -- A value is stored at once, and flow goes on.
 use Rattle.std.proofs.Common.{◌≡◌, ◌∙◌, ap, subst, sym, refl, true, false, if◌then◌else◌, is_some, Bool, ℕ, ℤ, List, Option, Some, None, Result, Ok, option_map}
 use Rattle.std.specs.Option.{option_or}
-use Rattle.ink_model.specs.Choices.Choosing.{following}
-use Rattle.ink_model.specs.Run.Configuration.{Configuration}
+use Rattle.ink_step.proofs.Common.{following, Configuration, moved_on, ThreadOf, Next, Outcome, going, next_place, popped, acted, StoryTree, Fault, Value, StepEnds}
 use Rattle.ink_model.specs.Run.Effect.{Effect, context_of, fields_of, or_else}
-use Rattle.ink_model.specs.Flow.Transfers.{moved_on}
-use Rattle.ink_model.specs.Flow.Frames.{ThreadOf}
-use Rattle.ink_model.specs.Run.Move.{Next, Outcome, going}
-use Rattle.ink_model.specs.Run.Place.{next_place}
-use Rattle.ink_model.specs.Values.Stack.{popped}
-use Rattle.ink_model.specs.Run.Step.{acted}
 use Rattle.ink_model.specs.Run.Step.Variables.{assign, declare, storing}
 use Rattle.ink_model.specs.Variables.Store.{Values, store, stored}
-use Rattle.ink_model.specs.Story.Tree.{StoryTree}
 use Rattle.ink_model.specs.Memory.Variables.{is_pointer}
 use Rattle.ink_model.specs.Variables.Access as variables
 use Rattle.ink_model.specs.Variables.Access.{on_pointer}
-use Rattle.ink_model.specs.declared.fault.Fault.{Fault}
 use Rattle.ink_model.specs.declared.fault.Fault.TheVariants.{StackEmpty}
 use Rattle.ink_model.specs.declared.scope.Scope.TheVariants.{Global}
-use Rattle.ink_model.specs.declared.value.Value.{Value}
 use Rattle.ink_model.specs.declared.value.Value.TheVariants as value
 use Rattle.ink_moves.specs.declared.flow.StepEnd.TheVariants as ends
-use Rattle.ink_step.specs.Steps.{StepEnds}
 
 -- ---- what is stored
 

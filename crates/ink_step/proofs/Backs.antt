@@ -1,21 +1,12 @@
 -- Going back to a mark.
 use Rattle.std.proofs.Common.{◌≡◌, ◌∙◌, ◌≤◌, ℕ, Bool, Option, Some, None, ap, arith, map, min, refl, subst, unwrap_or}
-use Rattle.ink_choice.specs.Undo.{choices_stood}
-use Rattle.ink_model.specs.Run.Configuration.{Configuration, map_choice}
-use Rattle.ink_model.specs.Flow.Frames.{map_threads}
-use Rattle.ink_model.specs.Story.Tree.{StoryTree}
+use Rattle.ink_step.proofs.Common.{choices_stood, Configuration, map_choice, map_threads, StoryTree, threads_stood, counts_in, Machine, place_of, stack_stood, counts_stood, globals_stood}
 use Rattle.ink_out.specs.Undo.{output_stood}
-use Rattle.ink_stack.specs.Undo.{threads_stood}
 use Rattle.ink_step.specs.Marks.{Own, capped, config_back, noted_by, own_back, own_of, own_stood, pairs_in, room_in, writes_in}
-use Rattle.ink_step.specs.Standing.{counts_in}
-use Rattle.ink_step.specs.declared.machine.Machine.{Machine}
 use Rattle.ink_step.specs.declared.own.OwnPair.{OwnPair}
 use Rattle.ink_trail.proofs.Undoing.{stood-kept}
 use Rattle.ink_trail.specs.Undo as trails
 use Rattle.ink_trail.specs.Undo.{KeepsTrail, TrailView, stood_at, with_pair, writes_of}
-use Rattle.ink_tree.specs.Nodes.{place_of}
-use Rattle.ink_value.specs.Undo.{stack_stood}
-use Rattle.ink_vars.specs.Undo.{counts_stood, globals_stood}
 
 -- ---- going back
 

@@ -1,21 +1,14 @@
 -- Choices over spots and over places; where they lead.
 use Rattle.std.proofs.Common.{◌≡◌, ◌∙◌, ◌⊎◌, inl, inr, ap, sym, refl, subst, ℕ, List, [], ◌∷◌, map, Bool, true, false, ◌||◌, if◌then◌else◌, slice_get, Option, Some, None, option_map, Ok, Err}
 use Rattle.ink_choice.proofs.Nth.{taken_visible}
-use Rattle.ink_choice.specs.Outcomes.{Takes}
+use Rattle.ink_step.proofs.Common.{Takes, ChoiceOf, Configuration, can_go_on, map_choice, entered_places, StoryTree, Fault, OutOfMemory, Part, or_first, or_more}
 use Rattle.ink_model.specs.Choices.Making.{none_visible, only_invisible, choice_gone, visible}
 use Rattle.ink_model.specs.Choices.Choosing.{chosen, default_asks, default_choice, jumped, open_choice, stopped_by, taken_up}
-use Rattle.ink_model.specs.Run.Configuration.{ChoiceOf, Configuration, can_go_on, map_choice}
 use Rattle.ink_model.specs.Variables.Counts.{CountsOf, one_more}
-use Rattle.ink_model.specs.Run.Entered.{entered_places}
-use Rattle.ink_model.specs.Story.Tree.{StoryTree}
 use Rattle.ink_model.specs.Run.Visits.{all_visited, entering_around, entering_asks}
-use Rattle.ink_model.specs.declared.fault.Fault.{Fault}
-use Rattle.ink_model.specs.declared.fault.Fault.TheVariants.{OutOfMemory}
 use Rattle.ink_model.specs.declared.fault.Refusal.TheVariants as refusal
-use Rattle.ink_model.specs.declared.place.Part.{Part}
 use Rattle.ink_model.proofs.Maps.{first_map, none_visible_map, nth_visible_map, only_invisible_map}
 use Rattle.ink_step.specs.Steps.{Chooses, StepEnds}
-use Rattle.ink_effects.proofs.Bools.{or_first, or_more}
 use Rattle.ink_step.proofs.Follows.{ends_short, or_wider}
 use Rattle.ink_moves.specs.declared.flow.StepEnd.TheVariants as ends
 

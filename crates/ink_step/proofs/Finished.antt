@@ -1,37 +1,16 @@
 -- A step at content that holds no other and calls nothing.
 use Rattle.std.proofs.Common.{◌≡◌, ◌∙◌, ◌||◌, ap, option_map, refl, subst, sym, false, is_some, Bool, List, Option, Some, None, Result, Ok}
 use Rattle.ink_model.specs.Memory.Asks.{acting_asks, asks, content_asks, going_in_asks}
-use Rattle.ink_model.specs.Choices.Choosing.{following, following_asks}
-use Rattle.ink_model.specs.Run.Configuration.{Configuration, current_place}
-use Rattle.ink_model.specs.Run.Effect.{Effect, context_of, fields_of}
-use Rattle.ink_model.specs.Flow.Transfers.{moved_on}
-use Rattle.ink_model.specs.Host.Bindings.{Bound}
-use Rattle.ink_model.specs.Run.Move.{Outcome, Next, going, move, written_in}
+use Rattle.ink_step.proofs.Common.{following, following_asks, Configuration, current_place, Effect, context_of, fields_of, moved_on, Bound, Outcome, Next, going, move, written_in, next_place, Stepped, Comes, Wants, acted, effect, step, Call, call_at, Values, StoryTree, leaf, container, at, Leaf, Fault, Part, takes_first, takes_there, EndsPlainly, StepEnds, config_of, StepEnd, Machine, leaf_in, place_of, Spot}
 use Rattle.ink_model.specs.Memory.Moves.{move_asks, moved_asks}
-use Rattle.ink_model.specs.Run.Place.{next_place}
-use Rattle.ink_model.specs.Run.Step.{Stepped, Comes, Wants, acted, effect, step}
-use Rattle.ink_model.specs.Run.Step.Host.{Call, call_at}
-use Rattle.ink_model.specs.Variables.Store.{Values}
-use Rattle.ink_model.specs.Story.Tree.{StoryTree, leaf, container, at}
-use Rattle.ink_model.specs.declared.content.Leaf.{Leaf}
-use Rattle.ink_model.specs.declared.fault.Fault.{Fault}
-use Rattle.ink_model.specs.declared.place.Part.{Part}
-use Rattle.ink_step.specs.Marks.{takes_first, takes_there}
 use Rattle.ink_effects.specs.Performs.{KeepsThreads, KeepsChoices, Performs, storing_in, unstored}
-use Rattle.ink_step.specs.Steps.{EndsPlainly, StepEnds}
-use Rattle.ink_step.specs.Standing.{config_of}
-use Rattle.ink_moves.specs.declared.flow.StepEnd.{StepEnd}
 use Rattle.ink_moves.specs.declared.flow.StepEnd.TheVariants as ends
-use Rattle.ink_step.specs.declared.machine.Machine.{Machine}
 use Rattle.ink_effects.specs.declared.transfer.Transfer.TheVariants as transfer
 use Rattle.ink_step.proofs.Follows.{ends_after, ends_more, ends_where, kept_stays, offered_stay, or_between}
 use Rattle.ink_step.proofs.Goings.{is_in, stays_in}
 use Rattle.ink_step.proofs.Landed.{ends_performed, goes_on, performs_told}
 use Rattle.ink_step.proofs.Marks.{takes_at}
 use Rattle.ink_step.proofs.Stopping.{ends_stored, stores_none}
-use Rattle.ink_tree.specs.Kept.{leaf_in}
-use Rattle.ink_tree.specs.Nodes.{place_of}
-use Rattle.ink_tree.specs.declared.spot.Spot.{Spot}
 
 -- ---- flow is sent nowhere, and a place comes next
 

@@ -1,33 +1,16 @@
 -- Where flow goes after a content, and so how a step ends.
 use Rattle.std.proofs.Common.{◌≡◌, ◌∙◌, ◌||◌, ap, sym, refl, subst, inl, inr, ℕ, List, map, Bool, true, false, Option, Some, None, Result, Ok, Err}
-use Rattle.ink_model.specs.Choices.Choosing.{following, following_asks}
+use Rattle.ink_step.proofs.Common.{following, following_asks, CountsOf, next_place, Bound, Comes, step, step_at, Values, StoryTree, Fault, OutOfMemory, Part, or_first, or_more, ReachesAs, StepEnds, config_of, counts_in, StepEnd, Machine, place_of, Spot}
 use Rattle.ink_model.specs.Run.Configuration.{ChoiceOf, Configuration, current_place, ended, map_choice, with_choices, with_threads}
-use Rattle.ink_model.specs.Variables.Counts.{CountsOf}
 use Rattle.ink_model.specs.Run.Effect.{Fields, Effect, Moves, Stores, Offers, Lands, Calls, Returns, Forks, Done, Ends, Fails, fields_of, with_fields, with_thread}
 use Rattle.ink_model.specs.Flow.Transfers.{Written, Reached, Reaches, Halts, Breaks, called, depth_of, forked, halt, moved_on, reach, returned}
 use Rattle.ink_model.specs.Flow.Frames.{ThreadOf, ThreadsOf, base_threads, map_threads, mode_in, on_top}
 use Rattle.ink_model.specs.Run.Move.{Outcome, Next, Stop, Faults, end_all, finish, going, landing_outcome, may_enter, move, place_to, reached_in, with_flow, written_in}
 use Rattle.ink_model.specs.Memory.Moves.{dropped_asks, flow_asks, forked_asks, move_asks, moved_asks}
-use Rattle.ink_model.specs.Run.Place.{next_place}
-use Rattle.ink_model.specs.Host.Bindings.{Bound}
-use Rattle.ink_model.specs.Run.Step.{Comes, step, step_at}
-use Rattle.ink_model.specs.Variables.Store.{Values}
 use Rattle.ink_model.specs.Flow.Threads.{dropped, staled}
-use Rattle.ink_model.specs.Story.Tree.{StoryTree}
-use Rattle.ink_model.specs.declared.fault.Fault.{Fault}
-use Rattle.ink_model.specs.declared.fault.Fault.TheVariants.{OutOfMemory}
-use Rattle.ink_model.specs.declared.place.Part.{Part}
-use Rattle.ink_effects.proofs.Bools.{or_first, or_more}
 use Rattle.ink_effects.specs.Performs.{KeepsThreads, KeepsChoices, Performs, offered_by, stored_by, unstored}
-use Rattle.ink_moves.specs.Reaches.{ReachesAs}
-use Rattle.ink_step.specs.Steps.{StepEnds}
-use Rattle.ink_step.specs.Standing.{config_of, counts_in}
-use Rattle.ink_moves.specs.declared.flow.StepEnd.{StepEnd}
 use Rattle.ink_moves.specs.declared.flow.StepEnd.TheVariants as ends
-use Rattle.ink_step.specs.declared.machine.Machine.{Machine}
 use Rattle.ink_effects.specs.declared.transfer.Transfer.TheVariants as transfer
-use Rattle.ink_tree.specs.Nodes.{place_of}
-use Rattle.ink_tree.specs.declared.spot.Spot.{Spot}
 
 -- ---- by cases
 

@@ -2,20 +2,10 @@
 use Rattle.std.proofs.Common.{◌≡◌, ◌∙◌, ap, refl, sym, ℕ, List, [], ◌++◌, Option, Some, None}
 use Rattle.std.proofs.lemmas.List.{append-nil}
 use Rattle.ink_model.specs.Run.Configuration.{put_at, with_counts}
-use Rattle.ink_model.specs.Variables.Counts.{CountsOf}
+use Rattle.ink_step.proofs.Common.{CountsOf, gone_in, StoryTree, leaf, container, at, all_visited, Leaf, Part, config_of, counts_in, Machine, leaf_in, place_of, Spot}
 use Rattle.ink_model.specs.Run.Entered.{passed_at, passed_places}
 use Rattle.ink_model.specs.Flow.Frames.{ThreadsOf, on_top, put_in}
 use Rattle.ink_model.specs.Run.Place.{content_place, first_content_at}
-use Rattle.ink_model.specs.Run.Step.{gone_in}
-use Rattle.ink_model.specs.Story.Tree.{StoryTree, leaf, container, at}
-use Rattle.ink_model.specs.Run.Visits.{all_visited}
-use Rattle.ink_model.specs.declared.content.Leaf.{Leaf}
-use Rattle.ink_model.specs.declared.place.Part.{Part}
-use Rattle.ink_step.specs.Standing.{config_of, counts_in}
-use Rattle.ink_step.specs.declared.machine.Machine.{Machine}
-use Rattle.ink_tree.specs.Kept.{leaf_in}
-use Rattle.ink_tree.specs.Nodes.{place_of}
-use Rattle.ink_tree.specs.declared.spot.Spot.{Spot}
 
 module _ (s : StoryTree) (p : List Part) (m : Machine) (here : Spot) (ts : ThreadsOf Spot) (is : ts ≡ on_top (put_in (Some here)) m.flow.threads.threads) where
   -- the containers on the way were entered, and flow is put at the first content

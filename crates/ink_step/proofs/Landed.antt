@@ -8,33 +8,18 @@ use Rattle.ink_model.specs.Flow.Frames.{ThreadOf, ThreadsOf, mode_in, on_top}
 use Rattle.ink_model.specs.Memory.Refusals.{asks, asks_at}
 use Rattle.ink_model.specs.Run.Move.{going, landed_in, landing_outcome, may_enter, move, place_to, with_flow, written_in}
 use Rattle.ink_model.specs.Memory.Moves.{landed_asks, move_asks, moved_asks, returned_asks}
-use Rattle.ink_model.specs.Run.Place.{content_place, next_place}
-use Rattle.ink_model.specs.Host.Bindings.{Bound}
-use Rattle.ink_model.specs.Run.Step.{Stepped, gone_in, performed, step, step_at}
-use Rattle.ink_model.specs.Run.Step.Host.{Call, call_at}
-use Rattle.ink_model.specs.Variables.Store.{Values}
+use Rattle.ink_step.proofs.Common.{content_place, next_place, Bound, Stepped, gone_in, performed, step, step_at, Call, call_at, Values, StoryTree, at, container, leaf, adds_rows, around, entering_around, Fault, OutOfMemory, Part, ReachesAs, StepEnds, StepEnd, or_first, or_more, leaf_in, place_of}
 use Rattle.ink_model.specs.Flow.Threads.{frame_count, frame_popped, frame_pushed}
-use Rattle.ink_model.specs.Story.Tree.{StoryTree, at, container, leaf}
-use Rattle.ink_model.specs.Run.Visits.{adds_rows, around, entering_around}
-use Rattle.ink_model.specs.declared.fault.Fault.{Fault}
-use Rattle.ink_model.specs.declared.fault.Fault.TheVariants.{OutOfMemory}
 use Rattle.ink_model.specs.declared.frame.FrameKind.{FrameKind}
 use Rattle.ink_model.specs.declared.limits.TheConstants.{MAX_FRAMES}
-use Rattle.ink_model.specs.declared.place.Part.{Part}
 use Rattle.ink_stack.specs.Calls.{frame_kind}
 use Rattle.ink_stack.specs.declared.frame.CallKind.{CallKind}
 use Rattle.ink_effects.specs.Performs.{Performs, landing_of, offered_by, stored_by, unstored}
-use Rattle.ink_moves.specs.Reaches.{ReachesAs}
-use Rattle.ink_step.specs.Steps.{StepEnds}
-use Rattle.ink_moves.specs.declared.flow.StepEnd.{StepEnd}
 use Rattle.ink_moves.specs.declared.flow.StepEnd.TheVariants as ends
 use Rattle.ink_effects.specs.declared.transfer.Assignment.{Assignment}
 use Rattle.ink_effects.specs.declared.transfer.Landing.{Landing}
 use Rattle.ink_effects.specs.declared.transfer.Transfer.TheVariants as transfer
-use Rattle.ink_effects.proofs.Bools.{or_first, or_more}
 use Rattle.ink_step.proofs.Follows.{ends_short, ends_where, or_between, or_neither, or_wider}
-use Rattle.ink_tree.specs.Kept.{leaf_in}
-use Rattle.ink_tree.specs.Nodes.{place_of}
 
 -- flow goes on, or a fault comes
 abbrev pub IsGoing : {P : Type 0} → Reached P → Type 0

@@ -1,3 +1,4 @@
+pub mod Common
 pub mod Follows
 pub mod Marks
 pub mod Storing

@@ -1,38 +1,24 @@
 -- Steps that call turn functions.
 use Rattle.std.proofs.Common.{◌≡◌, ◌∙◌, ◌||◌, ap, sym, refl, subst, inl, inr, ℕ, List, [], Bool, true, false, true≢false, if◌then◌else◌, Option, Some, None, option_map, Bor, Result, Ok, Err}
 use Rattle.ink_model.specs.Memory.Asks.{acting_asks, calling_asks}
-use Rattle.ink_model.specs.Run.Configuration.{Configuration, current_place}
+use Rattle.ink_step.proofs.Common.{Configuration, current_place, move, Values, StoryTree, container, leaf, at, Leaf, Fault, Event, Given, Part, Value, Performs, StepEnd, Transfer, or_more, leaf_in}
 use Rattle.ink_model.specs.Run.Effect.{Fields, Effect, Fails, Moves, fields_of}
 use Rattle.ink_model.specs.Host.Bindings.{Binding, Bound, fits_given, pure_function, turn_function, value_given}
 use Rattle.ink_model.specs.Memory.Refusals.{given_asks}
-use Rattle.ink_model.specs.Run.Move.{move}
 use Rattle.ink_model.specs.Run.Place.{content_place, knot}
 use Rattle.ink_model.specs.Run.Moments.{answered}
 use Rattle.ink_model.specs.Values.Stack.{pushed}
 use Rattle.ink_model.specs.Run.Step.{Stepped, Comes, Wants, acted, call_made, gone_in, performed, step, step_at}
 use Rattle.ink_model.specs.Run.Step.Diverts.{condition}
 use Rattle.ink_model.specs.Run.Step.Host.{Acts, Suspends, Call, CallEffect, answering, arguments_taken, call_at, call_bound, call_external, has_string, or_fails}
-use Rattle.ink_model.specs.Variables.Store.{Values}
-use Rattle.ink_model.specs.Story.Tree.{StoryTree, container, leaf, at}
-use Rattle.ink_model.specs.declared.content.Leaf.{Leaf}
-use Rattle.ink_model.specs.declared.fault.Fault.{Fault}
 use Rattle.ink_model.specs.declared.fault.Fault.TheVariants.{OutOfMemory, UnsafeInString}
-use Rattle.ink_model.specs.declared.host.Event.{Event}
-use Rattle.ink_model.specs.declared.host.Given.{Given}
-use Rattle.ink_model.specs.declared.place.Part.{Part}
-use Rattle.ink_model.specs.declared.value.Value.{Value}
 use Rattle.ink_effects.specs.External.{PerformsCall, is_asking}
-use Rattle.ink_effects.specs.Performs.{Performs}
 use Rattle.ink_moves.specs.Reaches.{went}
 use Rattle.ink_step.specs.Steps.{EndsPlainly, StepEnds, StepMakes, Steps, step_end, wants}
-use Rattle.ink_moves.specs.declared.flow.StepEnd.{StepEnd}
 use Rattle.ink_moves.specs.declared.flow.StepEnd.TheVariants as ends
-use Rattle.ink_effects.specs.declared.transfer.Transfer.{Transfer}
-use Rattle.ink_effects.proofs.Bools.{or_more}
 use Rattle.ink_step.proofs.Follows.{ends_more, ends_short, ends_unperformed, ends_where, never_wants, or_between, or_where}
 use Rattle.ink_effects.proofs.Plain.{IsPlain, plain_else, plain_if, plain_or}
 use Rattle.ink_step.proofs.Stopping.{broke}
-use Rattle.ink_tree.specs.Kept.{leaf_in}
 
 module _ (s : StoryTree) (b : Bound) (n : ℕ) (pressed : Bool) (es : List Event) (globals : Values) (d : Configuration) where
   -- where more asks for memory

@@ -1,12 +1,7 @@
 -- Where a machine goes back to.
 use Rattle.std.proofs.Common.{◌≡◌, ap, map, unwrap_or}
-use Rattle.ink_model.specs.Run.Configuration.{Configuration, map_choice}
-use Rattle.ink_model.specs.Flow.Frames.{map_threads}
-use Rattle.ink_model.specs.Story.Tree.{StoryTree}
+use Rattle.ink_step.proofs.Common.{Configuration, map_choice, map_threads, StoryTree, config_of, counts_in, Machine, place_of}
 use Rattle.ink_step.specs.Marks.{Stood, config_back, marked_at, own_of, stood_of}
-use Rattle.ink_step.specs.Standing.{config_of, counts_in}
-use Rattle.ink_step.specs.declared.machine.Machine.{Machine}
-use Rattle.ink_tree.specs.Nodes.{place_of}
 
 -- the configuration of a machine with the parts that stood at its mark
 abbrev back_by : StoryTree → Machine → Stood → Configuration

@@ -4,29 +4,12 @@ use Rattle.ink_choice.specs.Undo.{choices_spare, choices_stood}
 use Rattle.ink_effects.proofs.Bools.{and_both, or_first, or_more}
 use Rattle.ink_effects.proofs.Rooms.{lacks_more}
 use Rattle.ink_model.specs.Choices.Making.{only_invisible}
-use Rattle.ink_model.specs.Run.Configuration.{Configuration, current_place}
-use Rattle.ink_model.specs.Flow.Frames.{map_threads}
-use Rattle.ink_model.specs.Run.Place.{content_place}
-use Rattle.ink_model.specs.Flow.Threads.{frame_count}
-use Rattle.ink_model.specs.Story.Tree.{StoryTree, leaf, container, at}
-use Rattle.ink_model.specs.Run.Effect.{Fields}
-use Rattle.ink_model.specs.Host.Bindings.{Bound}
-use Rattle.ink_model.specs.Run.Step.{Wants, gone_in, performed, step, step_at}
-use Rattle.ink_model.specs.Run.Step.Host.{Call, call_at}
-use Rattle.ink_model.specs.Run.Visits.{around}
+use Rattle.ink_step.proofs.Common.{Configuration, current_place, map_threads, content_place, frame_count, StoryTree, leaf, container, at, Fields, Bound, Wants, gone_in, performed, step, step_at, Call, call_at, around, Value, Part, threads_spare, threads_stood, config_of, Machine, leaf_in, place_of, counts_spare}
 use Rattle.ink_model.specs.declared.content.Leaf.TheVariants as leaves
-use Rattle.ink_model.specs.declared.value.Value.{Value}
-use Rattle.ink_model.specs.declared.place.Part.{Part}
-use Rattle.ink_stack.specs.Undo.{threads_spare, threads_stood}
 use Rattle.ink_step.specs.Marks.{Stood, choices_lack, counts_lack, keeps_mark, lacks, landing_lacks, own_lacks, own_spare, pressed, presses, stack_lacks, stood_of, takes_first, takes_there, threads_lack, unmarked}
-use Rattle.ink_step.specs.Standing.{config_of}
 use Rattle.ink_moves.specs.declared.flow.TheConstants.{MOVING}
-use Rattle.ink_step.specs.declared.machine.Machine.{Machine}
 use Rattle.ink_step.specs.declared.step.TheConstants.{STEPPING}
-use Rattle.ink_tree.specs.Kept.{leaf_in}
-use Rattle.ink_tree.specs.Nodes.{place_of}
 use Rattle.ink_value.specs.Undo.{stack_spare}
-use Rattle.ink_vars.specs.Undo.{counts_spare}
 
 -- ---- a machine that is pressed
 

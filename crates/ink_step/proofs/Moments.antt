@@ -1,26 +1,13 @@
 -- Runs, moment by moment.
 use Rattle.std.proofs.Common.{◌≡◌, ◌∙◌, ◌⊎◌, ◌++◌, ◌∷◌, ◌&&◌, ◌||◌, ℕ, zero, suc, Bool, true, false, List, Option, Some, None, Result, ◌+◌, ◌-◌, ◌≤◌, ◌<◌, ap, sym, refl, subst, inl, inr, [], Ok, Err, arith, append_assoc}
 use Rattle.std.proofs.lemmas.List.{append-nil, map-append}
-use Rattle.ink_model.specs.Run.Configuration.{Configuration}
-use Rattle.ink_model.specs.Run.Effect.{Fields}
+use Rattle.ink_step.proofs.Common.{Configuration, Fields, Outcome, Next, Stop, Faults, Stepped, Comes, Wants, step, Values, StoryTree, Fault, Event, Given, MAX_STEPS, Value, takes_first, StepEnds, StepMakes, StepEnd}
 use Rattle.ink_model.specs.Host.Events.{calls}
 use Rattle.ink_model.specs.Host.Bindings.{Bound, turn_function}
 use Rattle.ink_model.specs.Memory.Refusals.{GetsTo, answered_asks, asks}
-use Rattle.ink_model.specs.Run.Move.{Outcome, Next, Stop, Faults}
 use Rattle.ink_model.specs.Run.Moments.{Made, Moment, At, Stopped, Faulted, answered, answers_of, came, cut_off, moment, moment_after, next, run}
-use Rattle.ink_model.specs.Run.Step.{Stepped, Comes, Wants, step}
-use Rattle.ink_model.specs.Variables.Store.{Values}
-use Rattle.ink_model.specs.Story.Tree.{StoryTree}
-use Rattle.ink_model.specs.declared.fault.Fault.{Fault}
 use Rattle.ink_model.specs.declared.fault.Fault.TheVariants.{OutOfMemory, OutOfSteps}
-use Rattle.ink_model.specs.declared.host.Event.{Event}
-use Rattle.ink_model.specs.declared.host.Given.{Given}
-use Rattle.ink_model.specs.declared.limits.TheConstants.{MAX_STEPS}
-use Rattle.ink_model.specs.declared.value.Value.{Value}
-use Rattle.ink_step.specs.Marks.{takes_first}
 use Rattle.ink_step.specs.Runs.{AreBound, RunFalls, StepCalls, TakesAt}
-use Rattle.ink_step.specs.Steps.{StepEnds, StepMakes}
-use Rattle.ink_moves.specs.declared.flow.StepEnd.{StepEnd}
 use Rattle.ink_moves.specs.declared.flow.StepEnd.TheVariants as ends
 use Rattle.ink_step.proofs.Follows.{never_wants}
 use Rattle.ink_step.proofs.Marks.{takes_calls}

@@ -1,16 +1,12 @@
 -- Opening a story, from the run of its declarations.
 use Rattle.std.proofs.Common.{◌≡◌, ◌∙◌, ◌⊎◌, ◌++◌, ◌∷◌, ap, sym, refl, subst, inl, inr, Bool, true, false, true≢false, List, [], Option, Some, None, option_map, Result, Ok, Err}
-use Rattle.ink_model.specs.Story.Tree.{StoryTree}
+use Rattle.ink_step.proofs.Common.{StoryTree, Values, MAX_STEPS, Fault, Part}
 use Rattle.ink_model.specs.Run.Place.{landed}
 use Rattle.ink_model.specs.Run.Configuration.{Configuration, fresh_at, start, begun, with_globals}
 use Rattle.ink_model.specs.Host.Bindings.{Bound, nothing_bound}
-use Rattle.ink_model.specs.Variables.Store.{Values}
 use Rattle.ink_model.specs.Memory.Refusals.{CallsAt, GetsTo}
 use Rattle.ink_model.specs.Run.Moments.{Made, Moment, Stopped, moment, cut_off}
-use Rattle.ink_model.specs.declared.limits.TheConstants.{MAX_STEPS}
 use Rattle.ink_model.specs.Run.Opening.{declarations, declaring, opening, opened_by, opened_from}
-use Rattle.ink_model.specs.declared.fault.Fault.{Fault}
-use Rattle.ink_model.specs.declared.place.Part.{Part}
 use Rattle.ink_step.specs.Runs.{AreBound, PressedAt, RunFalls, RunsToStop, TakesAt}
 use Rattle.ink_step.specs.Steps.{FailsToOpen}
 

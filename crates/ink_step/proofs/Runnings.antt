@@ -1,23 +1,14 @@
 -- A run with its desk, step by step.
 use Rattle.std.proofs.Common.{◌≡◌, ◌∙◌, ◌++◌, ◌∷◌, ◌+◌, ◌<◌, ℕ, List, [], Option, Result, Ok, Err, ap, subst, Bool, true, false}
-use Rattle.ink_model.specs.Run.Configuration.{Configuration}
+use Rattle.ink_step.proofs.Common.{Configuration, step, StoryTree, Fault, Event, Given, MAX_STEPS, Value, StepMakes, step_end, StepEnd}
 use Rattle.ink_model.specs.Host.Events.{Made, calls}
 use Rattle.ink_model.specs.Host.Bindings.{Bound as Binds, nothing_bound}
 use Rattle.ink_model.specs.Memory.Refusals.{asks}
-use Rattle.ink_model.specs.Run.Step.{step}
-use Rattle.ink_model.specs.Story.Tree.{StoryTree}
-use Rattle.ink_model.specs.declared.fault.Fault.{Fault}
 use Rattle.ink_model.specs.declared.fault.Fault.TheVariants.{OutOfSteps}
-use Rattle.ink_model.specs.declared.host.Event.{Event}
-use Rattle.ink_model.specs.declared.host.Given.{Given}
-use Rattle.ink_model.specs.declared.limits.TheConstants.{MAX_STEPS}
-use Rattle.ink_model.specs.declared.value.Value.{Value}
 use Rattle.ink_host.specs.Desk.{DeskView, Grew, bound_by, empty_desk}
 use Rattle.ink_host.specs.declared.objects.Called.{Called}
 use Rattle.ink_host.specs.declared.objects.Seen.{Seen}
 use Rattle.ink_step.specs.Runs.{AreBound, RunsToStop}
-use Rattle.ink_step.specs.Steps.{StepMakes, step_end}
-use Rattle.ink_moves.specs.declared.flow.StepEnd.{StepEnd}
 use Rattle.ink_host.proofs.Laws.{bound-same, grew-grew, grew-none}
 use Rattle.ink_step.proofs.Growing.{calls_on}
 use Rattle.ink_step.proofs.Openings.{runs_alone}

@@ -1,13 +1,9 @@
 -- Choices as they are shown are the same among spots and among places.
 use Rattle.std.proofs.Common.{◌≡◌, ◌≢◌, ◌∙◌, ap, sym, refl, List, [], ◌∷◌, map, false, if◌then◌else◌, Result, Ok, Err, OnErr}
 use Rattle.ink_model.specs.Choices.Making.{shown, shown_choice, visible}
-use Rattle.ink_model.specs.Run.Configuration.{ChoiceOf, can_go_on, map_choice}
-use Rattle.ink_model.specs.Story.Tree.{StoryTree}
+use Rattle.ink_step.proofs.Common.{ChoiceOf, can_go_on, map_choice, StoryTree, config_of, Machine, place_of}
 use Rattle.ink_model.specs.Protocol.Turns.{open_choices}
 use Rattle.ink_model.proofs.Maps.{shown_map}
-use Rattle.ink_step.specs.Standing.{config_of}
-use Rattle.ink_step.specs.declared.machine.Machine.{Machine}
-use Rattle.ink_tree.specs.Nodes.{place_of}
 
 -- some are shown where one is visible
 pub some_shown : {P : Type 0} (cs : List (ChoiceOf P)) → visible cs ≢ [] → shown cs ≢ []

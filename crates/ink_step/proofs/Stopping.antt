@@ -1,26 +1,13 @@
 -- Where flow stops it may follow a choice, and then a global is stored.
 use Rattle.std.proofs.Common.{◌≡◌, ◌≢◌, ◌∙◌, ◌||◌, ◌⊎◌, ap, sym, refl, subst, inl, inr, List, Bool, true, false, is_some, Option, Some, None, Result, Ok, Err}
-use Rattle.ink_model.specs.Choices.Choosing.{default_asks, default_choice, following, following_asks, stopped_by}
+use Rattle.ink_step.proofs.Common.{default_asks, default_choice, following, following_asks, stopped_by, ThreadOf, Outcome, Next, Stop, Faults, move, reached_in, written_in, next_place, Values, stored, StoryTree, Fault, OutOfMemory, Part, AsksToStore, Performs, storing_in, unstored, StepEnds, StepEnd, Transfer, or_first}
 use Rattle.ink_model.specs.Run.Configuration.{ChoiceOf, Configuration, with_globals}
 use Rattle.ink_model.specs.Run.Effect.{Fields, Effect, Stores, with_fields, with_thread}
 use Rattle.ink_model.specs.Flow.Transfers.{Reached, Reaches, Halts, Breaks, moved_on}
-use Rattle.ink_model.specs.Flow.Frames.{ThreadOf}
-use Rattle.ink_model.specs.Run.Move.{Outcome, Next, Stop, Faults, move, reached_in, written_in}
-use Rattle.ink_model.specs.Run.Place.{next_place}
-use Rattle.ink_model.specs.Variables.Store.{Values, stored}
-use Rattle.ink_model.specs.Story.Tree.{StoryTree}
-use Rattle.ink_model.specs.declared.fault.Fault.{Fault}
-use Rattle.ink_model.specs.declared.fault.Fault.TheVariants.{OutOfMemory}
-use Rattle.ink_model.specs.declared.place.Part.{Part}
-use Rattle.ink_effects.specs.Performs.{AsksToStore, Performs, storing_in, unstored}
-use Rattle.ink_step.specs.Steps.{StepEnds}
-use Rattle.ink_moves.specs.declared.flow.StepEnd.{StepEnd}
 use Rattle.ink_moves.specs.declared.flow.StepEnd.TheVariants as ends
 use Rattle.ink_effects.specs.declared.transfer.Assignment.{Assignment}
-use Rattle.ink_effects.specs.declared.transfer.Transfer.{Transfer}
 use Rattle.ink_effects.specs.declared.transfer.Transfer.TheVariants as transfer
 use Rattle.ink_vars.specs.Outcomes.{name_of}
-use Rattle.ink_effects.proofs.Bools.{or_first}
 use Rattle.ink_step.proofs.Follows.{ends_short, ends_where, or_between}
 
 module _ (s : StoryTree) where

@@ -2,25 +2,16 @@
 use Rattle.std.proofs.Common.{◌≡◌, ◌&&◌, ◌||◌, refl, ℕ, List, Bool, is_some, true, false, Option, Some, None, Result, Ok, Err}
 use Rattle.ink_model.specs.Story.Acceptance.{lands}
 use Rattle.ink_model.specs.Choices.Making.{added, make}
-use Rattle.ink_model.specs.Run.Configuration.{ChoiceOf}
+use Rattle.ink_step.proofs.Common.{ChoiceOf, StoryTree, container, leaf, Leaf, Fault, Part, AsksToStore, Performs, Transfer, Machine, stack_stood, globals_stood}
 use Rattle.ink_model.specs.Run.Effect.{Context, Fields, Effect, Stores, or_else, or_fault}
 use Rattle.ink_model.specs.Run.Step.{effect, leaf_effect}
 use Rattle.ink_model.specs.Run.Step.Choices.{offering, was_visited}
-use Rattle.ink_model.specs.Story.Tree.{StoryTree, container, leaf}
-use Rattle.ink_model.specs.declared.content.Leaf.{Leaf}
 use Rattle.ink_model.specs.declared.content.Leaf.TheVariants as leaves
-use Rattle.ink_model.specs.declared.fault.Fault.{Fault}
 use Rattle.ink_model.specs.declared.fault.Fault.TheVariants.{BadTarget}
-use Rattle.ink_model.specs.declared.place.Part.{Part}
-use Rattle.ink_effects.specs.Performs.{AsksToStore, Performs}
-use Rattle.ink_effects.specs.declared.transfer.Transfer.{Transfer}
 use Rattle.ink_effects.proofs.Bools.{and_both, or_first, or_more}
 use Rattle.ink_effects.proofs.Effects.{performs_where}
 use Rattle.ink_effects.proofs.Plain.{leaf_plain, stores_plain}
 use Rattle.ink_step.specs.Marks.{keeps_mark, stood_of, takes_there, takes_value}
-use Rattle.ink_step.specs.declared.machine.Machine.{Machine}
-use Rattle.ink_value.specs.Undo.{stack_stood}
-use Rattle.ink_vars.specs.Undo.{globals_stood}
 
 stores_or : {A : Type 0} (asks : Bool) (r : Result A Fault) (so : A → Effect) → ((a : A) → AsksToStore (so a) asks) → AsksToStore (or_fault r so) asks
 stores_or asks (Ok a) so stores = stores a

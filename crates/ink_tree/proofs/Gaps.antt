@@ -4,7 +4,8 @@ use Rattle.ink_tree.proofs.Common.{and_parts, cases_lt, false_from_ne_true, nat_
 use Rattle.ink_tree.proofs.Absent as absent
 use Rattle.ink_tree.proofs.Down.{last_same}
 use Rattle.ink_tree.proofs.Prefixes.{around_above, around_below, below_around}
-use Rattle.ink_tree.proofs.Rising.{numbered_in_order, part_total}
+use Rattle.ink_model.proofs.Orders.{part_total}
+use Rattle.ink_tree.proofs.Rising.{numbered_in_order}
 
 -- ---- places one part down
 

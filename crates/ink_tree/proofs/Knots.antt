@@ -2,7 +2,8 @@
 use Rattle.std.proofs.Common.{◌≡◌, ◌∙◌, ap, sym, refl, ℕ, List, [], ◌∷◌, true, false, true≢false, Option, Some, None, is_some, option_map}
 use Rattle.ink_tree.proofs.Common.{listed_index, knot, StoryTree, leaf, container, by_key, at, Index, Name}
 use Rattle.ink_tree.proofs.Further.{found_there}
-use Rattle.ink_tree.proofs.Standing.{index_stands, listed_within}
+use Rattle.ink_model.proofs.Listed.{listed_within}
+use Rattle.ink_tree.proofs.Standing.{index_stands}
 
 -- what stands at a name is a knot, by key
 pub knot_by_key : (name : List ℕ) (s : StoryTree) → is_some (at s (Name name ∷ [])) ≡ true → Some (Name name ∷ []) ≡ knot name s

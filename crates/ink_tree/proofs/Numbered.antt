@@ -1,6 +1,7 @@
 -- What is kept of the contents of a story is what stands at their places.
 use Rattle.std.proofs.Common.{◌≡◌, ◌∙◌, inl, inr, ap, sym, refl, subst, ℕ, zero, suc, ◌+◌, ◌<◌, ◌≤◌, List, [], ◌∷◌, ◌++◌, length, map, true, false, true≢false, ◌&&◌, nat_le, nat_lt, Option, Some, None, is_some, option_and_then, option_map, slice_get, unwrap_or, append_assoc, arith}
 use Rattle.ink_tree.proofs.Common.{cases_lt, and_parts, false_from_ne_true, nat_tests, append-nil, length-append, length-map, none-some, same_Some, slice_get_within, keys_rise, keys_rise_in, keys_rise_by_key, is_below, Node, places, places_from, places_by_key, StoryTree, leaf, container, Trees, no_trees, tree, Keyed, no_keys, key, nth, by_key, at, count, is_around, Part, Index, Name, KeepsContent, KeepsAll, KeepsAt, Spans, way_to, node_place, IsNode, NodeId}
+use Rattle.ink_json.proofs.Listing.{many, many_from}
 use Rattle.ink_json.specs.Listing.{nodes_of, nodes_from, nodes_by_key, own_node, story_nodes}
 use Rattle.ink_model.specs.Story.View.{own_content}
 use Rattle.ink_tree.proofs.Absent.{absent, lacks}
@@ -10,33 +11,6 @@ use Rattle.ink_tree.proofs.Prefixes.{around_below, below_around}
 use Rattle.ink_tree.proofs.Rising.{one_number, stands_at}
 use Rattle.ink_tree.proofs.Standing.{at_append}
 use Rattle.ink_tree.proofs.Nodes.{at_its_key, further, node_stands}
-
--- ---- as many as there are places
-
-mutual
-  many : (n h : ℕ) (x : Option Part) (t : StoryTree) → length (nodes_of n h x t) ≡ length (places t)
-  many n h x (leaf l) = refl
-  many n h x (container name flags content named) =
-      let inside = nodes_from (n + 1) n 0 content in
-      let by_keys = nodes_by_key (n + 1 + length inside) n named in
-      ap suc (length-append inside by_keys ∙ (λ i. many_from (n + 1) n 0 content i + many_by_key (n + 1 + length inside) n named i)
-      ∙ sym (length-append (places_from 0 content) (places_by_key named)))
-
-  many_from : (n h i : ℕ) (ts : Trees) → length (nodes_from n h i ts) ≡ length (places_from i ts)
-  many_from n h i no_trees = refl
-  many_from n h i (tree t ts) =
-      let first = nodes_of n h (Some (Index i)) t in
-      length-append first (nodes_from (n + length first) h (i + 1) ts)
-      ∙ (λ j. (many n h (Some (Index i)) t ∙ sym (length-map (places t) (λ p. Index i ∷ p))) j + many_from (n + length first) h (i + 1) ts j)
-      ∙ sym (length-append (map (λ p. Index i ∷ p) (places t)) (places_from (i + 1) ts))
-
-  many_by_key : (n h : ℕ) (ks : Keyed) → length (nodes_by_key n h ks) ≡ length (places_by_key ks)
-  many_by_key n h no_keys = refl
-  many_by_key n h (key k t ks) =
-      let first = nodes_of n h (Some (Name k)) t in
-      length-append first (nodes_by_key (n + length first) h ks)
-      ∙ (λ j. (many n h (Some (Name k)) t ∙ sym (length-map (places t) (λ p. Name k ∷ p))) j + many_by_key (n + length first) h ks j)
-      ∙ sym (length-append (map (λ p. Name k ∷ p) (places t)) (places_by_key ks))
 
 module _ (s : StoryTree) where
   -- ---- places from a number on

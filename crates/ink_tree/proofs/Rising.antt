@@ -1,40 +1,12 @@
 -- The places of a story rise in reading order.
 use Rattle.std.proofs.Common.{◌≡◌, ◌∙◌, ℕ, zero, suc, ◌+◌, ◌<◌, List, [], ◌∷◌, ◌++◌, map, Some, slice_get, true, ◌&&◌, Ordering, Less, Equal, Greater, nat_cmp, refl, sym, ap, subst, append_assoc, arith, length, unwrap_or}
-use Rattle.std.specs.Cmp.{IsTotalOrder, nat_cmp_is, ranked}
+use Rattle.std.specs.Cmp.{nat_cmp_is, ranked}
 use Rattle.std.specs.FinMap.{nat_cmp-IsAntisymmetric, slice_cmp-IsAntisymmetric}
 use Rattle.std.specs.List.{AllByRecursion}
-use Rattle.ink_tree.proofs.Common.{nat_cmp_total, nat_list_cmp_total, lists_total, tied_itself, none-some, same_Some, slice_get-get_or, unwrap_or-slice_get, slice_cmp, MatchOrdering, is_lt, ordering_reverse, and_parts, part_order, place_order, keys_rise, keys_rise_in, keys_rise_by_key, is_below, places, places_from, places_by_key, StoryTree, leaf, container, Trees, no_trees, tree, Keyed, no_keys, key, Part, Index, Name, NumbersInOrder, node_place}
+use Rattle.ink_model.proofs.Orders.{part_total, place_total}
+use Rattle.ink_tree.proofs.Common.{tied_itself, none-some, same_Some, slice_get-get_or, unwrap_or-slice_get, slice_cmp, MatchOrdering, is_lt, ordering_reverse, and_parts, part_order, place_order, keys_rise, keys_rise_in, keys_rise_by_key, is_below, places, places_from, places_by_key, StoryTree, leaf, container, Trees, no_trees, tree, Keyed, no_keys, key, Part, Index, Name, NumbersInOrder, node_place}
 
 -- ---- the order of parts and of places
-
-part_antisymm : (x y : Part) → part_order x y ≡ ordering_reverse (part_order y x)
-part_antisymm (Index i) (Index j) = nat_cmp_total.antisymm i j
-part_antisymm (Index i) (Name n) = refl
-part_antisymm (Name m) (Index j) = refl
-part_antisymm (Name m) (Name n) = nat_list_cmp_total.antisymm m n
-
-part_trans : (x y z : Part) → part_order x y ≡ Less → part_order y z ≡ Less → part_order x z ≡ Less
-part_trans (Index i) (Index j) (Index k) h g = nat_cmp_total.trans i j k h g
-part_trans (Index i) (Index j) (Name n) h g = refl
-part_trans (Index i) (Name m) (Index k) h g = absurd cc
-part_trans (Index i) (Name m) (Name n) h g = refl
-part_trans (Name l) (Index j) z h g = absurd cc
-part_trans (Name l) (Name m) (Index k) h g = absurd cc
-part_trans (Name l) (Name m) (Name n) h g = nat_list_cmp_total.trans l m n h g
-
-part_congr : (x y z : Part) → part_order x y ≡ Equal → part_order x z ≡ part_order y z
-part_congr (Index i) (Index j) (Index k) h = nat_cmp_total.congr i j k h
-part_congr (Index i) (Index j) (Name n) h = refl
-part_congr (Index i) (Name m) z h = absurd cc
-part_congr (Name l) (Index j) z h = absurd cc
-part_congr (Name l) (Name m) (Index k) h = refl
-part_congr (Name l) (Name m) (Name n) h = nat_list_cmp_total.congr l m n h
-
-pub part_total : IsTotalOrder part_order
-part_total = record { antisymm = part_antisymm; trans = part_trans; congr = part_congr }
-
-pub place_total : IsTotalOrder place_order
-place_total = lists_total part_total
 
 pub name_same : (m n : List ℕ) → slice_cmp nat_cmp m n ≡ Equal → m ≡ n
 name_same = slice_cmp-IsAntisymmetric nat_cmp-IsAntisymmetric

@@ -1,6 +1,6 @@
 -- Where content stands, and the nodes that are found there.
-use Rattle.std.proofs.Common.{◌≡◌, ◌∙◌, ap, sym, refl, ℕ, zero, suc, ◌+◌, ◌<◌, List, [], ◌∷◌, ◌++◌, Bool, true, false, true≢false, Option, Some, None, is_some, option_map, option_and_then, cond, arith, nat_lt}
-use Rattle.ink_tree.proofs.Common.{nat_tests, listed_index, is_named, named_index, StoryTree, leaf, container, Trees, no_trees, tree, nth, down, at, width, count, Part, Index, node_place, Finds, NodeId}
+use Rattle.std.proofs.Common.{◌≡◌, ◌∙◌, ap, sym, refl, ℕ, zero, suc, ◌+◌, ◌<◌, List, [], ◌∷◌, ◌++◌, Bool, true, false, true≢false, Option, Some, None, is_some, option_map, option_and_then, arith, nat_lt}
+use Rattle.ink_tree.proofs.Common.{nat_tests, StoryTree, leaf, container, Trees, no_trees, tree, nth, down, at, width, count, Part, Index, node_place, Finds, NodeId}
 
 onward : (p q : List Part) → ((u : StoryTree) → at u (p ++ q) ≡ option_and_then (λ t. at t q) (at u p))
     → (o : Option StoryTree) → option_and_then (λ u. at u (p ++ q)) o ≡ option_and_then (λ t. at t q) (option_and_then (λ u. at u p) o)
@@ -37,21 +37,6 @@ module _ (s : StoryTree) (p : List Part) (i : ℕ) where
   index_stands h = let below : nat_lt i (width (at s p)) ≡ true = grind (arith, nat_tests) in index_there ∙ below
 
 -- ---- by name
-
-first_or : (b : Bool) (i n k : ℕ) (rest : Option ℕ) → (rest ≡ Some k → k < suc i + n) → cond b (Some i) rest ≡ Some k → k < i + suc n
-first_or true i n k rest h e = let same : i ≡ k = cc in omega arith
-first_or false i n k rest h e = let below = h e in omega arith
-
-named_within : (name : List ℕ) (i : ℕ) (ts : Trees) (k : ℕ) → named_index name i ts ≡ Some k → k < i + count ts
-named_within name i no_trees k e = absurd cc
-named_within name i (tree (leaf l) ts) k e = omega (arith, named_within name (i + 1) ts k e)
-named_within name i (tree (container own flags content named) ts) k e =
-    first_or (is_named name own) i (count ts) k (named_index name (i + 1) ts) (λ f. omega (arith, named_within name (i + 1) ts k f)) e
-
-pub listed_within : (name : List ℕ) (o : Option StoryTree) (k : ℕ) → listed_index name o ≡ Some k → k < width o
-listed_within name None k e = absurd cc
-listed_within name (Some (leaf l)) k e = absurd cc
-listed_within name (Some (container own flags content named)) k e = omega (arith, named_within name 0 content k e)
 
 -- ---- nodes
 

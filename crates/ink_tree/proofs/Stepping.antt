@@ -2,7 +2,8 @@
 use Rattle.std.proofs.Common.{◌≡◌, ◌∙◌, ap, sym, refl, add-one, drop-cons, drop, get_or, length, suc, ◌+◌, ℕ, ◌<◌, List, [], ◌∷◌, ◌++◌, true, Option, Some, None, is_some, option_map, option_and_then, arith}
 use Rattle.ink_tree.proofs.Common.{keys_rise, by_name, listed_index, stepped, walked, StoryTree, at, width, Part, Index, Name, node_place, Finds, NodeId}
 use Rattle.ink_tree.proofs.Nodes.{node_stands}
-use Rattle.ink_tree.proofs.Standing.{index_stands, listed_within, there, index_there}
+use Rattle.ink_model.proofs.Listed.{listed_within}
+use Rattle.ink_tree.proofs.Standing.{index_stands, there, index_there}
 
 module _ (s : StoryTree) (p : List Part) where
   -- by an index

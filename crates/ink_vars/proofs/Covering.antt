@@ -1,16 +1,10 @@
 -- Globals that are put back were noted, so that what they were at the moment stays known.
 use Rattle.std.proofs.Common.{◌≡◌, ◌≢◌, ◌∙◌, ◌⊎◌, ◌≤◌, ◌<◌, ◌+◌, ◌-◌, ℕ, zero, suc, Bool, true, false, bytes_eq, eqb, if◌then◌else◌, List, [], ◌∷◌, ◌++◌, Option, Some, None, ap, arith, inl, inr, is_some, length, refl, subst, sym}
-use Rattle.std.proofs.lemmas.Bool.{cases_Bool, cases_lt, eq-eqb, eqb-true}
-use Rattle.std.specs.Option.{option_or}
-use Rattle.ink_vars.specs.Globals.{set_value_at}
-use Rattle.ink_model.specs.Variables.Store.{Values, stored}
-use Rattle.ink_model.specs.declared.value.Value.{Value}
+use Rattle.ink_vars.proofs.Common.{cases_Bool, cases_lt, eq-eqb, eqb-true, option_or, set_value_at, Values, stored, Value, DifferInName, Before}
 use Rattle.ink_trail.specs.Undo.{Undo, but_last, trail_of, with_pair}
 use Rattle.ink_vars.specs.Changes.{AreNew, NotesFit, as_it_was, as_they_were, noted_at, number_of, with_noted}
-use Rattle.ink_vars.specs.Globals.{DifferInName}
 use Rattle.ink_vars.specs.Undo.{Covers, NewAt, global_back}
 use Rattle.ink_vars.specs.Views.{ChangesView}
-use Rattle.ink_vars.specs.declared.changes.Before.{Before}
 use Rattle.ink_vars.specs.declared.undo.GlobalPair.{GlobalPair}
 use Rattle.ink_vars.specs.declared.undo.GlobalPair.TheVariants.{Added, Changed}
 use Rattle.ink_vars.proofs.Marking.{noted_more}

@@ -1,12 +1,8 @@
 -- Notes that fit the globals, also after one is stored.
 use Rattle.std.proofs.Common.{◌≡◌, ◌∙◌, ◌+◌, ◌<◌, ◌≤◌, ◌⊎◌, ℕ, suc, Bool, true, false, bytes_eq, if◌then◌else◌, List, [], ◌∷◌, Option, Some, None, Result, Ok, Err, OnErr, OnOk, ap, arith, inl, inr, is_ok, is_some, length, refl, subst, sym}
-use Rattle.std.proofs.lemmas.Slice.Eq.{bytes_eq-Decides}
-use Rattle.ink_model.specs.Variables.Store.{Values, stored, store}
-use Rattle.ink_model.specs.declared.value.Value.{Value}
+use Rattle.ink_vars.proofs.Common.{bytes_eq-Decides, Values, stored, store, Value, DifferInName, Before}
 use Rattle.ink_vars.specs.Changes.{AreNew, NotesFit, Tracks, as_it_was, as_they_were, noted_at, number_of}
-use Rattle.ink_vars.specs.Globals.{DifferInName}
 use Rattle.ink_vars.specs.Views.{ChangesView}
-use Rattle.ink_vars.specs.declared.changes.Before.{Before}
 use Rattle.ink_vars.proofs.Changing.{absent_then}
 use Rattle.ink_vars.proofs.Naming.{other_way}
 use Rattle.ink_vars.proofs.Noting.{either_way, none_noted, none_of}

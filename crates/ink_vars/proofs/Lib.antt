@@ -1,3 +1,4 @@
+pub mod Common
 pub mod Chains
 pub mod Naming
 pub mod Rows

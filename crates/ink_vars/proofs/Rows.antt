@@ -3,14 +3,10 @@ use Rattle.std.proofs.Common.{◌≡◌, ◌∙◌, ◌<◌, ℕ, zero, suc, Boo
 use Rattle.std.proofs.lemmas.List.{length-append}
 use Rattle.std.proofs.lemmas.Option.{slice_get_past}
 use Rattle.std.specs.Slice.{IsItemAt}
-use Rattle.ink_model.specs.Variables.Store.{Values, store, stored}
-use Rattle.ink_model.specs.declared.value.Value.{Value}
+use Rattle.ink_vars.proofs.Common.{Values, store, stored, Value, but_last, number_of, DifferInName, rows_of, set_value_at}
 use Rattle.ink_names.specs.Names as names
-use Rattle.ink_trail.specs.Undo.{but_last}
 use Rattle.ink_vars.proofs.Noting.{none_of}
 use Rattle.ink_vars.proofs.Taking.{written_over}
-use Rattle.ink_vars.specs.Changes.{number_of}
-use Rattle.ink_vars.specs.Globals.{DifferInName, rows_of, set_value_at}
 
 -- ---- what a slice gives
 

@@ -1,18 +1,13 @@
 -- Rows of counts that are put back, and their slots.
 use Rattle.std.proofs.Common.{◌≡◌, ◌∙◌, ◌≤◌, ◌<◌, ◌+◌, ◌-◌, ℕ, List, [], ◌∷◌, Bool, true, false, IfSome, Option, None, Some, if◌then◌else◌, ap, arith, length, nat_lt, refl, subst, sym, unwrap_or, ◌||◌}
-use Rattle.std.proofs.lemmas.Bool.Decides.{nat_tests}
-use Rattle.std.specs.Ordering.{nat_cmp}
+use Rattle.ink_vars.proofs.Common.{nat_tests, nat_cmp, row, with_row, MAX_COUNT, AreCounts, rows_from, with_slot, CountPair}
 use Rattle.ink_model.specs.Variables.Counts.{CountsOf, counts, one_more, visited}
 use Rattle.ink_model.specs.Story.Flags.{counts_at_start, counts_visits, notes_turns}
-use Rattle.ink_model.specs.Variables.Rows.{row, with_row}
-use Rattle.ink_model.specs.declared.limits.TheConstants.{MAX_COUNT}
 use Rattle.ink_trail.proofs.Undoing.{trails-trails, trails-where}
 use Rattle.ink_trail.specs.Undo.{TrailView, Trails, Undo, trail_of, with_pair}
 use Rattle.ink_vars.proofs.Numbered.{count_at, row_at}
 use Rattle.ink_vars.proofs.Restored.{was_put, was_same}
-use Rattle.ink_vars.specs.Slots.{AreCounts, rows_from, with_slot}
 use Rattle.ink_vars.specs.Undo.{HasSlot, HaveSlots, counts_back, rows_of, with_rows, with_wanted}
-use Rattle.ink_vars.specs.declared.undo.CountPair.{CountPair}
 use Rattle.ink_vars.specs.declared.undo.CountPair.TheVariants.{Visits, Turn}
 
 -- ---- slots

@@ -1,13 +1,9 @@
 -- What is put back of globals.
 use Rattle.std.proofs.Common.{◌≡◌, ◌∙◌, Option, ◌≤◌, ◌<◌, ℕ, suc, List, [], ◌∷◌, None, Some, ap, arith, bytes_eq, false, true, Bool, if◌then◌else◌, length, refl}
-use Rattle.ink_vars.specs.Globals.{set_value_at}
-use Rattle.ink_model.specs.Variables.Store.{Values, store, stored}
-use Rattle.ink_model.specs.declared.value.Value.{Value}
-use Rattle.ink_vars.specs.Changes.{number_of}
+use Rattle.ink_vars.proofs.Common.{set_value_at, Values, store, stored, Value, number_of, but_last}
 use Rattle.ink_vars.proofs.Naming.{store_new}
 use Rattle.ink_vars.proofs.Numbers.{number_there}
 use Rattle.ink_trail.proofs.Ending.{but_last-snoc}
-use Rattle.ink_trail.specs.Undo.{but_last}
 
 -- a new global comes last
 pub added : (name : List ℕ) (v : Value) (rows : Values) → stored name rows ≡ None → but_last (store name v rows) ≡ rows

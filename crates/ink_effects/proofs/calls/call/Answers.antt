@@ -1,11 +1,7 @@
-use Rattle.ink_check.specs.Standing.{story_tree}
+use Rattle.ink_effects.proofs.Common.{story_tree, frame_kind, fields, seen_by, place_of}
 use Rattle.ink_model.specs.Run.Step.Calls.{call_to}
-use Rattle.ink_stack.specs.Calls.{frame_kind}
-use Rattle.ink_effects.specs.Performs.{fields}
-use Rattle.ink_effects.specs.Standing.{seen_by}
 use Rattle.ink_effects.proofs.Leading.{passed, performed}
 use Rattle.ink_effects.proofs.calls.call.Goals as goal
-use Rattle.ink_tree.specs.Nodes.{place_of}
 
 pub returns-in-Ok-true-clause-effect : goal.returns-in-Ok-true-clause-effect
 returns-in-Ok-true-clause-effect c evaluating fresh page rest =

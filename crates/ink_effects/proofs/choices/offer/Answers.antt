@@ -1,10 +1,9 @@
 use Rattle.std.proofs.Common.{◌<◌, Ok, arith, length, subst}
-use Rattle.ink_check.specs.Standing.{story_tree}
+use Rattle.ink_effects.proofs.Common.{story_tree, place_of}
 use Rattle.ink_choice.specs.Outcomes.{Makes}
 use Rattle.ink_model.specs.Choices.Making.{make}
 use Rattle.ink_effects.proofs.Offered.{keeps_none, keeps_one, offers_fault, offers_none, offers_nowhere, offers_one}
 use Rattle.ink_effects.proofs.choices.offer.Goals as goal
-use Rattle.ink_tree.specs.Nodes.{place_of}
 use Rattle.ink_value.specs.Undo.{stack_spare}
 
 pub returns-in_default-clause-effect : goal.returns-in_default-clause-effect

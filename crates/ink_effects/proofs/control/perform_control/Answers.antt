@@ -1,12 +1,11 @@
 use Rattle.std.proofs.Common.{◌∙◌, ap, subst, sym}
-use Rattle.ink_check.specs.Standing.{story_tree}
+use Rattle.ink_effects.proofs.Common.{story_tree, place_of}
 use Rattle.ink_model.specs.Flow.Frames.{fresh_depth, mode_in, on_top}
 use Rattle.ink_model.specs.Memory.Refusals.{control_asks}
 use Rattle.ink_model.specs.Run.Step.{control_effect}
 use Rattle.ink_effects.specs.Flows.{fields_of_flow, seen_in}
 use Rattle.ink_effects.specs.Performs.{Performs, fields, fields_in, leading}
 use Rattle.ink_effects.proofs.control.perform_control.Goals as goal
-use Rattle.ink_tree.specs.Nodes.{place_of}
 
 pub returns-clause-effect : goal.returns-clause-effect
 returns-clause-effect c globals =

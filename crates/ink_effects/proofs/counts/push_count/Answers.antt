@@ -1,16 +1,11 @@
 use Rattle.std.proofs.Common.{◌≡◌, ◌∙◌, ap, refl, Err, option_map, rules}
-use Rattle.ink_check.specs.Standing.{story_tree}
+use Rattle.ink_effects.proofs.Common.{story_tree, Leaves, pushed, visits_in, seen_by, node_place, place_of}
 use Rattle.ink_model.specs.Story.Acceptance.{leads}
-use Rattle.ink_model.specs.Memory.Refusals.{Leaves}
-use Rattle.ink_model.specs.Values.Stack.{pushed}
 use Rattle.ink_model.specs.declared.value.Value.TheVariants as value
 use Rattle.ink_effects.proofs.Asked.{visits_fail, visits_pushed}
 use Rattle.ink_effects.proofs.Landings.{count_leads}
 use Rattle.ink_effects.proofs.counts.push_count.Goals as goal
 use Rattle.ink_effects.proofs.counts.push_count.Goals.{After-counted}
-use Rattle.ink_effects.specs.Asked.{visits_in}
-use Rattle.ink_effects.specs.Standing.{seen_by}
-use Rattle.ink_tree.specs.Nodes.{node_place, place_of}
 
 -- the container that is counted is where the path leads
 there : (c : After-counted) → let s = story_tree c.args.story.now in option_map (node_place s) c.counted.result ≡ leads s (place_of s c.args.here) c.args.path.now

@@ -1,12 +1,8 @@
 use Rattle.std.proofs.Common.{◌≡◌, Err, rules}
-use Rattle.ink_check.specs.Standing.{story_tree}
-use Rattle.ink_model.specs.Values.Stack.{popped}
+use Rattle.ink_effects.proofs.Common.{story_tree, popped, Answers, seen_by, place_of}
 use Rattle.ink_model.specs.Run.Step.Counts.{visits_there}
 use Rattle.ink_effects.proofs.Asked.{asks_in_vain, asks_there}
 use Rattle.ink_effects.proofs.counts.push_read_count.Goals as goal
-use Rattle.ink_effects.specs.Asked.{Answers}
-use Rattle.ink_effects.specs.Standing.{seen_by}
-use Rattle.ink_tree.specs.Nodes.{place_of}
 
 pub returns-in_err-visits-clause-effect : goal.returns-in_err-visits-clause-effect
 returns-in_err-visits-clause-effect c threads rest evaluating fresh page globals t =

@@ -1,10 +1,7 @@
-use Rattle.ink_check.specs.Standing.{story_tree}
+use Rattle.ink_effects.proofs.Common.{story_tree, fields, seen_by, place_of}
 use Rattle.ink_model.specs.Run.Step.Diverts.{divert_to}
-use Rattle.ink_effects.specs.Performs.{fields}
-use Rattle.ink_effects.specs.Standing.{seen_by}
 use Rattle.ink_effects.proofs.Leading.{passed, performed}
 use Rattle.ink_effects.proofs.diverts.divert.Goals as goal
-use Rattle.ink_tree.specs.Nodes.{place_of}
 
 pub returns-in-Ok-true-clause-effect : goal.returns-in-Ok-true-clause-effect
 returns-in-Ok-true-clause-effect c evaluating fresh page rest =

@@ -1,14 +1,9 @@
 use Rattle.std.proofs.Common.{◌≡◌, ◌∙◌, ap, false, refl, subst, Ok}
-use Rattle.ink_check.specs.Standing.{story_tree}
+use Rattle.ink_effects.proofs.Common.{story_tree, led_by, led_to, read, Performs, fields, landing_of, leading, seen_by, place_of}
 use Rattle.ink_model.specs.Run.Effect.{Lands, or_fault}
-use Rattle.ink_model.specs.Run.Step.Diverts.{led_by, led_to}
-use Rattle.ink_model.specs.Variables.Access.{read}
 use Rattle.ink_effects.proofs.Landings.{held_to, written_to}
 use Rattle.ink_effects.proofs.Leading.{lands_there, leads_nowhere}
 use Rattle.ink_effects.proofs.diverts.land.Goals as goal
-use Rattle.ink_effects.specs.Performs.{Performs, fields, landing_of, leading}
-use Rattle.ink_effects.specs.Standing.{seen_by}
-use Rattle.ink_tree.specs.Nodes.{place_of}
 
 pub returns-in-Some : goal.returns-in-Some
 returns-in-Some c evaluating fresh stack page rest =

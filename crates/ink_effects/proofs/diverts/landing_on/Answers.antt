@@ -1,9 +1,8 @@
 use Rattle.std.proofs.Common.{◌≡◌, ◌∙◌, ap, Some, None, subst}
-use Rattle.ink_check.specs.Standing.{story_tree}
+use Rattle.ink_effects.proofs.Common.{story_tree, node_place, place_of}
 use Rattle.ink_model.specs.Story.Path.{ends_in_index, target}
 use Rattle.ink_effects.proofs.Landings.{landed_nowhere, landed_on, root_is}
 use Rattle.ink_effects.proofs.diverts.landing_on.Goals as goal
-use Rattle.ink_tree.specs.Nodes.{node_place, place_of}
 
 pub returns-in_err-place : goal.returns-in_err-place
 returns-in_err-place c =

@@ -1,9 +1,7 @@
 use Rattle.std.proofs.Common.{◌≡◌, None, subst}
-use Rattle.ink_check.specs.Standing.{story_tree}
-use Rattle.ink_model.specs.Story.Tree.{at}
+use Rattle.ink_effects.proofs.Common.{story_tree, at, place_of}
 use Rattle.ink_effects.proofs.Landings.{unnumbered}
 use Rattle.ink_effects.proofs.diverts.number_of.Goals as goal
-use Rattle.ink_tree.specs.Nodes.{place_of}
 
 pub returns-in_default : goal.returns-in_default
 returns-in_default c =

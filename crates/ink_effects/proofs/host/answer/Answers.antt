@@ -1,7 +1,6 @@
 use Rattle.std.proofs.Common.{◌∙◌, subst, sym, Some}
-use Rattle.ink_model.specs.Memory.Refusals.{given_asks}
+use Rattle.ink_effects.proofs.Common.{given_asks, Performs, fields}
 use Rattle.ink_model.specs.Run.Step.Host.{answering}
-use Rattle.ink_effects.specs.Performs.{Performs, fields}
 use Rattle.ink_effects.proofs.Puts.{answers_it}
 use Rattle.ink_effects.proofs.host.answer.Goals as goal
 

@@ -1,8 +1,5 @@
 use Rattle.std.proofs.Common.{◌∙◌, [], ap, false, Some, sym}
-use Rattle.ink_check.specs.Standing.{story_tree}
-use Rattle.ink_host.proofs.Laws.{grew-none}
-use Rattle.ink_host.specs.Telling.{log_of}
-use Rattle.ink_effects.specs.Performs.{fields}
+use Rattle.ink_effects.proofs.Common.{story_tree, grew-none, log_of, fields}
 use Rattle.ink_effects.proofs.Asking.{none_called, pure_called, turn_called}
 use Rattle.ink_effects.proofs.Externals.{pure_there}
 use Rattle.ink_effects.proofs.Refusals.{keeps_all, stops_kept}

@@ -1,9 +1,6 @@
 use Rattle.std.proofs.Common.{◌≤◌, [], None, arith, false, length, inl}
-use Rattle.ink_check.specs.Standing.{story_tree}
-use Rattle.ink_host.proofs.Laws.{grew-none}
+use Rattle.ink_effects.proofs.Common.{story_tree, grew-none, log_of, fields}
 use Rattle.ink_host.specs.Desk.{bound_by}
-use Rattle.ink_host.specs.Telling.{log_of}
-use Rattle.ink_effects.specs.Performs.{fields}
 use Rattle.ink_effects.proofs.Externals.{condition_below, where_fault, where_unwanted, where_wanted}
 use Rattle.ink_effects.proofs.Refusals.{keeps_all}
 use Rattle.ink_effects.proofs.host.call_external.Goals as goal

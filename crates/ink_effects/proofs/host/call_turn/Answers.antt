@@ -1,10 +1,6 @@
 use Rattle.std.proofs.Common.{◌≡◌, ◌∙◌, ap, refl, rules, sym, Err, [], inl, Ok, Result}
-use Rattle.ink_host.proofs.Laws.{grew-none}
-use Rattle.ink_host.specs.Telling.{log_of}
-use Rattle.ink_effects.specs.Performs.{fields}
+use Rattle.ink_effects.proofs.Common.{grew-none, log_of, fields, Fault, Given}
 use Rattle.ink_effects.proofs.Externals.{there, turn_failed, turn_gave, unlent_turn, unsafe_turn}
-use Rattle.ink_model.specs.declared.fault.Fault.{Fault}
-use Rattle.ink_model.specs.declared.host.Given.{Given}
 use Rattle.ink_effects.proofs.Refusals.{called_so, keeps_all, stops_kept}
 use Rattle.ink_effects.proofs.host.call_turn.Goals as goal
 

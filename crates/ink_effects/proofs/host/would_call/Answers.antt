@@ -1,8 +1,7 @@
 use Rattle.std.proofs.Common.{◌≡◌, ◌∙◌, ap, false, option_map, sym, Some}
 use Rattle.ink_host.specs.Desk.{at, kind_of}
 use Rattle.ink_host.specs.declared.objects.FnKind.TheVariants as kind
-use Rattle.ink_model.specs.Run.Step.Host.{has_string}
-use Rattle.ink_effects.specs.Performs.{fields}
+use Rattle.ink_effects.proofs.Common.{has_string, fields}
 use Rattle.ink_effects.proofs.Asking.{lent_whole, none_asks, pure_asks, straight, turn_asks, under_false, under_true}
 use Rattle.ink_effects.proofs.host.would_call.Given as given
 use Rattle.ink_effects.proofs.host.would_call.Goals as goal

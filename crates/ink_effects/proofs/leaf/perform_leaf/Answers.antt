@@ -1,26 +1,14 @@
 use Rattle.std.proofs.Common.{◌≡◌, ◌∙◌, List, OnOk, Result, Some, ap, inl, inr, of_z, refl, rules, subst, sym, to_z, to_z-of_z, w32}
-use Rattle.ink_check.specs.Standing.{story_tree}
-use Rattle.ink_model.specs.Run.Configuration.{ChoiceOf}
-use Rattle.ink_model.specs.Run.Effect.{Effect, Fields}
-use Rattle.ink_model.specs.Flow.Frames.{ThreadsOf}
-use Rattle.ink_model.specs.Text.Page.{Page}
-use Rattle.ink_model.specs.Variables.Store.{Values}
-use Rattle.ink_model.specs.Story.Tree.{StoryTree, leaf}
-use Rattle.ink_model.specs.declared.content.Leaf.{Leaf}
-use Rattle.ink_model.specs.declared.fault.Fault.{Fault}
+use Rattle.ink_effects.proofs.Common.{story_tree, ChoiceOf, Effect, Fields, ThreadsOf, Page, Values, StoryTree, leaf, Leaf, Fault, Value, Transfer, place_of, Spot}
 use Rattle.ink_model.specs.declared.scope.Scope.TheVariants.{Global, Temporary}
-use Rattle.ink_model.specs.declared.value.Value.{Value}
 use Rattle.ink_effects.specs.Flows.{fields_of_flow, leaf_asks_in, leaf_effect_in}
 use Rattle.ink_effects.specs.Performs.{KeepsThreads, KeepsChoices, Performs, fields_in, leading}
 use Rattle.ink_effects.specs.Standing.{Rest, rest_in, seen_by}
-use Rattle.ink_effects.specs.declared.transfer.Transfer.{Transfer}
 use Rattle.ink_effects.proofs.Landings.{leaf_landing}
 use Rattle.ink_effects.proofs.Stored.{fields_kept}
 use Rattle.ink_effects.proofs.Plain.{IsPlainLeaf, assign_offers_none, control_plain, declare_offers_none, keeps_plain, leaf_plain, offer_stores_none, offers_plain, when_ok}
 use Rattle.ink_effects.proofs.leaf.perform_leaf.Goals as goal
 use Rattle.ink_effects.proofs.leaf.perform_leaf.Goals.{Start}
-use Rattle.ink_tree.specs.Nodes.{place_of}
-use Rattle.ink_tree.specs.declared.spot.Spot.{Spot}
 
 -- ---- what is performed, where
 

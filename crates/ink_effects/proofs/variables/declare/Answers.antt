@@ -1,9 +1,7 @@
 use Rattle.std.proofs.Common.{◌≡◌, Some, is_some, subst}
-use Rattle.ink_model.specs.Values.Stack.{popped}
-use Rattle.ink_value.specs.Undo.{stack_stood}
+use Rattle.ink_effects.proofs.Common.{popped, stack_stood, fields, leading}
 use Rattle.ink_effects.specs.Stacks.{Pops}
 use Rattle.ink_effects.proofs.Effects.{performs_or}
-use Rattle.ink_effects.specs.Performs.{fields, leading}
 use Rattle.ink_effects.proofs.Stored.{declares_keeping, declares_nowhere, declares_there}
 use Rattle.ink_effects.proofs.variables.declare.Goals as goal
 

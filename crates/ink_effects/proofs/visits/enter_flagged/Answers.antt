@@ -3,8 +3,7 @@ use Rattle.std.proofs.lemmas.Result.{on_err_weaker, on_ok_weaker}
 use Rattle.ink_model.specs.Variables.Counts.{adds_row, visited}
 use Rattle.ink_model.specs.Run.Entered.{flags_at}
 use Rattle.ink_model.specs.Variables.Rows.{place_order}
-use Rattle.ink_model.specs.Story.Tree.{at}
-use Rattle.ink_effects.specs.Standing.{counts_in}
+use Rattle.ink_effects.proofs.Common.{at, counts_in}
 use Rattle.ink_effects.proofs.Entering.{adds_at, lacks_row, visited_at}
 use Rattle.ink_effects.proofs.visits.enter_flagged.Goals as goal
 use Rattle.ink_tree.specs.Nodes.{node_place, story_tree}

@@ -1,10 +1,8 @@
 use Rattle.std.proofs.Common.{◌≡◌, ◌∙◌, ap, inl, option_map, rules, sym}
 use Rattle.std.proofs.lemmas.Result.{on_err_weaker}
-use Rattle.ink_model.specs.Run.Visits.{adds_rows}
-use Rattle.ink_effects.specs.Standing.{counts_in}
+use Rattle.ink_effects.proofs.Common.{adds_rows, counts_in, still_entered}
 use Rattle.ink_effects.proofs.visits.enter_landed.Goals as goal
 use Rattle.ink_tree.specs.Nodes.{place_of, story_tree}
-use Rattle.ink_tree.specs.Walks.{still_entered}
 
 pub returns-clause-memory : goal.returns-clause-memory
 returns-clause-memory c =

@@ -1,9 +1,7 @@
 use Rattle.std.proofs.Common.{◌≡◌, ◌∙◌, ap, inl, inr, None, rules, sym}
 use Rattle.std.proofs.lemmas.Result.{err_from_is_err_and}
 use Rattle.ink_model.specs.Run.Entered.{passed_places}
-use Rattle.ink_model.specs.Story.Tree.{at}
-use Rattle.ink_model.specs.Run.Visits.{adds_rows}
-use Rattle.ink_effects.specs.Standing.{counts_in}
+use Rattle.ink_effects.proofs.Common.{at, adds_rows, counts_in}
 use Rattle.ink_effects.proofs.Entering.{enters_adds, enters_more, last_adds}
 use Rattle.ink_effects.proofs.visits.enter_passed.Goals as goal
 use Rattle.ink_tree.specs.Kept.{leaf_in}

@@ -2,8 +2,7 @@ use Rattle.std.proofs.Common.{◌≡◌, ◌≤◌, ◌<◌, ◌*◌, ◌^◌, a
 use Rattle.ink_effects.proofs.Rooms.{counts_room, lacks_few}
 use Rattle.ink_effects.proofs.visits.make_entering_room.Goals as goal
 use Rattle.ink_tree.specs.Nodes.{place_of, story_tree}
-use Rattle.ink_tree.specs.Walks.{still_entered}
-use Rattle.ink_vars.specs.Undo.{counts_spare, counts_stood}
+use Rattle.ink_effects.proofs.Common.{still_entered, counts_spare, counts_stood}
 
 -- no machine has so much room
 pub returns-in-None-clause-memory : goal.returns-in-None-clause-memory

@@ -1,14 +1,9 @@
 use Rattle.std.proofs.Common.{◌≡◌, ◌+◌, ◌++◌, [], true, false, cond, None, Ok, length, refl, ap, ap₂, sym, subst, ◌∙◌, arith}
-use Rattle.std.proofs.lemmas.List.{append-nil}
+use Rattle.ink_json.proofs.Common.{append-nil, array, item, items_size, members_size, size_positive, count_keys, Leaf}
 use Rattle.std.proofs.lemmas.Result.{err_from_is_err_and}
-use Rattle.serde_json.specs.Data.{array, item}
-use Rattle.json_tape.specs.Size.{items_size, members_size}
 use Rattle.json_tape.specs.Value.{json_data, items_left, members_of, Entry, members_data}
-use Rattle.json_tape.proofs.Counts.{size_positive}
 use Rattle.ink_model.specs.Story.Grammar.{with_name, name_of, name_in, flags_of, own_of, own_after, content, content_of, tree_of, faults_inside, faults_keyed, faults_by, keyed_in, keyed_last, keyed_by, first}
 use Rattle.ink_model.specs.Story.Tree.{container, count, key, tree, no_keys}
-use Rattle.ink_model.specs.Story.View.{count_keys}
-use Rattle.ink_model.specs.declared.content.Leaf.{Leaf}
 use Rattle.ink_json.specs.Listing.{Lists, nodes_from, nodes_by_key, nodes_inside}
 use Rattle.ink_json.specs.Reading.{IsFirst, is_whole}
 use Rattle.ink_json.proofs.Containers.{own_only, first_ok, fails_first, keyed_takes, container_unsound, container_misnamed, container_takes, container_stops, container_read, keyed_is, keyed_members, last_within, element_goes, element_stops, own_key_faults, key_stops, key_goes}

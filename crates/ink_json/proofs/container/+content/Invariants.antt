@@ -1,10 +1,7 @@
 use Rattle.std.proofs.Common.{◌≡◌, ◌*◌, ◌+◌, ◌≤◌, ℕ, List, [], ◌++◌, length}
-use Rattle.serde_json.specs.Data.{item}
-use Rattle.json_tape.specs.Size.{size, items_size, members_size}
+use Rattle.ink_json.proofs.Common.{item, size, items_size, members_size, count, count_keys}
 use Rattle.json_tape.specs.Value.{json_data, items_left, members_data}
 use Rattle.ink_model.specs.Story.Grammar.{content_of, keyed_by, faults_inside, faults_by, own_after}
-use Rattle.ink_model.specs.Story.Tree.{count}
-use Rattle.ink_model.specs.Story.View.{count_keys}
 use Rattle.ink_json.specs.Listing.{nodes_from, nodes_by_key}
 use Rattle.ink_json.specs.Reading.{Holds}
 use Rattle.ink_json.proofs.container.+content.Given as goal

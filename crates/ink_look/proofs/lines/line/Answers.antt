@@ -1,9 +1,7 @@
 use Rattle.std.proofs.Common.{◌∙◌}
-use Rattle.ink_check.specs.Standing.{story_tree}
-use Rattle.ink_host.specs.Desk.{bound_by}
+use Rattle.ink_look.proofs.Common.{story_tree, bound_by, config_of}
 use Rattle.ink_look.proofs.LineEnding.{falls, says, line_kept}
 use Rattle.ink_look.proofs.lines.line.Goals as goal
-use Rattle.ink_step.specs.Standing.{config_of}
 
 pub returns-in-Ok-clause-line : goal.returns-in-Ok-clause-line
 returns-in-Ok-clause-line g c =

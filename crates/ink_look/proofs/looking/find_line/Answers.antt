@@ -1,6 +1,5 @@
 use Rattle.std.proofs.Common.{◌≡◌, ◌∙◌, ◌+◌, ap, arith, refl, rules, subst, sym, Err, inl}
-use Rattle.ink_check.specs.Standing.{story_tree}
-use Rattle.ink_host.specs.Telling.{log_of}
+use Rattle.ink_look.proofs.Common.{story_tree, log_of, config_back, RunStopsAtRefusal, config_of}
 use Rattle.ink_look.specs.Looking.{Waits, waiting_after}
 use Rattle.ink_look.specs.declared.looking.Looked.TheVariants as after
 use Rattle.ink_look.proofs.Marks.{waits_as, waits_for}
@@ -8,9 +7,6 @@ use Rattle.ink_look.proofs.Searches.{EndsLine, ran_back, ran_none, ran_on, ran_o
 use Rattle.ink_look.proofs.looking.find_line.Goals as goal
 use Rattle.ink_look.proofs.looking.find_line.Goals.{in-Nothing, in-Newline}
 use Rattle.ink_effects.proofs.Refusals.{keeps_all, keeps_then, run_stops}
-use Rattle.ink_step.specs.Marks.{config_back}
-use Rattle.ink_effects.specs.Refusals.{RunStopsAtRefusal}
-use Rattle.ink_step.specs.Standing.{config_of}
 
 pub loop-step-init : goal.loop-step-init
 loop-step-init g c =

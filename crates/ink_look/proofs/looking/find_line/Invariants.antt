@@ -1,10 +1,8 @@
 use Rattle.std.proofs.Common.{◌≡◌}
-use Rattle.ink_check.specs.Standing.{story_tree}
-use Rattle.ink_host.specs.Telling.{log_of}
+use Rattle.ink_look.proofs.Common.{story_tree, log_of, config_back}
 use Rattle.ink_look.specs.Looking.{Waits, search_at}
 use Rattle.ink_look.proofs.Searches.{Ran}
 use Rattle.ink_look.proofs.looking.find_line.Given as goal
-use Rattle.ink_step.specs.Marks.{config_back}
 use Rattle.ink_effects.specs.Refusals.{KeepsRefusals}
 use Rattle.ink_step.specs.Standing.{aside_in, config_of, start_of}
 

@@ -1,23 +1,17 @@
 use Rattle.std.proofs.Common.{◌≡◌, ◌∙◌, ap, length, refl, rules, sym, true, [], Some, Ok, Err, subst}
-use Rattle.ink_check.specs.Standing.{story_tree}
+use Rattle.ink_look.proofs.Common.{story_tree, bound_by, log_of, asks, step, OutOfMemory, config_of}
 use Rattle.ink_host.proofs.Laws.{grew-none}
-use Rattle.ink_host.specs.Desk.{bound_by}
-use Rattle.ink_host.specs.Telling.{log_of}
 use Rattle.ink_look.specs.Ahead.{writes_words}
 use Rattle.ink_look.specs.Looking.{search_after, Waits, waiting_after}
 use Rattle.ink_look.proofs.Followed.{words_end}
 use Rattle.ink_look.proofs.Marks.{back_stays, stays_marked}
 use Rattle.ink_look.proofs.Steps.{cut_at, cuts_call, cuts_fault, goes, quiet_so, stops}
 use Rattle.ink_look.proofs.looking.look.Goals as goal
-use Rattle.ink_model.specs.Memory.Asks.{asks}
 use Rattle.ink_model.specs.Run.Moments.{At}
 use Rattle.ink_model.specs.Text.Shown.{open_newline}
-use Rattle.ink_model.specs.Run.Step.{step}
-use Rattle.ink_model.specs.declared.fault.Fault.TheVariants.{OutOfMemory}
 use Rattle.ink_effects.proofs.Refusals.{keeps_all, kept_unless}
 use Rattle.ink_step.specs.Marks.{config_back, presses}
 use Rattle.ink_step.specs.Parts.{config_of_parts}
-use Rattle.ink_step.specs.Standing.{config_of}
 use Rattle.ink_moves.specs.declared.flow.StepEnd.TheVariants as ends
 
 -- a text comes, behind which the newline stands

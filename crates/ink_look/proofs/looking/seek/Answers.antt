@@ -1,12 +1,9 @@
 use Rattle.std.proofs.Common.{◌≡◌, ◌∙◌, ap, length, refl, rules, subst, sym, None, Err, Ok}
-use Rattle.ink_check.specs.Standing.{story_tree}
-use Rattle.ink_host.specs.Desk.{bound_by}
+use Rattle.ink_look.proofs.Common.{story_tree, bound_by, config_back, config_of}
 use Rattle.ink_look.proofs.Steps.{seeks_on, unmarked_makes}
 use Rattle.ink_look.proofs.looking.seek.Goals as goal
 use Rattle.ink_look.specs.Looking.{StepsOn, Waits, waiting_then}
-use Rattle.ink_step.specs.Marks.{config_back}
 use Rattle.ink_effects.specs.Refusals.{StepStopsAtRefusal}
-use Rattle.ink_step.specs.Standing.{config_of}
 use Rattle.ink_moves.specs.declared.flow.StepEnd.TheVariants as ends
 
 pub returns-in-Went-clause-steps : goal.returns-in-Went-clause-steps

@@ -3,8 +3,7 @@ use Rattle.ink_look.specs.Looking.{found_of, newline_from}
 use Rattle.ink_look.proofs.Steps.{hidden_so}
 use Rattle.ink_look.proofs.looking.went_on.Goals as goal
 use Rattle.ink_model.specs.Text.Shown.{is_shown}
-use Rattle.ink_step.specs.Marks.{config_back}
-use Rattle.ink_step.specs.Standing.{config_of}
+use Rattle.ink_look.proofs.Common.{config_back, config_of}
 
 pub returns-in-Hidden-clause-looked : goal.returns-in-Hidden-clause-looked
 returns-in-Hidden-clause-looked c s old count left made =

@@ -1,13 +1,9 @@
 use Rattle.std.proofs.Common.{◌≡◌, rules, subst, sym, Err, inl}
-use Rattle.ink_check.specs.Standing.{story_tree}
-use Rattle.ink_host.specs.Desk.{bound_by}
+use Rattle.ink_look.proofs.Common.{story_tree, bound_by, OutOfMemory, RunStopsAtRefusal, config_of}
 use Rattle.ink_model.specs.Protocol.Passage.{passage, passage_asks}
-use Rattle.ink_model.specs.declared.fault.Fault.TheVariants.{OutOfMemory}
 use Rattle.ink_look.specs.Extents.{RunsBy}
 use Rattle.ink_look.proofs.Settling.{passes, passes_fault, passes_short}
 use Rattle.ink_look.proofs.passages.run_to.Goals as goal
-use Rattle.ink_effects.specs.Refusals.{RunStopsAtRefusal}
-use Rattle.ink_step.specs.Standing.{config_of}
 
 pub returns-in_err-said-clause-runs : goal.returns-in_err-said-clause-runs
 returns-in_err-said-clause-runs g c =

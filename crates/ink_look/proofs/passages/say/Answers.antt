@@ -1,9 +1,7 @@
-use Rattle.ink_check.specs.Standing.{story_tree}
-use Rattle.ink_host.specs.Desk.{bound_by}
+use Rattle.ink_look.proofs.Common.{story_tree, bound_by, config_of}
 use Rattle.ink_look.specs.declared.lines.LineEnd.TheVariants as line_end
 use Rattle.ink_look.proofs.Settling.{line_says}
 use Rattle.ink_look.proofs.passages.say.Goals as goal
-use Rattle.ink_step.specs.Standing.{config_of}
 
 pub returns-in-Stop-clause-runs : goal.returns-in-Stop-clause-runs
 returns-in-Stop-clause-runs g c = rw c.in-Stop.is c.through.ensures.runs

@@ -1,15 +1,11 @@
 use Rattle.std.proofs.Common.{◌≡◌, ◌∙◌, ap, false, rules, subst, sym, Err, inl}
-use Rattle.ink_check.specs.Standing.{story_tree}
-use Rattle.ink_host.specs.Desk.{bound_by}
+use Rattle.ink_look.proofs.Common.{story_tree, bound_by, said, said_asks, OutOfMemory, RunStopsAtRefusal}
 use Rattle.ink_look.proofs.Comes.{comes_to, comes_to_fault, falls_after}
 use Rattle.ink_look.proofs.running.through.Goals as goal
 use Rattle.ink_look.specs.Ends.{RunsThrough}
-use Rattle.ink_look.specs.Said.{said, said_asks}
-use Rattle.ink_model.specs.declared.fault.Fault.TheVariants.{OutOfMemory}
 use Rattle.ink_step.specs.Marks.{Stood, keeps_mark, pressed, stood_of}
 use Rattle.ink_step.proofs.Marks.{not_pressed}
 use Rattle.ink_step.specs.Runs.{RunFalls}
-use Rattle.ink_effects.specs.Refusals.{RunStopsAtRefusal}
 use Rattle.ink_step.specs.Standing.{config_of, start_of, aside_in}
 
 pub returns-in_err-run-clause-runs : goal.returns-in_err-run-clause-runs

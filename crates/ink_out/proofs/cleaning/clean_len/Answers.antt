@@ -1,7 +1,6 @@
 use Rattle.std.proofs.Common.{◌≡◌, ◌∙◌, ◌-◌, ap, arith, drop, false, length, not, sym, take}
-use Rattle.std.specs.List.{list_any}
+use Rattle.ink_out.proofs.Common.{list_any, is_blank}
 use Rattle.std.proofs.lemmas.List.{length-drop, take_all}
-use Rattle.ink_model.specs.Text.Bytes.{is_blank}
 use Rattle.ink_out.proofs.Lines.{words_stay}
 use Rattle.ink_out.proofs.cleaning.clean_len.Goals as goal
 

@@ -1,6 +1,5 @@
 use Rattle.std.proofs.Common.{◌≡◌, ◌+◌, ◌-◌, not, drop, length}
-use Rattle.std.specs.List.{prefix_len}
-use Rattle.ink_model.specs.Text.Bytes.{is_white}
+use Rattle.ink_out.proofs.Common.{prefix_len, is_white}
 use Rattle.ink_out.proofs.cleaning.word_len.Given as goal
 
 abbrev pub invariant-loop-at : goal.invariant-loop-at

@@ -1,6 +1,5 @@
 use Rattle.std.proofs.Common.{◌≡◌, not, drop}
-use Rattle.std.specs.List.{list_any}
-use Rattle.ink_model.specs.Text.Bytes.{is_blank}
+use Rattle.ink_out.proofs.Common.{list_any, is_blank}
 use Rattle.ink_out.proofs.cutting.has_words.Given as goal
 
 abbrev pub invariant-loop-byte : goal.invariant-loop-byte

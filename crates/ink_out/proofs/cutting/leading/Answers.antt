@@ -1,6 +1,5 @@
 use Rattle.ink_out.proofs.Ends.{prefix_here, prefix_more}
-use Rattle.ink_out.specs.Cutting.{is_space}
-use Rattle.std.specs.List.{prefix_len}
+use Rattle.ink_out.proofs.Common.{is_space, prefix_len}
 use Rattle.std.proofs.Common.{◌∙◌, ap, sym}
 use Rattle.ink_out.proofs.cutting.leading.Goals as goal
 

@@ -1,6 +1,5 @@
 use Rattle.std.proofs.Common.{◌≡◌, ◌+◌, ◌-◌, drop, length}
-use Rattle.std.specs.List.{prefix_len}
-use Rattle.ink_out.specs.Cutting.{is_space}
+use Rattle.ink_out.proofs.Common.{prefix_len, is_space}
 use Rattle.ink_out.proofs.cutting.leading.Given as goal
 
 abbrev pub invariant-loop-len : goal.invariant-loop-len

@@ -1,7 +1,6 @@
 use Rattle.std.proofs.Common.{refl, sym, ◌<◌, ◌-◌, ◌+◌, length, arith, rules}
-use Rattle.std.specs.List.{suffix_len}
+use Rattle.ink_out.proofs.Common.{suffix_len, is_blank, is_white}
 use Rattle.std.proofs.lemmas.List.Sums.{prefix_len-le-length, suffix_len-le-length}
-use Rattle.ink_model.specs.Text.Bytes.{is_blank, is_white}
 use Rattle.ink_model.proofs.Ends.{cut_at_end, trailing_is}
 use Rattle.ink_out.proofs.WhiteEnds.{end_found, end_none, white_ascii, blanks_le_white, end_before}
 use Rattle.ink_out.proofs.cutting.split_end.Goals as goal

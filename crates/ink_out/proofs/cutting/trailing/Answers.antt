@@ -1,6 +1,5 @@
 use Rattle.ink_out.proofs.Ends.{suffix_here, suffix_more}
-use Rattle.ink_out.specs.Cutting.{is_space}
-use Rattle.std.specs.List.{suffix_len}
+use Rattle.ink_out.proofs.Common.{is_space, suffix_len}
 use Rattle.std.proofs.Common.{◌∙◌, ap, arith, sym}
 use Rattle.ink_out.proofs.cutting.trailing.Goals as goal
 

@@ -1,6 +1,5 @@
 use Rattle.std.proofs.Common.{◌≡◌, ◌≤◌, ◌+◌, ◌-◌, length, take}
-use Rattle.std.specs.List.{suffix_len}
-use Rattle.ink_out.specs.Cutting.{is_space}
+use Rattle.ink_out.proofs.Common.{suffix_len, is_space}
 use Rattle.ink_out.proofs.cutting.trailing.Given as goal
 
 abbrev pub invariant-loop-start : goal.invariant-loop-start

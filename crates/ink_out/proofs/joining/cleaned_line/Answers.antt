@@ -1,7 +1,6 @@
 use Rattle.std.proofs.Common.{◌≡◌, ◌∙◌, ◌+◌, ap, drop, sym, true, [], ◌∷◌, ◌++◌}
 use Rattle.std.proofs.lemmas.List.{append_assoc}
-use Rattle.ink_model.specs.Text.Clean.{clean}
-use Rattle.ink_out.specs.Joined.{texts_of}
+use Rattle.ink_out.proofs.Common.{clean, texts_of}
 use Rattle.ink_out.specs.Kept.{mark_of, said}
 use Rattle.ink_out.proofs.Joined.{all_joined, not_said, one_left}
 use Rattle.ink_out.proofs.joining.cleaned_line.Goals.{in-Text+in_ok-push_str-in-Text, in-Part+in_ok-push_str-in-Part, in_default}

@@ -1,6 +1,5 @@
 use Rattle.std.proofs.Common.{◌≡◌, ◌++◌, ℕ, List, drop, true}
-use Rattle.ink_out.specs.Cleaning.{Holds}
-use Rattle.ink_out.specs.Joined.{texts_of}
+use Rattle.ink_out.proofs.Common.{Holds, texts_of}
 use Rattle.ink_out.proofs.joining.cleaned_line.Given as goal
 
 -- what was written

@@ -1,6 +1,5 @@
 use Rattle.std.proofs.Common.{◌≡◌, ◌∙◌, ap, sym, [], ◌∷◌, ◌++◌, string_bytes, take}
-use Rattle.ink_model.specs.Text.Clean.{clean}
-use Rattle.ink_out.specs.Joined.{texts_of}
+use Rattle.ink_out.proofs.Common.{clean, texts_of}
 use Rattle.ink_out.proofs.Lines.{clean_ended}
 use Rattle.ink_out.proofs.joining.joined.Goals as goal
 

@@ -1,18 +1,11 @@
-use Rattle.ink_model.specs.declared.fault.Fault.TheVariants.{OutOfMemory}
+use Rattle.ink_out.proofs.Common.{OutOfMemory, Section, Mark, MAX_MARKS, piece_mark, GoesBack, Held, output_back, with_open, page_of, Trails, trail_of}
 use Rattle.ink_out.proofs.Closing.{asks_mark, unchanged}
 use Rattle.std.proofs.Common.{◌≡◌, ◌∙◌, ◌<◌, ◌≤◌, ◌-◌, ℕ, List, [], get_or, set, length, map, ap, arith, refl, subst, sym, inl}
 use Rattle.std.proofs.lemmas.Grind.{common_steps}
 use Rattle.std.proofs.lemmas.List.{length-set, nil_from_length}
-use Rattle.ink_model.specs.Run.Configuration.{Section}
-use Rattle.ink_model.specs.declared.mark.Mark.{Mark}
-use Rattle.ink_model.specs.declared.limits.TheConstants.{MAX_MARKS}
-use Rattle.ink_out.specs.Cutting.{piece_mark}
-use Rattle.ink_out.specs.Undo.{GoesBack, Held, output_back, with_open}
-use Rattle.ink_out.specs.Writing.{page_of}
 use Rattle.ink_out.proofs.Noting.{noted_last}
 use Rattle.ink_out.proofs.Undoing.{goes-as, goes-now, held_page, last_open, last_with, or_keeps, with_same}
 use Rattle.ink_out.proofs.opened.note_all.Goals as goal
-use Rattle.ink_trail.specs.Undo.{Trails, trail_of}
 
 pub returns-in_ok-extend-in_default-clause-page : goal.returns-in_ok-extend-in_default-clause-page
 returns-in_ok-extend-in_default-clause-page c =

@@ -1,9 +1,7 @@
 use Rattle.std.proofs.Common.{◌∙◌, arith, inr, refl}
-use Rattle.ink_out.specs.Undo.{output_back}
-use Rattle.ink_out.specs.declared.undo.OutputPair.TheVariants.{Wrote}
+use Rattle.ink_out.proofs.Common.{output_back, Wrote, trails-after, trails-one}
 use Rattle.ink_out.proofs.Undoing.{goes-as, goes-now, goes-with, held_page, noted_back}
 use Rattle.ink_out.proofs.opened.note_marked.Goals as goal
-use Rattle.ink_trail.proofs.Undoing.{trails-after, trails-one}
 
 pub returns-then-is_full-clause-page : goal.returns-then-is_full-clause-page
 returns-then-is_full-clause-page c = λ n. rw (c.is_full.ensures c.args.mark n ∙ c.if-is_full.true) (inr refl, refl)

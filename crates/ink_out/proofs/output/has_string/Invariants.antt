@@ -1,6 +1,5 @@
 use Rattle.std.proofs.Common.{◌≡◌, drop, reverse}
-use Rattle.std.specs.List.{list_any}
-use Rattle.ink_model.specs.Text.Output.{is_string}
+use Rattle.ink_out.proofs.Common.{list_any, is_string}
 use Rattle.ink_out.proofs.output.has_string.Given as goal
 
 abbrev pub invariant-loop-section : goal.invariant-loop-section

@@ -1,7 +1,5 @@
 use Rattle.std.proofs.Common.{◌≡◌, drop, map}
-use Rattle.std.specs.List.{list_any}
-use Rattle.ink_model.specs.Text.Output.{is_text}
-use Rattle.ink_out.specs.Cutting.{piece_mark}
+use Rattle.ink_out.proofs.Common.{list_any, is_text, piece_mark}
 use Rattle.ink_out.proofs.output.has_text.Given as goal
 
 abbrev pub invariant-loop-piece : goal.invariant-loop-piece

@@ -1,6 +1,5 @@
 use Rattle.std.proofs.Common.{map, sym, ap, ◌∙◌, Bool}
-use Rattle.ink_model.specs.Text.Output.{let_through}
-use Rattle.ink_out.specs.Cutting.{piece_mark}
+use Rattle.ink_out.proofs.Common.{let_through, piece_mark}
 use Rattle.ink_out.proofs.Noting.{let_through-false}
 use Rattle.ink_out.proofs.output.let_through.Goals as goal
 

@@ -1,6 +1,5 @@
 use Rattle.std.proofs.Common.{◌≡◌, ◌++◌, map}
-use Rattle.ink_model.specs.Text.Output.{let_through}
-use Rattle.ink_out.specs.Cutting.{piece_mark}
+use Rattle.ink_out.proofs.Common.{let_through, piece_mark}
 use Rattle.ink_out.proofs.output.let_through.Given as goal
 
 abbrev pub invariant-loop-piece : goal.invariant-loop-piece

@@ -1,13 +1,8 @@
 use Rattle.std.proofs.Common.{◌≡◌, ◌∙◌, ap, length, subst, sym}
 use Rattle.std.proofs.lemmas.List.{length-map}
-use Rattle.ink_model.specs.Text.Mark.{cut}
-use Rattle.ink_model.specs.Text.Output.{let_through}
-use Rattle.ink_out.specs.Cutting.{piece_mark}
-use Rattle.ink_out.specs.Undo.{output_back}
-use Rattle.ink_out.specs.Writing.{page_of}
+use Rattle.ink_out.proofs.Common.{cut, let_through, piece_mark, output_back, page_of, Trails}
 use Rattle.ink_out.proofs.Undoing.{or_keeps}
 use Rattle.ink_out.proofs.output.note_cut.Goals as goal
-use Rattle.ink_trail.specs.Undo.{Trails}
 
 pub returns-in_err-note_all-clause-trail : goal.returns-in_err-note_all-clause-trail
 returns-in_err-note_all-clause-trail c = λ n.

@@ -1,6 +1,5 @@
 use Rattle.std.proofs.Common.{ℕ, Bool, List, ◌++◌, reverse, take}
-use Rattle.ink_out.specs.Cleaning.{Holds}
-use Rattle.ink_out.specs.Walks.{pile_now}
+use Rattle.ink_out.proofs.Common.{Holds, pile_now}
 use Rattle.ink_out.proofs.pile.write_all.Given as goal
 
 abbrev pub invariant-loop-held : goal.invariant-loop-held

@@ -1,10 +1,7 @@
 use Rattle.std.proofs.Common.{◌≡◌, ◌≤◌, ◌+◌, ◌-◌, [], ◌∷◌, ◌++◌, length, map, reverse, subst, sym, ◌∙◌, ap, arith, rules}
 use Rattle.std.proofs.lemmas.Grind.{common_steps}
 use Rattle.std.proofs.lemmas.List.{length-append, length-reverse}
-use Rattle.ink_out.specs.Cutting.{piece_mark}
-use Rattle.ink_out.specs.Stands.{IsStateOf, Knows}
-use Rattle.ink_out.specs.Undo.{Held, output_back, with_open}
-use Rattle.ink_out.specs.declared.undo.OutputPair.TheVariants.{Wrote}
+use Rattle.ink_out.proofs.Common.{piece_mark, IsStateOf, Knows, Held, output_back, with_open, Wrote}
 use Rattle.ink_out.proofs.Standing.{sees_more, knows_piece}
 use Rattle.ink_out.proofs.Undoing.{goes-with, held_less, open_with, wrote_back}
 use Rattle.ink_out.proofs.section.append.Goals as goal

@@ -1,10 +1,6 @@
 use Rattle.std.proofs.Common.{◌≡◌, ◌≤◌, ◌+◌, ◌-◌, ◌++◌, ℕ, length, map, vec_len, vec_capacity}
-use Rattle.ink_model.specs.Run.Configuration.{Page}
-use Rattle.ink_out.specs.Cutting.{piece_mark}
-use Rattle.ink_out.specs.Stands.{Sees}
-use Rattle.ink_out.specs.Undo.{GoesBack, Held, output_back, with_open}
+use Rattle.ink_out.proofs.Common.{Page, piece_mark, Sees, GoesBack, Held, output_back, with_open, Trails, spare, trail_of}
 use Rattle.ink_out.proofs.section.append.Given as goal
-use Rattle.ink_trail.specs.Undo.{Trails, spare, trail_of}
 
 abbrev pub invariant-loop-piece : goal.invariant-loop-piece
 invariant-loop-piece l = record {

@@ -1,11 +1,8 @@
 use Rattle.std.proofs.Common.{◌∙◌, ◌<◌, ap, arith, length, subst, sym}
-use Rattle.std.proofs.lemmas.List.{nil_from_length}
-use Rattle.ink_out.specs.Stands.{IsStateOf}
+use Rattle.ink_out.proofs.Common.{nil_from_length, IsStateOf, page_of, but_last}
 use Rattle.ink_out.specs.Undo.{open_marks, with_open}
-use Rattle.ink_out.specs.Writing.{page_of}
 use Rattle.ink_out.proofs.Undoing.{last_open, last_with}
 use Rattle.ink_out.proofs.undo.unwrite.Goals as goal
-use Rattle.ink_trail.specs.Undo.{but_last}
 
 pub take_back-requires : goal.take_back-requires
 take_back-requires c =

@@ -1,11 +1,7 @@
 use Rattle.std.proofs.Common.{◌≡◌, ◌+◌, ℕ, Bool, List, Result, Ok, Err, IfOk, [], reverse, take}
 use Rattle.std.proofs.lemmas.List.{take_all}
-use Rattle.ink_model.specs.Text.Shown.{text_before}
-use Rattle.ink_model.specs.declared.mark.Mark.{Mark}
-use Rattle.ink_out.specs.Cleaning.{shown_as}
+use Rattle.ink_out.proofs.Common.{text_before, Mark, shown_as, Start, Walk}
 use Rattle.ink_out.specs.Walks.{Walks}
-use Rattle.ink_out.specs.declared.enters.Start.{Start}
-use Rattle.ink_out.specs.declared.walk.Walk.{Walk}
 use Rattle.ink_out.proofs.Starting.{leads_from, marks_before, next_mark}
 use Rattle.ink_out.proofs.walk.shown_text.Goals as goal
 

@@ -1,7 +1,5 @@
 use Rattle.std.proofs.Common.{◌∙◌}
-use Rattle.serde_json.proofs.Views.{view-Array}
-use Rattle.serde_json.specs.View.{members_view}
-use Rattle.ink_model.specs.Save.Spelling.{row_data}
+use Rattle.ink_parts.proofs.Common.{view-Array, members_view, row_data}
 use Rattle.ink_parts.proofs.Arrays.{listed, put_as}
 use Rattle.ink_parts.proofs.counts.add_counts.Goals as goal
 

@@ -1,8 +1,4 @@
-use Rattle.ink_model.specs.Save.Spelling.{row_data}
-use Rattle.ink_parts.specs.Counted.{rows_at}
-use Rattle.ink_tokens.proofs.Adding.{finally, list_whole}
-use Rattle.ink_tree.specs.Nodes.{story_tree}
-use Rattle.ink_vars.specs.Slots.{rows_from}
+use Rattle.ink_parts.proofs.Common.{row_data, rows_at, finally, list_whole, story_tree, rows_from}
 use Rattle.ink_parts.proofs.counts.put_counts.Goals as goal
 
 pub returns : goal.returns

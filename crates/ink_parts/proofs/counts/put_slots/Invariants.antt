@@ -1,9 +1,5 @@
 use Rattle.std.proofs.Common.{take}
-use Rattle.ink_model.specs.Save.Spelling.{row_data}
-use Rattle.ink_parts.specs.Counted.{rows_at}
-use Rattle.ink_tokens.specs.Tokens.{Added}
-use Rattle.ink_tree.specs.Nodes.{story_tree}
-use Rattle.ink_vars.specs.Slots.{rows_from}
+use Rattle.ink_parts.proofs.Common.{row_data, rows_at, Added, story_tree, rows_from}
 use Rattle.ink_parts.proofs.Texts.{all_tokens}
 use Rattle.ink_parts.proofs.counts.put_slots.Given as goal
 

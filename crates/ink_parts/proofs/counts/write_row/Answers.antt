@@ -1,6 +1,5 @@
 use Rattle.std.proofs.Common.{◌∙◌}
-use Rattle.serde_json.proofs.Views.{view-Array}
-use Rattle.serde_json.specs.Data.{array, item, no_items}
+use Rattle.ink_parts.proofs.Common.{view-Array, array, item, no_items}
 use Rattle.ink_parts.proofs.Arrays.{paired, view-natural}
 use Rattle.ink_parts.proofs.counts.write_row.Goals as goal
 

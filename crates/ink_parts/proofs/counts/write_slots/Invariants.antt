@@ -1,9 +1,5 @@
 use Rattle.std.proofs.Common.{◌≡◌, map, take}
-use Rattle.serde_json.specs.View.{view}
-use Rattle.ink_model.specs.Save.Spelling.{row_data}
-use Rattle.ink_parts.specs.Counted.{rows_at}
-use Rattle.ink_tree.specs.Nodes.{story_tree}
-use Rattle.ink_vars.specs.Slots.{rows_from}
+use Rattle.ink_parts.proofs.Common.{view, row_data, rows_at, story_tree, rows_from}
 use Rattle.ink_parts.proofs.counts.write_slots.Given as goal
 
 abbrev pub invariant-loop-number : goal.invariant-loop-number

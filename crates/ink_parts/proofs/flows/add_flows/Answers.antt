@@ -1,9 +1,6 @@
 use Rattle.std.proofs.Common.{◌≡◌, ◌∙◌, OnOk, ap, codes, subst, sym}
-use Rattle.serde_json.specs.Data.{put, string}
-use Rattle.serde_json.specs.View.{members_view}
+use Rattle.ink_parts.proofs.Common.{put, string, members_view, flow_of, story_tree}
 use Rattle.ink_flows.proofs.Mapped.{current_seen}
-use Rattle.ink_flows.specs.Standing.{flow_of}
-use Rattle.ink_tree.specs.Nodes.{story_tree}
 use Rattle.ink_parts.proofs.flows.add_flows.Goals as goal
 
 pub returns : goal.returns

@@ -1,8 +1,6 @@
-use Rattle.ink_tokens.proofs.Adding.{finally, list_whole}
-use Rattle.ink_tree.specs.Nodes.{story_tree}
+use Rattle.ink_parts.proofs.Common.{finally, list_whole, story_tree, row_in}
 use Rattle.ink_parts.proofs.Shown.{flows_shown}
 use Rattle.ink_parts.proofs.Texts.{value_as}
-use Rattle.ink_parts.specs.Parts.{row_in}
 use Rattle.ink_parts.proofs.flows.put_flows.Goals as goal
 
 pub returns : goal.returns

@@ -1,7 +1,6 @@
 use Rattle.std.proofs.Common.{sym}
-use Rattle.ink_tree.specs.Nodes.{story_tree}
+use Rattle.ink_parts.proofs.Common.{story_tree, row_in}
 use Rattle.ink_parts.proofs.Texts.{row_last, row_more}
-use Rattle.ink_parts.specs.Parts.{row_in}
 use Rattle.ink_parts.proofs.flows.put_rows.Goals as goal
 
 pub loop-index-preserved : goal.loop-index-preserved

@@ -1,8 +1,6 @@
 use Rattle.std.proofs.Common.{take}
-use Rattle.ink_tokens.specs.Tokens.{Added}
-use Rattle.ink_tree.specs.Nodes.{story_tree}
+use Rattle.ink_parts.proofs.Common.{Added, story_tree, row_in}
 use Rattle.ink_parts.proofs.Texts.{all_tokens}
-use Rattle.ink_parts.specs.Parts.{row_in}
 use Rattle.ink_parts.proofs.flows.put_rows.Given as goal
 
 abbrev pub invariant-loop-index : goal.invariant-loop-index

@@ -1,9 +1,7 @@
 use Rattle.std.proofs.Common.{◌∙◌}
-use Rattle.serde_json.proofs.Views.{view-Array}
-use Rattle.ink_tree.specs.Nodes.{story_tree}
+use Rattle.ink_parts.proofs.Common.{view-Array, story_tree, row_in}
 use Rattle.ink_parts.proofs.Arrays.{listed}
 use Rattle.ink_parts.proofs.Shown.{flows_shown}
-use Rattle.ink_parts.specs.Parts.{row_in}
 use Rattle.ink_parts.proofs.flows.write_flows.Goals as goal
 
 pub returns : goal.returns

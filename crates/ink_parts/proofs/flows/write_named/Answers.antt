@@ -1,8 +1,6 @@
 use Rattle.std.proofs.Common.{◌∙◌, ap, codes}
-use Rattle.serde_json.specs.Data.{put, string}
-use Rattle.ink_flows.specs.Standing.{flow_of}
+use Rattle.ink_parts.proofs.Common.{put, string, flow_of, story_tree}
 use Rattle.ink_model.specs.Save.Spelling.{flow_members}
-use Rattle.ink_tree.specs.Nodes.{story_tree}
 use Rattle.ink_parts.proofs.Arrays.{object_made}
 use Rattle.ink_parts.proofs.flows.write_named.Goals as goal
 

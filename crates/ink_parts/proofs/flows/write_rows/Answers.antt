@@ -1,9 +1,6 @@
 use Rattle.std.proofs.Common.{◌∙◌, ◌≤◌, ap, map, subst, sym}
-use Rattle.std.proofs.lemmas.List.{take_all}
-use Rattle.serde_json.specs.View.{view}
-use Rattle.ink_tree.specs.Nodes.{story_tree}
+use Rattle.ink_parts.proofs.Common.{take_all, view, story_tree, row_in}
 use Rattle.ink_parts.proofs.Arrays.{row_last, row_more}
-use Rattle.ink_parts.specs.Parts.{row_in}
 use Rattle.ink_parts.proofs.flows.write_rows.Goals as goal
 
 pub loop-index-preserved : goal.loop-index-preserved

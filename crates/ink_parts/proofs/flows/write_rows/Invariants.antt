@@ -1,7 +1,5 @@
 use Rattle.std.proofs.Common.{◌≡◌, map, take}
-use Rattle.serde_json.specs.View.{view}
-use Rattle.ink_tree.specs.Nodes.{story_tree}
-use Rattle.ink_parts.specs.Parts.{row_in}
+use Rattle.ink_parts.proofs.Common.{view, story_tree, row_in}
 use Rattle.ink_parts.proofs.flows.write_rows.Given as goal
 
 abbrev pub invariant-loop-index : goal.invariant-loop-index

@@ -1,7 +1,6 @@
 use Rattle.std.proofs.Common.{◌∙◌, ap, codes}
 use Rattle.serde_json.proofs.Views.{view-Object}
-use Rattle.serde_json.specs.Data.{object}
-use Rattle.serde_json.specs.View.{members_view}
+use Rattle.ink_parts.proofs.Common.{object, members_view}
 use Rattle.ink_parts.proofs.Arrays.{put_as, put_in_order}
 use Rattle.ink_parts.proofs.frames.add_temps.Goals as goal
 

@@ -1,8 +1,5 @@
 use Rattle.std.proofs.Common.{◌∷◌, refl, reverse}
-use Rattle.ink_model.specs.Flow.Frames.{map_frame}
-use Rattle.ink_model.specs.Save.Spelling.{frame_data}
-use Rattle.ink_tokens.proofs.Adding.{finally}
-use Rattle.ink_tree.specs.Nodes.{place_of, story_tree}
+use Rattle.ink_parts.proofs.Common.{map_frame, frame_data, finally, place_of, story_tree}
 use Rattle.ink_parts.proofs.Texts.{value_as}
 use Rattle.ink_parts.proofs.Arrays.{list_mapped}
 use Rattle.ink_parts.proofs.frames.put_frames.Goals as goal

@@ -1,7 +1,5 @@
 use Rattle.std.proofs.Common.{◌∙◌, ap}
-use Rattle.serde_json.specs.Data.{put}
-use Rattle.serde_json.specs.View.{members_view}
-use Rattle.ink_model.specs.Protocol.ValueJson.{value_data}
+use Rattle.ink_parts.proofs.Common.{put, members_view, value_data}
 use Rattle.ink_parts.proofs.Arrays.{put_more}
 use Rattle.ink_parts.proofs.frames.put_rows.Goals as goal
 

@@ -1,8 +1,5 @@
 use Rattle.std.proofs.Common.{◌≡◌, ◌∷◌, IfOk, refl, reverse, subst}
-use Rattle.serde_json.specs.View.{view}
-use Rattle.ink_model.specs.Flow.Frames.{map_frame}
-use Rattle.ink_model.specs.Save.Spelling.{frame_data}
-use Rattle.ink_tree.specs.Nodes.{place_of, story_tree}
+use Rattle.ink_parts.proofs.Common.{view, map_frame, frame_data, place_of, story_tree}
 use Rattle.ink_parts.proofs.Arrays.{list_mapped}
 use Rattle.ink_parts.proofs.frames.write_frames.Goals as goal
 

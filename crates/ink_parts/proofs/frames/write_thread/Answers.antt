@@ -1,8 +1,6 @@
 use Rattle.std.proofs.Common.{◌∷◌, codes, map, option_map, reverse}
-use Rattle.serde_json.specs.Data.{put}
-use Rattle.ink_model.specs.Flow.Frames.{map_frame}
+use Rattle.ink_parts.proofs.Common.{put, map_frame, place_of, story_tree}
 use Rattle.ink_model.specs.Save.Spelling.{frame_data, list_data, place_or_null}
-use Rattle.ink_tree.specs.Nodes.{place_of, story_tree}
 use Rattle.ink_parts.proofs.Arrays.{object_made}
 use Rattle.ink_parts.proofs.frames.write_thread.Goals as goal
 

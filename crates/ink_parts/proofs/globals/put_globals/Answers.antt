@@ -1,5 +1,4 @@
-use Rattle.ink_model.specs.Save.Spelling.{global_data}
-use Rattle.ink_tokens.proofs.Adding.{finally, list_whole}
+use Rattle.ink_parts.proofs.Common.{global_data, finally, list_whole}
 use Rattle.ink_parts.proofs.globals.put_globals.Goals as goal
 
 pub returns : goal.returns

@@ -1,6 +1,5 @@
 use Rattle.std.proofs.Common.{take}
-use Rattle.ink_model.specs.Save.Spelling.{global_data}
-use Rattle.ink_tokens.specs.Tokens.{Added}
+use Rattle.ink_parts.proofs.Common.{global_data, Added}
 use Rattle.ink_parts.proofs.Texts.{all_tokens}
 use Rattle.ink_parts.proofs.globals.put_rows.Given as goal
 

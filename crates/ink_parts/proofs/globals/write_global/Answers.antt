@@ -1,6 +1,5 @@
 use Rattle.std.proofs.Common.{◌∙◌}
-use Rattle.serde_json.proofs.Views.{view-Array}
-use Rattle.serde_json.specs.Data.{array, item, no_items}
+use Rattle.ink_parts.proofs.Common.{view-Array, array, item, no_items}
 use Rattle.ink_parts.proofs.Arrays.{paired}
 use Rattle.ink_parts.proofs.globals.write_global.Goals as goal
 

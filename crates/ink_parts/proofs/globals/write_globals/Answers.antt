@@ -1,6 +1,5 @@
 use Rattle.std.proofs.Common.{◌∙◌}
-use Rattle.serde_json.proofs.Views.{view-Array}
-use Rattle.ink_model.specs.Save.Spelling.{global_data}
+use Rattle.ink_parts.proofs.Common.{view-Array, global_data}
 use Rattle.ink_parts.proofs.Arrays.{listed}
 use Rattle.ink_parts.proofs.globals.write_globals.Goals as goal
 

@@ -1,7 +1,5 @@
 use Rattle.std.proofs.Common.{◌∙◌, ◌≤◌, ap, map, subst, sym}
-use Rattle.std.proofs.lemmas.List.{take_all}
-use Rattle.serde_json.specs.View.{view}
-use Rattle.ink_model.specs.Save.Spelling.{global_data}
+use Rattle.ink_parts.proofs.Common.{take_all, view, global_data}
 use Rattle.ink_parts.proofs.Arrays.{row_last, row_more}
 use Rattle.ink_parts.proofs.globals.write_rows.Goals as goal
 

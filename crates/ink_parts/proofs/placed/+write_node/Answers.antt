@@ -1,7 +1,5 @@
 use Rattle.std.proofs.Common.{◌∙◌, ap, map, sym}
-use Rattle.serde_json.specs.View.{view}
-use Rattle.ink_model.specs.Save.Spelling.{part_data}
-use Rattle.ink_tree.specs.Nodes.{node_place, story_tree}
+use Rattle.ink_parts.proofs.Common.{view, part_data, node_place, story_tree}
 use Rattle.ink_parts.proofs.Arrays.{one_more}
 use Rattle.ink_parts.proofs.placed.+write_node.Goals as goal
 

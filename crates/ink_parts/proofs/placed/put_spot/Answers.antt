@@ -1,6 +1,4 @@
-use Rattle.ink_model.specs.Save.Spelling.{part_data}
-use Rattle.ink_tree.specs.Nodes.{place_of, story_tree}
-use Rattle.ink_tokens.proofs.Adding.{list_whole}
+use Rattle.ink_parts.proofs.Common.{part_data, place_of, story_tree, list_whole}
 use Rattle.ink_parts.proofs.placed.put_spot.Goals as goal
 
 pub returns : goal.returns

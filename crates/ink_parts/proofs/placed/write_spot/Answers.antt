@@ -1,6 +1,5 @@
 use Rattle.std.proofs.Common.{◌∙◌}
-use Rattle.serde_json.proofs.Views.{view-Array}
-use Rattle.ink_model.specs.Save.Spelling.{part_data}
+use Rattle.ink_parts.proofs.Common.{view-Array, part_data}
 use Rattle.ink_parts.proofs.Arrays.{listed}
 use Rattle.ink_parts.proofs.placed.write_spot.Goals as goal
 

@@ -1,8 +1,6 @@
 use Rattle.std.proofs.Common.{◌∙◌, ap, map}
-use Rattle.serde_json.specs.View.{view}
-use Rattle.ink_model.specs.Save.Spelling.{part_data}
+use Rattle.ink_parts.proofs.Common.{view, part_data, node_place, story_tree}
 use Rattle.ink_model.specs.declared.place.Part.TheVariants.{Index}
-use Rattle.ink_tree.specs.Nodes.{node_place, story_tree}
 use Rattle.ink_parts.proofs.Arrays.{one_more, view-natural}
 use Rattle.ink_parts.proofs.placed.write_under.Goals as goal
 

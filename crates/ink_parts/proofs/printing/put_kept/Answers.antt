@@ -1,10 +1,7 @@
 use Rattle.std.proofs.Common.{◌∙◌, ap, sym}
-use Rattle.serde_json.specs.Data.{string}
+use Rattle.ink_parts.proofs.Common.{string, flow_of, finally, story_tree}
 use Rattle.ink_flows.proofs.Mapped.{current_seen}
-use Rattle.ink_flows.specs.Standing.{flow_of}
 use Rattle.ink_model.specs.Save.Spelling.{count_data}
-use Rattle.ink_tokens.proofs.Adding.{finally}
-use Rattle.ink_tree.specs.Nodes.{story_tree}
 use Rattle.ink_parts.proofs.Texts.{member_as}
 use Rattle.ink_parts.proofs.printing.put_kept.Goals as goal
 

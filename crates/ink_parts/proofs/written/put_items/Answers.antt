@@ -1,6 +1,5 @@
 use Rattle.std.proofs.Common.{subst}
-use Rattle.ink_tokens.specs.Tokens.{Added, data_tokens}
-use Rattle.ink_tree.specs.Nodes.{story_tree}
+use Rattle.ink_parts.proofs.Common.{Added, data_tokens, story_tree}
 use Rattle.ink_parts.proofs.Texts.{item_more}
 use Rattle.ink_parts.proofs.written.put_items.Goals as goal
 

@@ -1,6 +1,5 @@
 use Rattle.std.proofs.Common.{take}
-use Rattle.ink_tokens.specs.Tokens.{Added}
-use Rattle.ink_tree.specs.Nodes.{story_tree}
+use Rattle.ink_parts.proofs.Common.{Added, story_tree}
 use Rattle.ink_parts.proofs.Texts.{all_tokens}
 use Rattle.ink_parts.proofs.written.put_items.Given as goal
 

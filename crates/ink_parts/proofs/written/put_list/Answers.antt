@@ -1,5 +1,4 @@
-use Rattle.ink_tree.specs.Nodes.{story_tree}
-use Rattle.ink_tokens.proofs.Adding.{list_whole}
+use Rattle.ink_parts.proofs.Common.{story_tree, list_whole}
 use Rattle.ink_parts.proofs.written.put_list.Goals as goal
 
 pub returns : goal.returns

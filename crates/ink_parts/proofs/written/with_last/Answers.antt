@@ -1,6 +1,5 @@
 use Rattle.std.proofs.Common.{◌∙◌, ap}
-use Rattle.serde_json.proofs.Views.{view-Array}
-use Rattle.serde_json.specs.Data.{array}
+use Rattle.ink_parts.proofs.Common.{view-Array, array}
 use Rattle.serde_json.specs.View.{items_view}
 use Rattle.ink_parts.proofs.written.with_last.Goals as goal
 

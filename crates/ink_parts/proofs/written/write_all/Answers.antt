@@ -1,7 +1,5 @@
 use Rattle.std.proofs.Common.{◌∙◌, ap, map}
-use Rattle.std.proofs.lemmas.List.{take_all}
-use Rattle.serde_json.specs.View.{view}
-use Rattle.ink_tree.specs.Nodes.{story_tree}
+use Rattle.ink_parts.proofs.Common.{take_all, view, story_tree}
 use Rattle.ink_parts.proofs.Arrays.{item_more}
 use Rattle.ink_parts.proofs.written.write_all.Goals as goal
 

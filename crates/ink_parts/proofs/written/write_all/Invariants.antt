@@ -1,6 +1,5 @@
 use Rattle.std.proofs.Common.{◌≡◌, map, take}
-use Rattle.serde_json.specs.View.{view}
-use Rattle.ink_tree.specs.Nodes.{story_tree}
+use Rattle.ink_parts.proofs.Common.{view, story_tree}
 use Rattle.ink_parts.proofs.written.write_all.Given as goal
 
 abbrev pub invariant-loop-item : goal.invariant-loop-item

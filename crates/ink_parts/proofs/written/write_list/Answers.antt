@@ -1,6 +1,5 @@
 use Rattle.std.proofs.Common.{◌∙◌}
-use Rattle.serde_json.proofs.Views.{view-Array}
-use Rattle.ink_tree.specs.Nodes.{story_tree}
+use Rattle.ink_parts.proofs.Common.{view-Array, story_tree}
 use Rattle.ink_parts.proofs.Arrays.{listed}
 use Rattle.ink_parts.proofs.written.write_list.Goals as goal
 

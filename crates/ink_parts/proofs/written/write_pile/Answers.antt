@@ -1,6 +1,5 @@
 use Rattle.std.proofs.Common.{◌≡◌, ◌∙◌, IfOk, subst}
-use Rattle.serde_json.specs.View.{view}
-use Rattle.ink_tree.specs.Nodes.{story_tree}
+use Rattle.ink_parts.proofs.Common.{view, story_tree}
 use Rattle.ink_parts.proofs.Arrays.{piled}
 use Rattle.ink_parts.proofs.written.write_pile.Goals as goal
 

@@ -1,7 +1,5 @@
 use Rattle.std.proofs.Common.{◌∙◌, ap, refl, true, Ok, Err}
-use Rattle.ink_model.specs.declared.limits.TheConstants.{MAX_STORY}
-use Rattle.ink_player.specs.Standing.{bindings}
-use Rattle.ink_protocol.specs.Ends.{after_call, is_read, is_write}
+use Rattle.ink_player.proofs.Common.{MAX_STORY, bindings, after_call, is_read, is_write}
 use Rattle.ink_player.proofs.Endings.{ends_from, fails_not, fails_once}
 use Rattle.ink_player.proofs.Playings.{is_last_line, no_story, unopened, unopened_last, plays_last, plays_on, plays_short, opens_as}
 use Rattle.ink_player.proofs.Sessions.{runs_for}

@@ -1,8 +1,6 @@
 use Rattle.std.proofs.Common.{◌∙◌, [], sym}
-use Rattle.ink_model.specs.Protocol.Answer.{Refuses}
-use Rattle.ink_model.specs.Protocol.Command.{command_of}
+use Rattle.ink_player.proofs.Common.{Refuses, command_of, scene_of}
 use Rattle.ink_model.specs.declared.fault.Refusal.TheVariants as refusal
-use Rattle.ink_player.specs.Standing.{scene_of}
 use Rattle.ink_player.proofs.Dealing.{untouched}
 use Rattle.ink_player.proofs.Sessions.{answered_by, serves_unread}
 use Rattle.ink_player.proofs.session.answer_line.Goals as goal

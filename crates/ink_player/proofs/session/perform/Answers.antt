@@ -1,10 +1,9 @@
 use Rattle.std.proofs.Common.{◌∙◌, [], None, Some, ap, inl, inr, refl}
-use Rattle.serde_json.specs.Data.{null}
+use Rattle.ink_player.proofs.Common.{null, desk_of, scene_of, state_of}
 use Rattle.ink_model.specs.Protocol.Answer.{Refuses, reply_of_events, reply_of_landing, reply_of_value, reply_of_visits}
 use Rattle.ink_model.specs.declared.fault.Refusal.TheVariants as refusal
 use Rattle.ink_protocol.specs.Replies.{reply_of_text}
 use Rattle.ink_protocol.specs.declared.command.LineCommand.TheVariants as line
-use Rattle.ink_player.specs.Standing.{desk_of, scene_of, state_of}
 use Rattle.ink_player.proofs.Dealing.{same_refusals, untouched}
 use Rattle.ink_player.proofs.Sessions.{came, text-came}
 use Rattle.ink_player.proofs.session.perform.Goals as goal

@@ -1,10 +1,8 @@
 use Rattle.std.proofs.Common.{◌∙◌, ap, refl, true, Ok, Err}
-use Rattle.ink_model.specs.Protocol.Command.{command_of}
-use Rattle.ink_protocol.specs.Ends.{after_call, is_read, is_write}
+use Rattle.ink_player.proofs.Common.{command_of, after_call, is_read, is_write, scene_of}
 use Rattle.ink_player.proofs.Dealing.{command_binds}
 use Rattle.ink_player.proofs.Endings.{ends_from}
 use Rattle.ink_player.proofs.Sessions.{runs_more}
-use Rattle.ink_player.specs.Standing.{scene_of}
 use Rattle.ink_player.proofs.session.serve_lines.Goals as goal
 
 pub lines-init : goal.lines-init

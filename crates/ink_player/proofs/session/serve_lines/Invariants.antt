@@ -1,9 +1,6 @@
 use Rattle.std.proofs.Common.{◌≡◌, ℕ, List, Option, Result}
-use Rattle.ink_host.specs.Desk.{Resting}
-use Rattle.ink_host.specs.Telling.{rests}
-use Rattle.ink_player.specs.Standing.{Scene, bindings, desk_of, scene_of, story_of}
+use Rattle.ink_player.proofs.Common.{Resting, rests, Scene, bindings, desk_of, scene_of, story_of, RunFault}
 use Rattle.ink_player.specs.Serving.{Runs}
-use Rattle.ink_protocol.specs.declared.fault.RunFault.{RunFault}
 use Rattle.ink_player.proofs.session.serve_lines.Given as goal
 
 -- however the session goes on from here, so it goes from the start

@@ -1,9 +1,7 @@
 use Rattle.std.proofs.Common.{[], List, Option, Some, refl, subst, sym}
-use Rattle.ink_model.specs.Protocol.Answer.{Refuses, reply_of_events}
+use Rattle.ink_player.proofs.Common.{Refuses, reply_of_events, Event, Given}
 use Rattle.ink_model.specs.Protocol.Command as command
 use Rattle.ink_model.specs.Protocol.Session.{Set}
-use Rattle.ink_model.specs.declared.host.Event.{Event}
-use Rattle.ink_model.specs.declared.host.Given.{Given}
 use Rattle.ink_player.specs.Standing.{DeliveredBy, bindings, desk_of, scene_of, state_of}
 use Rattle.ink_player.proofs.session.set.Goals as goal
 

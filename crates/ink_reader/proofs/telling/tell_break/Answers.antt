@@ -1,9 +1,6 @@
 use Rattle.std.proofs.Common.{subst, sym}
-use Rattle.std.proofs.KnownBytes.{Appends-trans}
-use Rattle.std.specs.Io.KnownBytes.{Appends}
-use Rattle.ink_model.specs.Protocol.Answer.{reply_of_halt}
+use Rattle.ink_reader.proofs.Common.{Appends-trans, Appends, reply_of_halt, break_told}
 use Rattle.ink_reader.specs.Deeds.{deeds_shown, reply_shown}
-use Rattle.ink_reader.specs.Steps.{break_told}
 use Rattle.ink_reader.specs.Notices.{broke_off}
 use Rattle.ink_reader.proofs.telling.tell_break.Goals as goal
 

@@ -1,6 +1,5 @@
 use Rattle.std.proofs.Common.{◌∙◌, ◌++◌, List, ℕ, OnOk, ap, append_assoc, subst}
-use Rattle.std.proofs.KnownBytes.{Appends-trans}
-use Rattle.std.specs.Io.KnownBytes.{Appends}
+use Rattle.ink_reader.proofs.Common.{Appends-trans, Appends}
 use Rattle.ink_page.specs.Showing.{events_shown, said}
 use Rattle.ink_reader.proofs.Playing.{more-written}
 use Rattle.ink_reader.proofs.telling.tell_fault.Goals as goal

@@ -1,9 +1,6 @@
 use Rattle.std.proofs.Common.{List, [], ◌∙◌, refl, sym}
-use Rattle.ink_model.specs.Protocol.Answer.{Tells, reply_of_halt}
+use Rattle.ink_reader.proofs.Common.{Tells, reply_of_halt, if-ok, Deed, break_told}
 use Rattle.ink_player.specs.Standing.{bindings, desk_of, state_of, story_of}
-use Rattle.ink_player.proofs.Tellings.{if-ok}
-use Rattle.ink_reader.specs.Deeds.{Deed}
-use Rattle.ink_reader.specs.Steps.{break_told}
 use Rattle.ink_reader.proofs.Tellings.{breaks-so, goes-behind, halt-breaks}
 use Rattle.ink_reader.proofs.Halting.{halted}
 use Rattle.ink_reader.proofs.Playing.{played-break, played-gives, played-hushed, played-played}

@@ -2,10 +2,8 @@ use Rattle.std.proofs.Common.{◌≡◌, suc, List, [], ◌∷◌, true, Ok, Err
 use Rattle.std.proofs.lemmas.Bool.{eqb-true}
 use Rattle.std.specs.Bool.{◌==◌}
 use Rattle.ink_model.specs.Protocol.Turns.{ShowsChoices}
-use Rattle.ink_model.specs.declared.passage.Shown.{Shown}
+use Rattle.ink_reader.proofs.Common.{Shown, said, state_of}
 use Rattle.ink_page.specs.Sentences.{refusal_sentence}
-use Rattle.ink_page.specs.Showing.{said}
-use Rattle.ink_player.specs.Standing.{state_of}
 use Rattle.ink_reader.specs.Notices.{end_words}
 use Rattle.ink_reader.proofs.Playing.{last-written}
 use Rattle.ink_reader.proofs.telling.tell_stop.Goals as goal

@@ -1,5 +1,4 @@
-use Rattle.serde_json.specs.View.{view}
-use Rattle.ink_model.specs.Protocol.Answer.{Saves}
+use Rattle.ink_reader.proofs.Common.{view, Saves}
 use Rattle.ink_reader.proofs.Tellings.{path-tells}
 use Rattle.ink_reader.proofs.whereabouts.next_path.Goals as goal
 

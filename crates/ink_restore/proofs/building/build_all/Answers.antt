@@ -1,7 +1,6 @@
 use Rattle.std.proofs.Common.{◌+◌, drop, get_or, inl, inr, subst, sym}
 use Rattle.ink_restore.proofs.Making.{Making, built, making_asks, making_done, making_more, making_refused, never}
-use Rattle.ink_spelling.proofs.Asking.{or_else}
-use Rattle.ink_tree.specs.Nodes.{story_tree}
+use Rattle.ink_restore.proofs.Common.{or_else, story_tree}
 use Rattle.ink_restore.proofs.building.build_all.Goals as goal
 
 pub loop-item-preserved : goal.loop-item-preserved

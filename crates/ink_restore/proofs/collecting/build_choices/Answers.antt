@@ -1,13 +1,7 @@
 use Rattle.std.proofs.Common.{map, refl}
-use Rattle.std.specs.List.{AllByRecursion}
-use Rattle.std.specs.declared.alloc.Global.{Global}
-use Rattle.std.specs.declared.vec.Vec.{Vec}
-use Rattle.ink_model.specs.Run.Configuration.{ChoiceOf, map_choice}
+use Rattle.ink_restore.proofs.Common.{AllByRecursion, Global, Vec, ChoiceOf, map_choice, ChoiceFits, place_of, story_tree, Spot}
 use Rattle.ink_restore.proofs.Limits.{choices_built}
 use Rattle.ink_restore.proofs.Making.{built}
-use Rattle.ink_model.specs.Save.Sound.{ChoiceFits}
-use Rattle.ink_tree.specs.Nodes.{place_of, story_tree}
-use Rattle.ink_tree.specs.declared.spot.Spot.{Spot}
 use Rattle.ink_restore.proofs.collecting.build_choices.Goals as goal
 
 pub returns-clause-builds : goal.returns-clause-builds

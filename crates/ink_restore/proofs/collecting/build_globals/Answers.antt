@@ -1,12 +1,10 @@
 use Rattle.std.proofs.Common.{◌∙◌, ◌+◌, ap, drop, get_or, inl, is_some, subst, sym}
 use Rattle.ink_model.specs.Variables.Store.{store, stored}
-use Rattle.ink_model.specs.declared.value.Value.{Value}
+use Rattle.ink_restore.proofs.Common.{Value, story_tree, or_else}
 use Rattle.ink_restore.proofs.Limits.{Collects, collects_all, collects_more, name_refused, value_refused}
 use Rattle.ink_restore.proofs.Making.{built, never}
 use Rattle.ink_model.specs.Save.Sound.{RowFits, ValueFits}
-use Rattle.ink_tree.specs.Nodes.{story_tree}
 use Rattle.ink_restore.proofs.Asking.{first_at}
-use Rattle.ink_spelling.proofs.Asking.{or_else}
 use Rattle.ink_restore.proofs.collecting.build_globals.Goals as goal
 
 pub returns-then-contains-clause-builds : goal.returns-then-contains-clause-builds

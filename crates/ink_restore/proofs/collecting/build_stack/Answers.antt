@@ -1,12 +1,7 @@
 use Rattle.std.proofs.Common.{map, refl}
-use Rattle.std.specs.List.{AllByRecursion}
-use Rattle.std.specs.declared.alloc.Global.{Global}
-use Rattle.std.specs.declared.vec.Vec.{Vec}
-use Rattle.ink_model.specs.declared.value.Value.{Value}
+use Rattle.ink_restore.proofs.Common.{AllByRecursion, Global, Vec, Value, ValueFits, story_tree}
 use Rattle.ink_restore.proofs.Limits.{stack_built}
 use Rattle.ink_restore.proofs.Making.{built}
-use Rattle.ink_model.specs.Save.Sound.{ValueFits}
-use Rattle.ink_tree.specs.Nodes.{story_tree}
 use Rattle.ink_restore.proofs.collecting.build_stack.Goals as goal
 
 pub returns-clause-builds : goal.returns-clause-builds

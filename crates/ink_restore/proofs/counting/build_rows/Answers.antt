@@ -1,13 +1,11 @@
 use Rattle.std.proofs.Common.{◌≡◌, ◌∙◌, ◌<◌, ◌≤◌, arith, get_or, inl, length, subst, sym}
 use Rattle.ink_model.specs.Story.Places.{places}
 use Rattle.ink_model.specs.Save.Sound.{RowCounts}
-use Rattle.ink_model.specs.declared.limits.TheConstants.{MAX_COUNT}
+use Rattle.ink_restore.proofs.Common.{MAX_COUNT, story_tree, or_else}
 use Rattle.ink_restore.specs.Counted.{flag_of, least_of, row_at, rows_at}
 use Rattle.ink_restore.proofs.Making.{never}
 use Rattle.ink_restore.proofs.Numbering.{numbers_done, numbers_more, order_refused, row_refused, slots_below}
-use Rattle.ink_tree.specs.Nodes.{story_tree}
 use Rattle.ink_restore.proofs.Asking.{first_at}
-use Rattle.ink_spelling.proofs.Asking.{or_else}
 use Rattle.ink_vars.specs.Slots.{rows_from}
 use Rattle.ink_restore.proofs.counting.build_rows.Goals as goal
 

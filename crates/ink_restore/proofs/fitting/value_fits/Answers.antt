@@ -1,8 +1,6 @@
 use Rattle.std.proofs.Common.{◌≡◌, ◌∙◌, ◌↔◌, Bool, IsTrue, inl, inr, refl, subst, sym}
 use Rattle.ink_model.specs.Save.Sound.{PathFits, ValueFits}
-use Rattle.ink_model.specs.Story.Tree.{StoryTree}
-use Rattle.ink_model.specs.declared.value.Value.{Value}
-use Rattle.ink_tree.specs.Nodes.{story_tree}
+use Rattle.ink_restore.proofs.Common.{StoryTree, Value, story_tree}
 use Rattle.ink_restore.proofs.fitting.value_fits.Goals as goal
 
 fits_as : (s : StoryTree) (b : Bool) (v w : Value) → v ≡ w → IsTrue b ↔ ValueFits s v → IsTrue b ↔ ValueFits s w

@@ -1,13 +1,10 @@
 use Rattle.std.proofs.Common.{◌∙◌, ap, map, subst}
 use Rattle.ink_choice.specs.Choices.{ChoicesView}
-use Rattle.ink_model.specs.Run.Configuration.{map_choice}
+use Rattle.ink_restore.proofs.Common.{map_choice, or_else, place_of, story_tree, Spot}
 use Rattle.ink_model.specs.Save.Sound.{ChoiceFits, ChoicesFit, StackFits, ValueFits}
 use Rattle.ink_restore.specs.Building.{ChoiceAsks, FirstAsks, ListAsks, ThreadsAsk}
 use Rattle.ink_restore.proofs.Asking.{choice_asks, list_later, list_now}
 use Rattle.ink_restore.proofs.Making.{built}
-use Rattle.ink_spelling.proofs.Asking.{or_else}
-use Rattle.ink_tree.specs.Nodes.{place_of, story_tree}
-use Rattle.ink_tree.specs.declared.spot.Spot.{Spot}
 use Rattle.ink_value.specs.Stack.{Stack}
 use Rattle.ink_restore.proofs.flowing.build_flow.Goals as goal
 

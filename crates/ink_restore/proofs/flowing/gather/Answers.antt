@@ -1,16 +1,12 @@
 use Rattle.std.proofs.Common.{◌∙◌, ◌&&◌, ap, get_or, inl, inr, is_none, subst, sym}
-use Rattle.ink_flows.specs.Standing.{flow_of, rows_of}
+use Rattle.ink_restore.proofs.Common.{flow_of, rows_of, at, FlowSound, story_tree, or_else}
 use Rattle.ink_model.specs.Run.Flows.{is_flow_name}
-use Rattle.ink_model.specs.Variables.Named.{at}
-use Rattle.ink_model.specs.Save.Sound.{FlowSound}
 use Rattle.ink_restore.proofs.Gathers.{gathers_all, gathers_barred, gathers_more, gathers_refused}
 use Rattle.ink_restore.proofs.Making.{built, never}
-use Rattle.ink_tree.specs.Nodes.{story_tree}
 use Rattle.ink_restore.proofs.Asking.{first_at, list_now, named_asks}
 use Rattle.ink_restore.proofs.Standing.{both, none_is}
 use Rattle.ink_restore.specs.Asks.{FlowAsks, NamedAsks}
 use Rattle.ink_restore.specs.Gathered.{NamedSound}
-use Rattle.ink_spelling.proofs.Asking.{or_else}
 use Rattle.ink_restore.proofs.flowing.gather.Goals as goal
 
 pub returns-then-not-may_join-clause-gathers : goal.returns-then-not-may_join-clause-gathers

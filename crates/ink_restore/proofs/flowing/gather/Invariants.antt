@@ -1,6 +1,5 @@
 use Rattle.std.proofs.Common.{drop}
-use Rattle.ink_flows.specs.Standing.{rows_of}
-use Rattle.ink_tree.specs.Nodes.{story_tree}
+use Rattle.ink_restore.proofs.Common.{rows_of, story_tree}
 use Rattle.ink_restore.proofs.Gathers.{Gathers}
 use Rattle.ink_restore.proofs.flowing.gather.Given as goal
 

@@ -1,7 +1,6 @@
 use Rattle.std.proofs.Common.{◌≡◌, ◌∙◌, ◌&&◌, None, Option, Some, ap, is_none, is_some, not, refl, sym}
-use Rattle.ink_flows.specs.Standing.{rows_of}
+use Rattle.ink_restore.proofs.Common.{rows_of, at}
 use Rattle.ink_host.proofs.Entries.{found}
-use Rattle.ink_model.specs.Variables.Named.{at}
 use Rattle.ink_restore.proofs.flowing.may_join.Goals as goal
 
 not_there : {A : Type 0} (o : Option A) → not (is_some o) ≡ is_none o

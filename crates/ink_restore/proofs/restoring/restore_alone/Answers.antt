@@ -1,13 +1,9 @@
 use Rattle.std.proofs.Common.{ap, subst}
-use Rattle.ink_flows.specs.Standing.{flow_of}
-use Rattle.ink_model.specs.Save.Sound.{FlowSound, SharedSound}
-use Rattle.ink_tree.specs.Nodes.{story_tree}
+use Rattle.ink_restore.proofs.Common.{flow_of, FlowSound, SharedSound, story_tree, shared_as, or_else}
 use Rattle.ink_restore.proofs.Making.{built}
 use Rattle.ink_restore.proofs.Whole.{alone_built}
-use Rattle.ink_restore.specs.Parts.{shared_as}
 use Rattle.ink_restore.proofs.Asking.{flow_asks}
 use Rattle.ink_restore.specs.Asks.{FlowAsks}
-use Rattle.ink_spelling.proofs.Asking.{or_else}
 use Rattle.ink_restore.proofs.restoring.restore_alone.Goals as goal
 
 pub returns-clause-builds : goal.returns-clause-builds

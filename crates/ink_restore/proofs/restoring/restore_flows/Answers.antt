@@ -1,15 +1,9 @@
 use Rattle.std.proofs.Common.{◌≡◌, ◌∙◌, None, ap, refl, subst, sym, true}
-use Rattle.std.specs.List.{AllByRecursion}
-use Rattle.ink_flows.specs.Standing.{rows_of}
-use Rattle.ink_model.specs.Variables.Named.{at}
-use Rattle.ink_model.specs.Save.Unspelled.{aside_but}
-use Rattle.ink_tree.specs.Nodes.{story_tree}
+use Rattle.ink_restore.proofs.Common.{AllByRecursion, rows_of, at, aside_but, story_tree, FlowsAsk, or_else}
 use Rattle.ink_restore.proofs.Making.{built, never}
 use Rattle.ink_restore.proofs.Whole.{Plain, flows_built, flows_found, gather_refused, rows_current}
 use Rattle.ink_restore.proofs.Standing.{whether}
 use Rattle.ink_restore.specs.Gathered.{FlowsFit, gathered_as, may_be_all}
-use Rattle.ink_restore.specs.Asks.{FlowsAsk}
-use Rattle.ink_spelling.proofs.Asking.{or_else}
 use Rattle.ink_restore.proofs.restoring.restore_flows.Goals as goal
 
 pub returns-in-Some-clause-builds : goal.returns-in-Some-clause-builds

@@ -1,15 +1,9 @@
 use Rattle.std.proofs.Common.{◌≡◌, IfSome, ap, refl, subst, true}
-use Rattle.ink_model.specs.Variables.Named.{at}
-use Rattle.ink_model.specs.Save.Sound.{SharedSound}
-use Rattle.ink_model.specs.Save.Unspelled.{aside_but}
-use Rattle.ink_tree.specs.Nodes.{story_tree}
+use Rattle.ink_restore.proofs.Common.{at, SharedSound, aside_but, story_tree, shared_as, FlowsAsk, or_else}
 use Rattle.ink_restore.proofs.Making.{built, never}
 use Rattle.ink_restore.proofs.Whole.{flows_refused, game_built, shared_refused, stand_fit}
 use Rattle.ink_restore.specs.Gathered.{AllStand, flows_as, may_be_all}
-use Rattle.ink_restore.specs.Parts.{shared_as}
-use Rattle.ink_restore.specs.Asks.{FlowsAsk}
 use Rattle.ink_restore.proofs.Asking.{flows_ask}
-use Rattle.ink_spelling.proofs.Asking.{or_else}
 use Rattle.ink_restore.proofs.restoring.restore_game.Goals as goal
 
 pub returns-in_default-clause-restores : goal.returns-in_default-clause-restores

@@ -1,12 +1,9 @@
 use Rattle.std.proofs.Common.{◌∙◌, ◌≤◌, ap, subst}
 use Rattle.ink_model.specs.Save.Sound.{GlobalsFit, RowFits}
-use Rattle.ink_model.specs.declared.limits.TheConstants.{MAX_COUNT}
+use Rattle.ink_restore.proofs.Common.{MAX_COUNT, FirstAsks, or_else, story_tree}
 use Rattle.ink_restore.specs.Asks.{CountsAsk, SharedAsks}
-use Rattle.ink_restore.specs.Building.{FirstAsks}
 use Rattle.ink_restore.proofs.Asking.{list_later, list_now}
 use Rattle.ink_restore.proofs.Making.{built}
-use Rattle.ink_spelling.proofs.Asking.{or_else}
-use Rattle.ink_tree.specs.Nodes.{story_tree}
 use Rattle.ink_vars.specs.Views.{GlobalsView}
 use Rattle.ink_restore.proofs.restoring.restore_shared.Goals as goal
 

@@ -1,12 +1,10 @@
 use Rattle.std.proofs.Common.{◌≡◌, ◌∙◌, ◌-◌, ◌+◌, ◌<◌, ◌++◌, true, false, ap, arith, get_or, length, length-set, refl, reverse, set, subst, sym}
 use Rattle.std.proofs.lemmas.List.{drop_all, get_or-set_same}
-use Rattle.ink_model.specs.Flow.Frames.{is_function}
-use Rattle.ink_model.specs.Flow.Threads.{stale}
+use Rattle.ink_stack.proofs.Common.{is_function, stale, Covers, IsQuiet}
 use Rattle.ink_stack.proofs.Bases.{stale_kind}
 use Rattle.ink_stack.proofs.Numbers.{some_frame}
 use Rattle.ink_stack.proofs.Quietness.{quiet_end, quiet_step, quiet_stop}
 use Rattle.ink_stack.proofs.Runs.{run_at, run_end, run_start, run_step, run_stop}
-use Rattle.ink_stack.specs.Quiet.{Covers, IsQuiet}
 use Rattle.ink_stack.proofs.running.end_freshness_of.Goals as goal
 
 pub loop-count-init : goal.loop-count-init

@@ -1,6 +1,5 @@
 use Rattle.std.proofs.Common.{arith, ◌∙◌, ◌++◌, [], ◌∷◌, ap}
-use Rattle.std.proofs.lemmas.List.{length-reverse}
-use Rattle.ink_stack.specs.Running.{threads_in}
+use Rattle.ink_stack.proofs.Common.{length-reverse, threads_in}
 use Rattle.ink_stack.proofs.Tops.{doubled_full, doubled_refused, doubled_done}
 use Rattle.ink_stack.proofs.threads.push_copy.Goals as goal
 

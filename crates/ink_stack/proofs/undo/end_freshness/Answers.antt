@@ -1,11 +1,8 @@
 use Rattle.std.proofs.Common.{◌≡◌, ◌∙◌, ◌+◌, ap, arith, length, subst, sym, vec_capacity}
-use Rattle.std.proofs.lemmas.Bool.{OnTrue_at}
+use Rattle.ink_stack.proofs.Common.{OnTrue_at, IsQuiet, RunningView, threads_in, StaysHeld, threads_back}
 use Rattle.ink_model.specs.Flow.Threads.{frame_count, stale, stale_run, staled}
 use Rattle.ink_trail.proofs.Undoing.{trails-more, trails-trails}
 use Rattle.ink_trail.specs.Undo.{Trails, trail_of}
-use Rattle.ink_stack.specs.Quiet.{IsQuiet}
-use Rattle.ink_stack.specs.Running.{RunningView, threads_in}
-use Rattle.ink_stack.specs.Undo.{StaysHeld, threads_back}
 use Rattle.ink_stack.proofs.Framing.{framed_top}
 use Rattle.ink_stack.proofs.Quietness.{quiet_run}
 use Rattle.ink_stack.proofs.Staling.{staled_twice}

@@ -1,9 +1,5 @@
 use Rattle.std.proofs.Common.{ap, arith, reverse}
-use Rattle.ink_model.specs.Flow.Threads.{stale}
-use Rattle.ink_trail.proofs.Undoing.{trails-one}
-use Rattle.ink_trail.specs.Undo.{trail_of}
-use Rattle.ink_stack.specs.Running.{threads_in}
-use Rattle.ink_stack.specs.Undo.{threads_back}
+use Rattle.ink_stack.proofs.Common.{stale, trails-one, trail_of, threads_in, threads_back}
 use Rattle.ink_stack.specs.declared.undo.ThreadsPair.TheVariants.{Fresh}
 use Rattle.ink_stack.proofs.Bases.{stale_kind, stale_temps}
 use Rattle.ink_stack.proofs.Framing.{within_framed}

@@ -1,7 +1,6 @@
 use Rattle.std.proofs.Common.{◌≡◌, ◌∙◌, ◌-◌, ◌+◌, ◌≤◌, true, false, ap, arith, length, refl, sym}
-use Rattle.ink_model.specs.Flow.Threads.{stale, stale_run}
+use Rattle.ink_stack.proofs.Common.{stale, stale_run, threads_back}
 use Rattle.ink_trail.proofs.Undoing.{trails-more, trails-none, trails-trails}
-use Rattle.ink_stack.specs.Undo.{threads_back}
 use Rattle.ink_stack.proofs.Framing.{length-changed}
 use Rattle.ink_stack.proofs.Staling.{framed_lower, from_step, from_stop, from_top, from_zero, function_at, function_below, running_is, stale_from}
 use Rattle.ink_stack.proofs.undo.end_run.Goals as goal

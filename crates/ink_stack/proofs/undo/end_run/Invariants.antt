@@ -1,8 +1,6 @@
 use Rattle.std.proofs.Common.{◌≡◌, ◌≤◌, ◌-◌, length, vec_capacity}
-use Rattle.ink_model.specs.Flow.Threads.{stale_run}
+use Rattle.ink_stack.proofs.Common.{stale_run, threads_in, StaysHeld, threads_back}
 use Rattle.ink_trail.specs.Undo.{Trails, spare, trail_of}
-use Rattle.ink_stack.specs.Running.{threads_in}
-use Rattle.ink_stack.specs.Undo.{StaysHeld, threads_back}
 use Rattle.ink_stack.proofs.Staling.{stale_from}
 use Rattle.ink_stack.proofs.undo.end_run.Given as goal
 

@@ -1,6 +1,5 @@
 use Rattle.std.proofs.Common.{◌∙◌, [], ◌∷◌, ap, arith, refl, reverse, vec_capacity, vec_len}
-use Rattle.std.proofs.lemmas.List.{reverse-append}
-use Rattle.ink_stack.specs.Running.{threads_in}
+use Rattle.ink_stack.proofs.Common.{reverse-append, threads_in}
 use Rattle.ink_stack.proofs.Holding.{room-refl, room-same, running-back, room-under}
 use Rattle.ink_stack.proofs.Lengths.{room_behind}
 use Rattle.ink_stack.proofs.Reversing.{popped_gone}

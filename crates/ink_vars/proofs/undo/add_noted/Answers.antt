@@ -1,7 +1,6 @@
 use Rattle.std.proofs.Common.{◌≡◌, ◌∙◌, ap, arith, length, suc}
 use Rattle.ink_trail.proofs.Undoing.{trails-one}
-use Rattle.ink_trail.specs.Undo.{but_last}
-use Rattle.ink_vars.specs.Undo.{global_back}
+use Rattle.ink_vars.proofs.Common.{but_last, global_back}
 use Rattle.ink_vars.specs.declared.undo.GlobalPair.TheVariants.{Added}
 use Rattle.ink_vars.proofs.Covering.{covers_added, new_here}
 use Rattle.ink_vars.proofs.Taking.{added, one_longer}

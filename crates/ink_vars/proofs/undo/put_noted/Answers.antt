@@ -1,6 +1,5 @@
 use Rattle.std.proofs.Common.{◌≡◌, ◌∙◌, ◌<◌, ◌≤◌, ap, arith, is_some, length, sym}
-use Rattle.ink_vars.specs.Globals.{set_value_at}
-use Rattle.ink_vars.specs.Changes.{noted_at, number_of}
+use Rattle.ink_vars.proofs.Common.{set_value_at, noted_at, number_of}
 use Rattle.ink_vars.proofs.Noting.{on_error}
 use Rattle.ink_vars.proofs.Numbers.{number_next}
 use Rattle.ink_vars.proofs.Taking.{absent_past, written_over}

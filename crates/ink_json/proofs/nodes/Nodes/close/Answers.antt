@@ -1,7 +1,5 @@
 use Rattle.std.proofs.Common.{◌∷◌, ◌<◌, ap, length, arith}
-use Rattle.std.proofs.lemmas.List.{length-append, length-map}
-use Rattle.ink_json.specs.Kept.{node_of}
-use Rattle.ink_json.specs.Listing.{container_node}
+use Rattle.ink_json.proofs.Common.{length-append, length-map, node_of, container_node}
 use Rattle.ink_json.proofs.Keeping.{closed, known_filled}
 use Rattle.ink_json.proofs.nodes.Nodes.close.Goals as goal
 

@@ -1,7 +1,5 @@
 use Rattle.std.proofs.Common.{◌∙◌, ◌+◌, ◌<◌, ◌^◌, ◌++◌, ◌∷◌, [], Some, ap, refl, length, get_or, arith}
-use Rattle.std.proofs.lemmas.List.{length-map}
-use Rattle.ink_model.specs.declared.place.Part.TheVariants.{Name}
-use Rattle.ink_json.specs.Kept.{node_of, nodes_kept}
+use Rattle.ink_json.proofs.Common.{length-map, Name, node_of, nodes_kept}
 use Rattle.ink_json.proofs.Keeping.{again_known, again_pushed, known_pushed}
 use Rattle.ink_json.proofs.nodes.Nodes.push_named.Goals as goal
 

@@ -1,7 +1,5 @@
 use Rattle.std.proofs.Common.{◌≡◌, ◌∙◌, ◌+◌, ◌<◌, ◌^◌, ◌++◌, ◌∷◌, [], Some, ap, length, take, arith}
-use Rattle.std.proofs.lemmas.List.{length-map}
-use Rattle.ink_model.specs.declared.place.Part.TheVariants.{Name}
-use Rattle.ink_json.specs.Kept.{node_of, nodes_kept}
+use Rattle.ink_json.proofs.Common.{length-map, Name, node_of, nodes_kept}
 use Rattle.ink_json.proofs.Keeping.{named_code, named_known, named_pushed, taken_back}
 use Rattle.ink_json.proofs.nodes.Nodes.push_new_name.Goals as goal
 

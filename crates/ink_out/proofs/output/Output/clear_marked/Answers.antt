@@ -1,10 +1,7 @@
 use Rattle.std.proofs.Common.{◌∙◌, ◌≤◌, ap, arith, subst, sym}
-use Rattle.ink_out.specs.Undo.{output_back, output_spare}
-use Rattle.ink_out.specs.Writing.{page_of}
+use Rattle.ink_out.proofs.Common.{output_back, output_spare, page_of, trails-one, trails-trails, spare}
 use Rattle.ink_out.specs.declared.undo.OutputPair.TheVariants.{Line, Sections}
 use Rattle.ink_out.proofs.output.Output.clear_marked.Goals as goal
-use Rattle.ink_trail.proofs.Undoing.{trails-one, trails-trails}
-use Rattle.ink_trail.specs.Undo.{spare}
 
 pub note-requires-clause-spare : goal.note-requires-clause-spare
 unfolding output_spare

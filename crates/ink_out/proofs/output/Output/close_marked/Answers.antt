@@ -1,12 +1,8 @@
-use Rattle.ink_out.specs.Writing.{page_of}
+use Rattle.ink_out.proofs.Common.{page_of, length-reverse, output_back, Closed, trails-after, trails-one}
 use Rattle.ink_out.proofs.Closing.{closed_is}
-use Rattle.std.proofs.lemmas.List.{length-reverse}
 use Rattle.std.proofs.Common.{arith, ◌≤◌, length, refl, reverse, vec_capacity}
-use Rattle.ink_out.specs.Undo.{output_back}
-use Rattle.ink_out.specs.declared.undo.OutputPair.TheVariants.{Closed}
 use Rattle.ink_out.proofs.Undoing.{closed_back, goes-as, goes-with}
 use Rattle.ink_out.proofs.output.Output.close_marked.Goals as goal
-use Rattle.ink_trail.proofs.Undoing.{trails-after, trails-one}
 
 pub returns-in-Some-clause-trail : goal.returns-in-Some-clause-trail
 returns-in-Some-clause-trail c =

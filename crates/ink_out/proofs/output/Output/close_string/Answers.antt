@@ -1,7 +1,6 @@
 use Rattle.std.proofs.Common.{◌≡◌, ◌∙◌, ap, inl, inr, refl, sym, ◌<◌, arith, length, reverse, subst}
 use Rattle.ink_model.specs.Text.Output.{closes_string}
-use Rattle.ink_model.specs.declared.fault.Fault.TheVariants.{OutOfMemory}
-use Rattle.ink_out.specs.Writing.{page_of}
+use Rattle.ink_out.proofs.Common.{OutOfMemory, page_of}
 use Rattle.ink_out.proofs.Closing.{hands_nothing, no_string, none_closed, nothing_open, on_top, string_asks, string_closed, string_refused, close_asks}
 use Rattle.ink_out.proofs.Marks.{spare_after, stood_after}
 use Rattle.ink_out.proofs.output.Output.close_string.Goals as goal

@@ -1,9 +1,7 @@
 use Rattle.std.proofs.Common.{◌≡◌, ◌∙◌, ◌<◌, ap, arith, inl, inr, length, refl, reverse, subst, sym}
-use Rattle.ink_model.specs.Run.Configuration.{Page}
+use Rattle.ink_out.proofs.Common.{Page, OutOfMemory, closed, page_of}
 use Rattle.ink_model.specs.Memory.Refusals.{Hands}
 use Rattle.ink_model.specs.Text.Output.{closes_tag, tagged}
-use Rattle.ink_model.specs.declared.fault.Fault.TheVariants.{OutOfMemory}
-use Rattle.ink_out.specs.Writing.{closed, page_of}
 use Rattle.ink_out.proofs.Closing.{hands_nothing, no_tag, none_closed, nothing_open, on_top, tag_asks, tag_closed, tag_refused}
 use Rattle.ink_out.proofs.Marks.{spare_after, stood_after}
 use Rattle.ink_out.proofs.output.Output.close_tag.Goals as goal

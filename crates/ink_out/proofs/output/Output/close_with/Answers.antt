@@ -1,7 +1,5 @@
 use Rattle.std.proofs.Common.{◌∙◌, ◌≤◌, [], ◌∷◌, length, refl, reverse, ap, arith, sym, vec_capacity}
-use Rattle.std.proofs.lemmas.List.{length-reverse}
-use Rattle.ink_out.specs.Kept.{mark_of}
-use Rattle.ink_out.specs.Undo.{output_back}
+use Rattle.ink_out.proofs.Common.{length-reverse, mark_of, output_back}
 use Rattle.ink_out.proofs.Closing.{closed_ok, closed_err, some_open, stays_as}
 use Rattle.ink_out.proofs.Undoing.{goes-as, goes-unmarked, or_keeps}
 use Rattle.ink_out.proofs.output.Output.close_with.Goals as goal

@@ -1,16 +1,9 @@
 use Rattle.std.proofs.Common.{◌≡◌, ◌∙◌, List, [], ◌∷◌, Err, ap, arith, inl, length, refl, subst, sym, vec_capacity}
-use Rattle.std.proofs.lemmas.List.{length-reverse}
-use Rattle.ink_model.specs.Run.Configuration.{Page, Section}
-use Rattle.ink_model.specs.Memory.Refusals.{Gives}
+use Rattle.ink_out.proofs.Common.{length-reverse, Page, Section, Gives, OutOfMemory, Held, output_back, closed, page_of, Closed, Wrote, trails-after, trails-one, trails-trails}
 use Rattle.ink_model.specs.Text.Output.{writes_marks}
-use Rattle.ink_model.specs.declared.fault.Fault.TheVariants.{OutOfMemory}
-use Rattle.ink_out.specs.Undo.{Held, output_back}
-use Rattle.ink_out.specs.Writing.{closed, page_of}
-use Rattle.ink_out.specs.declared.undo.OutputPair.TheVariants.{Closed, Wrote}
 use Rattle.ink_out.proofs.Closing.{asks_mark, closed_is, put_back, refilled, some_open, unchanged}
 use Rattle.ink_out.proofs.Undoing.{closed_back, goes-as, goes-with, held_page, noted_back, or_keeps}
 use Rattle.ink_out.proofs.output.Output.close_with_marked.Goals as goal
-use Rattle.ink_trail.proofs.Undoing.{trails-after, trails-one, trails-trails}
 
 pub invariant_of-self-in-Ok : goal.invariant_of-self-in-Ok
 invariant_of-self-in-Ok c =

@@ -1,9 +1,6 @@
 use Rattle.ink_model.specs.Text.Output.{begins_function}
-use Rattle.ink_model.specs.Memory.Refusals.{Gives}
-use Rattle.ink_model.specs.Run.Configuration.{Page}
+use Rattle.ink_out.proofs.Common.{Gives, Page, output_back, output_spare, output_stood, page_of}
 use Rattle.std.proofs.Common.{arith, refl, vec_capacity, Err, subst, sym, ap}
-use Rattle.ink_out.specs.Undo.{output_back, output_spare, output_stood}
-use Rattle.ink_out.specs.Writing.{page_of}
 use Rattle.ink_out.specs.declared.undo.OutputPair.TheVariants.{Numbered}
 use Rattle.ink_out.proofs.Closing.{refilled, begins, unchanged, limited}
 use Rattle.ink_out.proofs.Undoing.{goes-now, goes-with, or_keeps}

@@ -1,7 +1,6 @@
 use Rattle.ink_out.proofs.Closing.{nothing_open, on_top}
 use Rattle.ink_model.specs.Run.Step.Text.{in_tag}
-use Rattle.ink_model.specs.Text.Output.{is_string}
-use Rattle.std.specs.List.{list_any}
+use Rattle.ink_out.proofs.Common.{is_string, list_any}
 use Rattle.std.proofs.Common.{◌∙◌, ap, not, refl, reverse, sym}
 use Rattle.ink_out.proofs.output.Output.is_tag_in_string.Goals as goal
 

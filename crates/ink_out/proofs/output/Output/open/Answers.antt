@@ -1,9 +1,7 @@
 use Rattle.ink_out.specs.Opened.{section_kind}
 use Rattle.ink_out.proofs.Closing.{opens_one}
 use Rattle.std.proofs.Common.{◌≡◌, ◌∙◌, ◌≤◌, [], ◌∷◌, ◌++◌, ap, arith, vec_capacity, length, refl, sym}
-use Rattle.std.proofs.lemmas.List.{length-reverse}
-use Rattle.ink_out.specs.Undo.{output_back, output_spare, output_stood}
-use Rattle.ink_out.specs.Writing.{page_of}
+use Rattle.ink_out.proofs.Common.{length-reverse, output_back, output_spare, output_stood, page_of}
 use Rattle.ink_out.specs.declared.undo.OutputPair.TheVariants.{Began}
 use Rattle.ink_out.proofs.Undoing.{began_back, goes-as, goes-with}
 use Rattle.ink_out.proofs.output.Output.open.Goals as goal

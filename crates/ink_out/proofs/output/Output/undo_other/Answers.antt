@@ -1,9 +1,8 @@
 use Rattle.std.proofs.Common.{subst, sym, vec_capacity}
 use Rattle.ink_out.specs.Undo.{GoesBack, output_back, room_of}
-use Rattle.ink_out.specs.Writing.{page_of}
+use Rattle.ink_out.proofs.Common.{page_of, trail_of}
 use Rattle.ink_out.proofs.Undoing.{goes-more, goes-now}
 use Rattle.ink_out.proofs.output.Output.undo_other.Goals as goal
-use Rattle.ink_trail.specs.Undo.{trail_of}
 
 pub put_one_back-requires-clause-keeps : goal.put_one_back-requires-clause-keeps
 put_one_back-requires-clause-keeps c =

@@ -1,9 +1,5 @@
 use Rattle.std.proofs.Common.{◌≡◌, ◌≢◌, ℕ, true, false, not, cond, List, [], ◌∷◌, length, refl, arith, rules, vec_capacity}
-use Rattle.std.specs.List.{list_any}
-use Rattle.std.proofs.lemmas.List.{nil_from_length}
-use Rattle.ink_model.specs.Text.Bytes.{is_blank}
-use Rattle.ink_model.specs.Text.Mark.{cut, piece}
-use Rattle.ink_model.specs.declared.mark.Mark.TheVariants.{Blank, Text}
+use Rattle.ink_out.proofs.Common.{list_any, nil_from_length, is_blank, cut, piece, Blank, Text}
 use Rattle.ink_out.proofs.Closing.{refilled}
 use Rattle.ink_out.proofs.Noting.{empty_text, whole_cut, let_through-piece}
 use Rattle.ink_out.proofs.Marks.{spare_after, stood_after}

@@ -1,11 +1,8 @@
 use Rattle.std.proofs.Common.{◌≡◌, ◌∙◌, ◌∷◌, ap, drop, subst, sym}
-use Rattle.ink_out.specs.Undo.{GoesBack, output_back}
-use Rattle.ink_out.specs.Writing.{page_of}
-use Rattle.ink_out.specs.declared.undo.OutputPair.TheVariants.{Wrote}
+use Rattle.ink_out.proofs.Common.{GoesBack, output_back, page_of, Wrote, trail_of}
 use Rattle.ink_out.proofs.Closing.{refilled}
 use Rattle.ink_out.proofs.Undoing.{goes-now}
 use Rattle.ink_out.proofs.output.OutputUndo.undo_last.Goals as goal
-use Rattle.ink_trail.specs.Undo.{trail_of}
 
 pub invariant_of-self : goal.invariant_of-self
 invariant_of-self c =

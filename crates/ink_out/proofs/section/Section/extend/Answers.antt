@@ -1,9 +1,6 @@
-use Rattle.ink_out.specs.Stands.{Sees}
+use Rattle.ink_out.proofs.Common.{Sees, output_back, with_open, GoesBack, trails-after, Trails, trail_of}
 use Rattle.std.proofs.Common.{◌∙◌, length, subst}
-use Rattle.ink_out.specs.Undo.{output_back, with_open, GoesBack}
 use Rattle.ink_out.proofs.section.Section.extend.Goals as goal
-use Rattle.ink_trail.proofs.Undoing.{trails-after}
-use Rattle.ink_trail.specs.Undo.{Trails, trail_of}
 
 pub returns-clause-trail : goal.returns-clause-trail
 returns-clause-trail c = λ page.

@@ -1,7 +1,6 @@
 use Rattle.std.proofs.Common.{◌∙◌, ap, refl, subst, sym}
-use Rattle.ink_out.specs.Stands.{IsStateOf}
+use Rattle.ink_out.proofs.Common.{IsStateOf, but_last}
 use Rattle.ink_out.proofs.section.Section.take_back.Goals as goal
-use Rattle.ink_trail.specs.Undo.{but_last}
 
 pub invariant_of-self : goal.invariant_of-self
 invariant_of-self c =

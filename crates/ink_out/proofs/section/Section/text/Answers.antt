@@ -1,8 +1,5 @@
 use Rattle.std.proofs.Common.{◌≡◌, ◌∙◌, ap, sym, ℕ, List, [], ◌∷◌, ◌++◌, Result, Ok, Err, IfOk, OnErr}
-use Rattle.ink_model.specs.Text.Clean.{clean}
-use Rattle.ink_model.specs.Text.Shown.{shown_text}
-use Rattle.ink_model.specs.declared.mark.Mark.{Mark}
-use Rattle.ink_model.specs.declared.mark.Mark.TheVariants.{Text, Newline}
+use Rattle.ink_out.proofs.Common.{clean, shown_text, Mark, Text, Newline}
 use Rattle.ink_out.proofs.Blanks.{nothing_more}
 use Rattle.ink_out.proofs.Joined.{texts_line}
 use Rattle.ink_out.proofs.Lines.{clean_newline}

@@ -1,8 +1,5 @@
 use Rattle.std.proofs.Common.{ℕ, List, ◌∷◌, Option}
-use Rattle.ink_model.specs.declared.mark.Mark.{Mark}
-use Rattle.ink_model.specs.declared.mark.Mark.TheVariants.{Leave}
-use Rattle.ink_out.specs.declared.enters.Enters.{Enters}
-use Rattle.ink_out.specs.Stands.{Knows}
+use Rattle.ink_out.proofs.Common.{Mark, Leave, Enters, Knows}
 use Rattle.ink_out.proofs.tracker.Tracker.add.Goals as goal
 
 pub returns-in-Text : goal.returns-in-Text

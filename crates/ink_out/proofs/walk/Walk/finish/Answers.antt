@@ -1,6 +1,5 @@
 use Rattle.std.proofs.Common.{◌++◌, ap, ◌∙◌}
-use Rattle.ink_out.specs.Cleaning.{shown_as}
-use Rattle.ink_out.specs.Walks.{pile_now}
+use Rattle.ink_out.proofs.Common.{shown_as, pile_now}
 use Rattle.ink_out.proofs.Walking.{walk_end}
 use Rattle.ink_out.proofs.walk.Walk.finish.Goals as goal
 

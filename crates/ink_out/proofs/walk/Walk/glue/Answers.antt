@@ -1,6 +1,5 @@
 use Rattle.std.proofs.Common.{◌∷◌, refl}
-use Rattle.std.proofs.lemmas.List.{append-nil}
-use Rattle.ink_model.specs.Text.Shown.{text_before}
+use Rattle.ink_out.proofs.Common.{append-nil, text_before}
 use Rattle.ink_model.specs.declared.mark.Mark.TheVariants as kinds
 use Rattle.ink_out.proofs.Walking.{walk_plain, smooth_glue}
 use Rattle.ink_out.proofs.walk.Walk.glue.Goals as goal

@@ -1,9 +1,7 @@
 use Rattle.std.proofs.Common.{◌≡◌, ◌∙◌, IfOk, ap, subst}
-use Rattle.serde_json.specs.Data.{Data}
-use Rattle.serde_json.specs.View.{view}
+use Rattle.ink_parts.proofs.Common.{Data, view, place_of, story_tree}
 use Rattle.ink_model.specs.Run.Configuration.{ChoiceOf, map_choice}
 use Rattle.ink_model.specs.Save.Spelling.{choice_data, list_data}
-use Rattle.ink_tree.specs.Nodes.{place_of, story_tree}
 use Rattle.ink_tree.specs.declared.spot.Spot.{Spot}
 use Rattle.ink_parts.proofs.Arrays.{list_over}
 use Rattle.ink_parts.proofs.choices.ChoicesSpotWritten.write.Goals as goal

@@ -1,5 +1,4 @@
-use Rattle.ink_model.specs.Flow.Frames.{map_frame}
-use Rattle.ink_tree.specs.Nodes.{place_of, story_tree}
+use Rattle.ink_parts.proofs.Common.{map_frame, place_of, story_tree}
 use Rattle.ink_parts.proofs.Arrays.{object_made}
 use Rattle.ink_parts.specs.Written.{frame_members}
 use Rattle.ink_parts.proofs.frames.FrameSpotWritten.write.Goals as goal

@@ -1,8 +1,7 @@
 use Rattle.std.proofs.Common.{◌≡◌, ◌∙◌, ◌∷◌, IfOk, refl, reverse, subst}
-use Rattle.serde_json.specs.View.{view}
+use Rattle.ink_parts.proofs.Common.{view, place_of, story_tree}
 use Rattle.ink_model.specs.Flow.Frames.{map_thread}
 use Rattle.ink_model.specs.Save.Spelling.{list_data, thread_data}
-use Rattle.ink_tree.specs.Nodes.{place_of, story_tree}
 use Rattle.ink_parts.proofs.Arrays.{list_mapped}
 use Rattle.ink_parts.proofs.frames.ThreadsSpotWritten.write.Goals as goal
 

@@ -1,9 +1,5 @@
 use Rattle.std.proofs.Common.{None, ap, refl, subst, sym}
-use Rattle.ink_host.specs.Desk.{DeskView}
-use Rattle.ink_model.specs.Protocol.Answer.{reply_of_events}
-use Rattle.ink_check.specs.Standing.{story_tree}
-use Rattle.ink_player.specs.Standing.{PlayerView, Stands, aside_seen, is_empty, condition_by, desk_of, story_of}
-use Rattle.ink_step.specs.Standing.{config_of}
+use Rattle.ink_player.proofs.Common.{DeskView, reply_of_events, story_tree, PlayerView, Stands, aside_seen, is_empty, condition_by, desk_of, story_of, config_of}
 use Rattle.ink_player.proofs.Anew.{begun-anew}
 use Rattle.ink_player.proofs.Tellings.{tells-kept}
 use Rattle.ink_player.proofs.Standing.{game-as, stands-told}

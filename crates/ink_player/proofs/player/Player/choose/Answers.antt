@@ -1,6 +1,5 @@
 use Rattle.std.proofs.Common.{◌∙◌}
-use Rattle.ink_check.specs.Standing.{story_tree}
-use Rattle.ink_step.specs.Standing.{config_of}
+use Rattle.ink_player.proofs.Common.{story_tree, config_of}
 use Rattle.ink_player.proofs.Standing.{aside-stays, choose-stands, chooses-free, free-stands, stands-free}
 use Rattle.ink_player.proofs.player.Player.choose.Goals as goal
 

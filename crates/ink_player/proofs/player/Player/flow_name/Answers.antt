@@ -1,7 +1,6 @@
 use Rattle.std.proofs.Common.{◌∙◌, ap}
-use Rattle.ink_check.specs.Standing.{story_tree}
+use Rattle.ink_player.proofs.Common.{story_tree, state_of}
 use Rattle.ink_model.specs.Run.Flows.{current_name}
-use Rattle.ink_player.specs.Standing.{state_of}
 use Rattle.ink_player.proofs.player.Player.flow_name.Goals as goal
 
 pub returns : goal.returns

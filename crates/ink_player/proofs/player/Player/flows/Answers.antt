@@ -1,7 +1,6 @@
 use Rattle.std.proofs.Common.{◌∙◌, Ok, ap, inl}
-use Rattle.ink_check.specs.Standing.{story_tree}
+use Rattle.ink_player.proofs.Common.{story_tree, state_of}
 use Rattle.ink_model.specs.Variables.Named.{names}
-use Rattle.ink_player.specs.Standing.{state_of}
 use Rattle.ink_player.proofs.player.Player.flows.Goals as goal
 
 pub returns-in-Ok : goal.returns-in-Ok

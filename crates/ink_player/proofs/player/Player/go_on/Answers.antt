@@ -2,10 +2,7 @@ use Rattle.std.proofs.Common.{◌≢◌, ◌∙◌, [], false, ap, subst, sym, r
 use Rattle.ink_commands.specs.Telling.{TellsWatchers}
 use Rattle.ink_host.specs.Desk.{Rows, bound_by, watches}
 use Rattle.ink_model.specs.Protocol.Answer.{reply_of, reply_of_halt}
-use Rattle.ink_model.specs.Variables.Store.{Values}
-use Rattle.ink_model.specs.Host.Told.{told}
-use Rattle.ink_player.specs.Standing.{PlayerView, desk_of, is_empty, state_of, story_of}
-use Rattle.ink_step.specs.Standing.{config_of, globals_of}
+use Rattle.ink_player.proofs.Common.{Values, told, PlayerView, desk_of, is_empty, state_of, story_of, config_of, globals_of}
 use Rattle.ink_player.proofs.Tellings.{broken-as, goes-broken, goes-fault, goes-told, goes-untold, goes-where, none-left, run-none, stops, told-state, with_parts}
 use Rattle.ink_player.proofs.Standing.{aside-stays, free-stands, run-stands, stands-told}
 use Rattle.ink_player.proofs.Refusals.{broke, kept_with, none_called, replied}

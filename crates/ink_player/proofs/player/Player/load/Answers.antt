@@ -1,10 +1,7 @@
 use Rattle.std.proofs.Common.{[], IfOk, ap, subst, sym}
 use Rattle.serde_json.specs.View.{view}
-use Rattle.ink_check.specs.Standing.{story_tree}
-use Rattle.ink_model.specs.Protocol.Answer.{Refuses, reply_of_events}
+use Rattle.ink_player.proofs.Common.{story_tree, Refuses, reply_of_events, PlayerView, bindings, desk_of, state_of, story_of, config_of, game_of, globals_of}
 use Rattle.ink_player.specs.Saving.{ReadsAsState}
-use Rattle.ink_player.specs.Standing.{PlayerView, bindings, desk_of, state_of, story_of}
-use Rattle.ink_step.specs.Standing.{config_of, game_of, globals_of}
 use Rattle.ink_player.proofs.Saves.{load-read, load-reads, load-refused, load-stands}
 use Rattle.ink_player.proofs.Standing.{game-as}
 use Rattle.ink_player.proofs.Tellings.{globals-by, once-none}

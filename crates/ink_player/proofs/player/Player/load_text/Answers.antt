@@ -1,9 +1,5 @@
 use Rattle.std.proofs.Common.{[], IfOk, ap, subst, sym}
-use Rattle.ink_check.specs.Standing.{story_tree}
-use Rattle.ink_model.specs.Protocol.Answer.{reply_of_events}
-use Rattle.ink_player.specs.Loading.{TextReadsAsState}
-use Rattle.ink_player.specs.Standing.{PlayerView, bindings, desk_of, state_of, story_of}
-use Rattle.ink_step.specs.Standing.{config_of, game_of, globals_of}
+use Rattle.ink_player.proofs.Common.{story_tree, reply_of_events, TextReadsAsState, PlayerView, bindings, desk_of, state_of, story_of, config_of, game_of, globals_of}
 use Rattle.ink_player.proofs.Saves.{load-read}
 use Rattle.ink_player.proofs.Standing.{game-as}
 use Rattle.ink_player.proofs.Tellings.{globals-by, once-none}

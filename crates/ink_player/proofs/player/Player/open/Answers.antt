@@ -1,7 +1,5 @@
 use Rattle.std.proofs.Common.{ap, is_ok}
-use Rattle.ink_check.specs.Standing.{story_tree}
-use Rattle.ink_step.specs.Standing.{config_of}
-use Rattle.ink_player.specs.Standing.{is_empty}
+use Rattle.ink_player.proofs.Common.{story_tree, config_of, is_empty}
 use Rattle.ink_sound.proofs.Sessions.{opened_fits}
 use Rattle.ink_player.proofs.Standing.{alone-fits}
 use Rattle.ink_player.proofs.player.Player.open.Goals as goal

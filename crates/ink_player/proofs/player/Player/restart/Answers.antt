@@ -1,7 +1,5 @@
 use Rattle.std.proofs.Common.{[], ap, sym}
-use Rattle.ink_check.specs.Standing.{story_tree}
-use Rattle.ink_player.specs.Standing.{PlayerView, bindings, desk_of, state_of, story_of}
-use Rattle.ink_step.specs.Standing.{config_of, game_of, globals_of}
+use Rattle.ink_player.proofs.Common.{story_tree, PlayerView, bindings, desk_of, state_of, story_of, config_of, game_of, globals_of}
 use Rattle.ink_player.proofs.Restarts.{restart-opened, restart-refused}
 use Rattle.ink_player.proofs.Tellings.{globals-by, once-none}
 use Rattle.ink_sound.proofs.Sessions.{opened_fits}

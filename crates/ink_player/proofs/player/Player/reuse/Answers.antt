@@ -1,6 +1,5 @@
 use Rattle.std.proofs.Common.{subst, sym}
-use Rattle.ink_check.specs.Standing.{story_tree}
-use Rattle.ink_player.specs.Standing.{Stands}
+use Rattle.ink_player.proofs.Common.{story_tree, Stands}
 use Rattle.ink_player.proofs.player.Player.reuse.Goals as goal
 
 pub invariant_of-self : goal.invariant_of-self

@@ -1,6 +1,5 @@
 use Rattle.std.proofs.Common.{sym}
-use Rattle.ink_player.specs.Standing.{PlayerView, aside_seen, desk_of, story_of}
-use Rattle.ink_step.specs.Standing.{config_of}
+use Rattle.ink_player.proofs.Common.{PlayerView, aside_seen, desk_of, story_of, config_of}
 use Rattle.ink_player.proofs.Saves.{plain-save, save-only, save-reads, saves-broken, saves-free}
 use Rattle.ink_player.proofs.player.Player.save.Goals as goal
 

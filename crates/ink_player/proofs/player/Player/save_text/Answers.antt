@@ -1,7 +1,5 @@
 use Rattle.std.proofs.Common.{sym}
-use Rattle.serde_json.specs.Data.{null}
-use Rattle.ink_player.specs.Standing.{PlayerView, aside_seen, desk_of, story_of}
-use Rattle.ink_step.specs.Standing.{config_of}
+use Rattle.ink_player.proofs.Common.{null, PlayerView, aside_seen, desk_of, story_of, config_of}
 use Rattle.ink_player.proofs.Saves.{saves-broken, text-back, text-only, text-reads, texts-free}
 use Rattle.ink_player.proofs.player.Player.save_text.Goals as goal
 

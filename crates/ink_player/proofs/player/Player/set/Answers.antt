@@ -1,12 +1,6 @@
 use Rattle.std.proofs.Common.{◌≡◌, ◌∙◌, List, [], ◌∷◌, true, false, Some, ap, is_some, refl, subst, sym}
-use Rattle.ink_host.specs.Desk.{watches}
-use Rattle.ink_model.specs.Protocol.Answer.{reply_of_events}
-use Rattle.ink_model.specs.Host.Bindings.{value_given}
-use Rattle.ink_model.specs.Variables.Store.{stored}
-use Rattle.ink_model.specs.Host.Told.{told}
-use Rattle.ink_model.specs.declared.host.Change.{Change}
+use Rattle.ink_player.proofs.Common.{watches, reply_of_events, value_given, stored, told, Change, config_of, globals_of}
 use Rattle.ink_player.specs.Standing.{TellsOnce, all_told, aside_seen, bindings, desk_of, state_of, story_of, told_from}
-use Rattle.ink_step.specs.Standing.{config_of, globals_of}
 use Rattle.ink_player.proofs.Tellings.{globals-by, once-none, set-broken, sets, sets-where}
 use Rattle.ink_player.proofs.player.Player.set.Goals as goal
 

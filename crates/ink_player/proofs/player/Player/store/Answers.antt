@@ -1,15 +1,7 @@
 use Rattle.std.proofs.Common.{◌≡◌, ◌∙◌, None, ap, inl, refl, subst, sym}
-use Rattle.ink_commands.specs.States.{at_stamp}
-use Rattle.ink_host.specs.Desk.{DeskView}
-use Rattle.ink_model.specs.Protocol.Answer.{reply_of_events}
+use Rattle.ink_player.proofs.Common.{at_stamp, DeskView, reply_of_events, Ready, store, story_tree, value_given, ConditionFits, PlayerView, Stands, aside_seen, is_empty, condition_by, desk_of, state_of, story_of}
 use Rattle.ink_model.specs.Run.Configuration.{with_globals}
 use Rattle.ink_model.specs.Protocol.Session.{condition_told}
-use Rattle.ink_model.specs.Protocol.State.{Ready}
-use Rattle.ink_model.specs.Variables.Store.{store}
-use Rattle.ink_check.specs.Standing.{story_tree}
-use Rattle.ink_model.specs.Host.Bindings.{value_given}
-use Rattle.ink_sound.specs.Kept.{ConditionFits}
-use Rattle.ink_player.specs.Standing.{PlayerView, Stands, aside_seen, is_empty, condition_by, desk_of, state_of, story_of}
 use Rattle.ink_step.specs.Standing.{aside_of, config_of}
 use Rattle.ink_player.proofs.Tellings.{none-left, on-ok, tells-kept, told-done, told-state, with_parts}
 use Rattle.ink_player.proofs.Standing.{aside-stays, free-stands, set-stands, stands-told}

@@ -1,7 +1,5 @@
 use Rattle.std.proofs.Common.{◌≡◌, IfSome, subst, sym, true}
-use Rattle.ink_host.specs.Desk.{Resting}
-use Rattle.ink_host.specs.Telling.{rests}
-use Rattle.ink_player.specs.Standing.{desk_of}
+use Rattle.ink_player.proofs.Common.{Resting, rests, desk_of}
 use Rattle.ink_player.proofs.Tellings.{by-result, if-ok, rest-at, rest-put}
 use Rattle.ink_player.proofs.player.Player.watch.Goals as goal
 

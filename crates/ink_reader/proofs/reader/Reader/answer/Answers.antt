@@ -1,10 +1,7 @@
 use Rattle.std.proofs.Common.{[], ◌∷◌, ap, refl}
-use Rattle.std.proofs.lemmas.Result.{err_from_is_err_and}
+use Rattle.ink_reader.proofs.Common.{err_from_is_err_and, asked_by, places_of, Gives, Says}
 use Rattle.ink_model.specs.Protocol.Command as command
 use Rattle.ink_page.specs.Typed as asks
-use Rattle.ink_page.specs.Typed.{asked_by}
-use Rattle.ink_reader.specs.Course.{places_of}
-use Rattle.ink_reader.specs.Deeds.{Gives, Says}
 use Rattle.ink_reader.specs.Notices.{Help, Unclear}
 use Rattle.ink_reader.proofs.Courses.{goes-as, up-lost, up-well, up-whole}
 use Rattle.ink_reader.proofs.Playing.{played-lost, played-none, played-says, played-well}

@@ -3,9 +3,7 @@ use Rattle.ink_model.specs.Protocol.Answer.{Acts, Refuses}
 use Rattle.ink_model.specs.Protocol.Command as command
 use Rattle.ink_model.specs.declared.fault.Refusal.TheVariants as refusal
 use Rattle.ink_page.specs.Typed as asks
-use Rattle.ink_reader.specs.Course.{places_of}
-use Rattle.ink_reader.specs.Deeds.{Gives, Says}
-use Rattle.ink_reader.specs.Notices.{Refused}
+use Rattle.ink_reader.proofs.Common.{places_of, Gives, Says, Refused}
 use Rattle.ink_reader.proofs.Courses.{goes-as, number-none, number-some, then-goes, then-stays, up-whole}
 use Rattle.ink_reader.proofs.Playing.{played-gives, played-hushed, played-played, played-says}
 use Rattle.ink_reader.proofs.reader.Reader.choose.Goals as goal

@@ -1,8 +1,5 @@
 use Rattle.std.proofs.Common.{◌∙◌, ap, not, sym}
-use Rattle.std.proofs.lemmas.Result.{err_from_is_err_and}
-use Rattle.ink_page.specs.Typed.{asked_by}
-use Rattle.ink_player.proofs.Tellings.{if-ok}
-use Rattle.ink_reader.specs.Course.{places_of}
+use Rattle.ink_reader.proofs.Common.{err_from_is_err_and, asked_by, if-ok, places_of}
 use Rattle.ink_reader.specs.Session.{quits}
 use Rattle.ink_reader.proofs.Courses.{up-lost, up-well}
 use Rattle.ink_reader.proofs.Sessions.{course-follows, ending-follows, not-quit}

@@ -1,9 +1,6 @@
 use Rattle.std.proofs.Common.{◌∙◌, [], ◌∷◌, Some, ap, sym}
-use Rattle.std.proofs.lemmas.Result.{err_from_is_err_and}
-use Rattle.serde_json.specs.View.{view}
+use Rattle.ink_reader.proofs.Common.{err_from_is_err_and, view, places_of, Gives, Says}
 use Rattle.ink_model.specs.Protocol.Command as command
-use Rattle.ink_reader.specs.Course.{places_of}
-use Rattle.ink_reader.specs.Deeds.{Gives, Says}
 use Rattle.ink_reader.proofs.Courses.{back-done, back-not, back-part, back-stays, up-at, up-part, up-whole}
 use Rattle.ink_reader.proofs.Playing.{played-lost, played-played, played-says, played-well}
 use Rattle.ink_reader.proofs.reader.Reader.go_back.Goals as goal

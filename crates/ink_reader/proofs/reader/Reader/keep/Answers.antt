@@ -1,12 +1,7 @@
 use Rattle.std.proofs.Common.{◌≡◌, ◌∙◌, ℕ, List, [], true, false, Option, Result, Ok, Err, OnOk, is_ok, refl, subst, sym, true≢false}
-use Rattle.std.proofs.lemmas.Result.{err_from_is_err_and}
-use Rattle.std.specs.Io.KnownBytes.{Appends}
-use Rattle.ink_page.specs.Showing.{said}
-use Rattle.ink_page.specs.declared.page.Look.{Look}
-use Rattle.ink_reader.specs.Course.{saving_told, unsaved_told}
+use Rattle.ink_reader.proofs.Common.{err_from_is_err_and, Appends, said, Look, saving_told, unsaved_told, NotKept}
 use Rattle.ink_reader.specs.Deeds.{Deed, deeds_shown}
 use Rattle.ink_reader.specs.Notices.{Saved, word_text}
-use Rattle.ink_reader.specs.declared.shelf.NotKept.{NotKept}
 use Rattle.ink_reader.proofs.Playing.{last-written, more-written, played-saving, played-well}
 use Rattle.ink_reader.proofs.reader.Reader.keep.Goals as goal
 

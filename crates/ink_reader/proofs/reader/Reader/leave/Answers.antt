@@ -1,7 +1,5 @@
 use Rattle.std.proofs.Common.{◌∙◌, [], ◌∷◌, refl, sym}
-use Rattle.std.proofs.lemmas.Result.{err_from_is_err_and}
-use Rattle.ink_reader.specs.Course.{places_of}
-use Rattle.ink_reader.specs.Deeds.{Says}
+use Rattle.ink_reader.proofs.Common.{err_from_is_err_and, places_of, Says}
 use Rattle.ink_reader.specs.Notices.{LastLacks}
 use Rattle.ink_reader.proofs.Courses.{goes-on, goes-part, goes-unnoted, up-part}
 use Rattle.ink_reader.proofs.Playing.{on_err, on_ok, played-lost, played-played, played-says, played-well}

@@ -1,9 +1,6 @@
 use Rattle.std.proofs.Common.{◌∙◌, [], ◌∷◌, Ok, Some, ap, refl, sym}
-use Rattle.std.proofs.lemmas.Result.{err_from_is_err_and}
-use Rattle.serde_json.specs.View.{view}
+use Rattle.ink_reader.proofs.Common.{err_from_is_err_and, view, places_of, Fetches, Gives, Says}
 use Rattle.ink_model.specs.Protocol.Command as command
-use Rattle.ink_reader.specs.Course.{places_of}
-use Rattle.ink_reader.specs.Deeds.{Fetches, Gives, Says}
 use Rattle.ink_reader.proofs.Courses.{loading-goes, loading-not, loading-part, loading-stays, up-at, up-lost, up-part, up-well, up-whole}
 use Rattle.ink_reader.proofs.Playing.{played-fetches, played-lost, played-played, played-says, played-well}
 use Rattle.ink_reader.proofs.reader.Reader.load.Goals as goal

@@ -1,9 +1,6 @@
 use Rattle.std.proofs.Common.{◌∙◌, [], ◌∷◌, Some, ap, refl, subst}
-use Rattle.std.proofs.lemmas.Result.{err_from_is_err_and}
-use Rattle.ink_model.specs.Protocol.Answer.{Refuses, Saves}
+use Rattle.ink_reader.proofs.Common.{err_from_is_err_and, Refuses, Saves, SavesItself, Gives, Says}
 use Rattle.ink_model.specs.Protocol.Command as command
-use Rattle.ink_reader.specs.Course.{SavesItself}
-use Rattle.ink_reader.specs.Deeds.{Gives, Says}
 use Rattle.ink_reader.specs.Notices.{PlaceLacks}
 use Rattle.ink_reader.proofs.Courses.{up-lapsed, up-whole}
 use Rattle.ink_reader.proofs.Playing.{played-hushed, played-lost, played-played, played-says, played-well}

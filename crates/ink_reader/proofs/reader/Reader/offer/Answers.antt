@@ -1,7 +1,5 @@
 use Rattle.std.proofs.Common.{ℕ, List, [], ◌∷◌, None, Some, refl, subst, sym}
-use Rattle.std.proofs.lemmas.Result.{err_from_is_err_and}
-use Rattle.ink_reader.specs.Course.{places_of}
-use Rattle.ink_reader.specs.Deeds.{Asks, Says}
+use Rattle.ink_reader.proofs.Common.{err_from_is_err_and, places_of, Asks, Says}
 use Rattle.ink_reader.specs.Session.{IsNext, IsOffer, Starts, declines}
 use Rattle.ink_reader.specs.Notices.{Offer}
 use Rattle.ink_reader.proofs.Playing.{played-asks, played-lost, played-played, played-says, played-well, written}

@@ -1,8 +1,6 @@
 use Rattle.std.proofs.Common.{ℕ, List, [], ◌∷◌, Option, None, Some, Result, Ok, Err, refl, string_bytes}
-use Rattle.ink_reader.specs.Course.{places_of}
-use Rattle.ink_reader.specs.Deeds.{Fetches}
+use Rattle.ink_reader.proofs.Common.{places_of, Fetches, NotKept}
 use Rattle.ink_reader.specs.Session.{Begins, IsOffer, IsSession}
-use Rattle.ink_reader.specs.declared.shelf.NotKept.{NotKept}
 use Rattle.ink_reader.proofs.Playing.{played-fetches, played-played}
 use Rattle.ink_reader.proofs.Sessions.{read-behind}
 use Rattle.ink_reader.proofs.reader.Reader.open.Goals as goal

@@ -1,10 +1,6 @@
 use Rattle.std.proofs.Common.{◌∙◌, [], ◌∷◌, refl, subst, sym}
-use Rattle.ink_model.specs.Protocol.Answer.{Refuses, Saves}
+use Rattle.ink_reader.proofs.Common.{Refuses, Saves, state_of, story_of, SavesItself, Gives, Says, Refused}
 use Rattle.ink_model.specs.Protocol.Command as command
-use Rattle.ink_player.specs.Standing.{state_of, story_of}
-use Rattle.ink_reader.specs.Course.{SavesItself}
-use Rattle.ink_reader.specs.Deeds.{Gives, Says}
-use Rattle.ink_reader.specs.Notices.{Refused}
 use Rattle.ink_reader.proofs.Courses.{ends-at, ends-none, up-whole}
 use Rattle.ink_reader.proofs.Keeping.{kept-saved}
 use Rattle.ink_reader.proofs.Playing.{played-hushed, played-none, played-played, played-says}

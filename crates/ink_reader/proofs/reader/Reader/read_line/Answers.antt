@@ -1,8 +1,5 @@
 use Rattle.std.proofs.Common.{ℕ, List, [], ◌∷◌, None, Some, ap, not, refl, subst, sym}
-use Rattle.std.proofs.lemmas.Result.{err_from_is_err_and}
-use Rattle.ink_player.proofs.Tellings.{if-ok}
-use Rattle.ink_reader.specs.Course.{places_of}
-use Rattle.ink_reader.specs.Deeds.{Asks}
+use Rattle.ink_reader.proofs.Common.{err_from_is_err_and, if-ok, places_of, Asks}
 use Rattle.ink_reader.specs.Session.{IsNext}
 use Rattle.ink_reader.proofs.Sessions.{asks-only, read-by}
 use Rattle.ink_reader.proofs.Playing.{played-asks, played-lost, played-played, played-well, written}

@@ -1,6 +1,5 @@
 use Rattle.std.proofs.Common.{◌∙◌, [], ◌++◌, refl}
-use Rattle.std.proofs.lemmas.Result.{err_from_is_err_and}
-use Rattle.ink_reader.specs.Course.{places_of}
+use Rattle.ink_reader.proofs.Common.{err_from_is_err_and, places_of}
 use Rattle.ink_reader.specs.Session.{IsReading}
 use Rattle.ink_reader.proofs.Playing.{played-lost, played-none, played-off, played-played, played-well}
 use Rattle.ink_reader.proofs.Sessions.{continues-more, continues-so-far, continues-to, next-append, read-part, read-whole}

@@ -1,6 +1,5 @@
 use Rattle.std.proofs.Common.{◌++◌}
-use Rattle.std.proofs.lemmas.Result.{err_from_is_err_and}
-use Rattle.ink_reader.specs.Course.{places_of}
+use Rattle.ink_reader.proofs.Common.{err_from_is_err_and, places_of}
 use Rattle.ink_reader.specs.Session.{IsSession}
 use Rattle.ink_reader.proofs.Playing.{played-lost, played-played, played-well}
 use Rattle.ink_reader.proofs.Sessions.{continues-to, next-append, read-part, read-whole}

@@ -1,9 +1,7 @@
 use Rattle.std.proofs.Common.{◌∙◌, [], ◌∷◌, sym}
-use Rattle.std.proofs.lemmas.Result.{err_from_is_err_and}
+use Rattle.ink_reader.proofs.Common.{err_from_is_err_and, places_of, Gives}
 use Rattle.ink_model.specs.Protocol.Answer.{reply_of_events}
 use Rattle.ink_model.specs.Protocol.Command as command
-use Rattle.ink_reader.specs.Course.{places_of}
-use Rattle.ink_reader.specs.Deeds.{Gives}
 use Rattle.ink_reader.proofs.Courses.{then-goes, then-goes-part, then-stays, up-part, up-whole}
 use Rattle.ink_reader.proofs.Playing.{played-gives, played-lost, played-played, played-well}
 use Rattle.ink_reader.proofs.reader.Reader.restart.Goals as goal

@@ -1,10 +1,6 @@
 use Rattle.std.proofs.Common.{[], ◌∷◌, ap, refl}
-use Rattle.ink_model.specs.Protocol.Answer.{Refuses, Saves}
+use Rattle.ink_reader.proofs.Common.{Refuses, Saves, state_of, story_of, saving_told, Gives, Keeps, Says, Refused}
 use Rattle.ink_model.specs.Protocol.Command as command
-use Rattle.ink_player.specs.Standing.{state_of, story_of}
-use Rattle.ink_reader.specs.Course.{saving_told}
-use Rattle.ink_reader.specs.Deeds.{Gives, Keeps, Says}
-use Rattle.ink_reader.specs.Notices.{Refused}
 use Rattle.ink_reader.proofs.Keeping.{kept-saved}
 use Rattle.ink_reader.proofs.Playing.{played-hushed, played-played, played-says}
 use Rattle.ink_reader.proofs.reader.Reader.save.Goals as goal

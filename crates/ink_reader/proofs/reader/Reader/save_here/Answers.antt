@@ -1,7 +1,5 @@
 use Rattle.std.proofs.Common.{[], ◌∷◌, refl, subst, sym}
-use Rattle.std.proofs.lemmas.Result.{err_from_is_err_and}
-use Rattle.ink_reader.specs.Course.{SavesItself, unsaved_told}
-use Rattle.ink_reader.specs.Deeds.{Keeps}
+use Rattle.ink_reader.proofs.Common.{err_from_is_err_and, SavesItself, unsaved_told, Keeps}
 use Rattle.ink_reader.proofs.Playing.{played-lost, played-none, played-unsaved, played-well}
 use Rattle.ink_reader.proofs.reader.Reader.save_here.Goals as goal
 

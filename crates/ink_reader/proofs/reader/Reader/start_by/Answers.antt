@@ -1,6 +1,5 @@
 use Rattle.std.proofs.Common.{◌∙◌, [], ◌++◌, bytes_eq, codes, false, subst, sym}
-use Rattle.std.proofs.lemmas.Result.{err_from_is_err_and}
-use Rattle.ink_reader.specs.Course.{places_of}
+use Rattle.ink_reader.proofs.Common.{err_from_is_err_and, places_of}
 use Rattle.ink_reader.specs.Session.{Begins, Starts}
 use Rattle.ink_reader.proofs.Playing.{played-lost, played-played, played-well}
 use Rattle.ink_reader.proofs.Sessions.{and-false, and-true, part-read, read-behind, resumed, resumed-not, resumed-part}

@@ -1,7 +1,6 @@
 use Rattle.std.proofs.Common.{◌∙◌, [], ◌++◌, None, refl, subst, sym}
-use Rattle.std.proofs.lemmas.Result.{err_from_is_err_and}
+use Rattle.ink_reader.proofs.Common.{err_from_is_err_and, stop_told}
 use Rattle.ink_reader.specs.Course.{IsStop}
-use Rattle.ink_reader.specs.Steps.{stop_told}
 use Rattle.ink_reader.proofs.Courses.{up-behind, up-part, up-whole}
 use Rattle.ink_reader.proofs.Tellings.{stop-none, stop-part, stop-some}
 use Rattle.ink_reader.proofs.Playing.{played-lost, played-none, played-played, played-stop, played-well}

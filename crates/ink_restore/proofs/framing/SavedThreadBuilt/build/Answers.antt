@@ -1,18 +1,12 @@
 use Rattle.std.proofs.Common.{◌≡◌, ◌∙◌, IfOk, List, ap, inl, inr, map, refl, reverse, subst, sym}
 use Rattle.std.proofs.lemmas.Result.{IfOk-weaker}
-use Rattle.std.specs.List.{AllByRecursion, list_all}
-use Rattle.std.specs.declared.alloc.Global.{Global}
-use Rattle.std.specs.declared.vec.Vec.{Vec}
+use Rattle.ink_restore.proofs.Common.{AllByRecursion, list_all, Global, Vec, Part, place_of, story_tree, Spot, or_else}
 use Rattle.ink_model.specs.Flow.Frames.{FrameOf, ThreadOf, map_frame, map_thread}
-use Rattle.ink_model.specs.declared.place.Part.{Part}
 use Rattle.ink_restore.specs.Building.{Builds, FirstAsks, FrameAsks, FrameBuilds, ThreadAsks, ThreadBuilds}
 use Rattle.ink_restore.proofs.Making.{built, never}
 use Rattle.ink_restore.proofs.Standing.{below_refused, standing, standing_refused, thread_built}
 use Rattle.ink_stack.specs.Saving.{thread_from}
-use Rattle.ink_tree.specs.Nodes.{place_of, story_tree}
-use Rattle.ink_tree.specs.declared.spot.Spot.{Spot}
 use Rattle.ink_restore.proofs.Asking.{below_asks, top_asks}
-use Rattle.ink_spelling.proofs.Asking.{or_else}
 use Rattle.ink_restore.proofs.framing.SavedThreadBuilt.build.Goals as goal
 
 pub returns-in_default-2-clause-builds : goal.returns-in_default-2-clause-builds

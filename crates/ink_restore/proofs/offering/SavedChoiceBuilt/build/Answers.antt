@@ -1,19 +1,11 @@
 use Rattle.std.proofs.Common.{◌∙◌, ℕ, List, Some, ap, map, refl, subst, sym, IsTrue}
-use Rattle.std.specs.List.{AllByRecursion}
-use Rattle.std.specs.declared.alloc.Global.{Global}
-use Rattle.std.specs.declared.vec.Vec.{Vec}
-use Rattle.ink_model.specs.Text.Bytes.{fits_text}
-use Rattle.ink_model.specs.Run.Configuration.{ChoiceOf, map_choice}
+use Rattle.ink_restore.proofs.Common.{AllByRecursion, Global, Vec, fits_text, ChoiceOf, map_choice, ChoiceFits, ThreadStands, or_else, place_of, story_tree, Spot}
 use Rattle.ink_model.specs.Flow.Frames.{map_thread}
-use Rattle.ink_model.specs.Save.Sound.{ChoiceFits, ThreadStands}
 use Rattle.ink_restore.specs.Building.{Builds, ChoiceAsks, ThreadAsks}
 use Rattle.ink_restore.proofs.Asking.{list_later, stands_asks}
 use Rattle.ink_restore.proofs.Making.{built}
 use Rattle.ink_restore.proofs.ChoiceParts.{choice_built}
 use Rattle.ink_restore.proofs.Standing.{same_list}
-use Rattle.ink_spelling.proofs.Asking.{or_else}
-use Rattle.ink_tree.specs.Nodes.{place_of, story_tree}
-use Rattle.ink_tree.specs.declared.spot.Spot.{Spot}
 use Rattle.ink_restore.proofs.offering.SavedChoiceBuilt.build.Goals as goal
 
 abbrev Tag : List ℕ → Type 0

@@ -1,18 +1,12 @@
 use Rattle.std.proofs.Common.{◌∙◌, ap, inl, inr, map, refl, subst, sym}
-use Rattle.std.specs.List.{AllByRecursion, list_all}
-use Rattle.std.specs.declared.alloc.Global.{Global}
-use Rattle.std.specs.declared.vec.Vec.{Vec}
+use Rattle.ink_restore.proofs.Common.{AllByRecursion, list_all, Global, Vec, ThreadsFit, place_of, story_tree, Spot, or_else}
 use Rattle.ink_model.specs.Flow.Frames.{ThreadOf, map_thread, map_threads}
 use Rattle.ink_restore.specs.Building.{Builds, FirstAsks, ThreadAsks, ThreadBuilds, ThreadsAsk, flows, placed}
 use Rattle.ink_restore.proofs.Gathering.{below_refused, flow_refused, placed_refused, threads_built, top_refused}
 use Rattle.ink_restore.proofs.Making.{built, never}
-use Rattle.ink_model.specs.Save.Sound.{ThreadsFit}
 use Rattle.ink_stack.specs.Saving.{threads_from}
 use Rattle.ink_stack.specs.Threads.{ThreadsView}
-use Rattle.ink_tree.specs.Nodes.{place_of, story_tree}
-use Rattle.ink_tree.specs.declared.spot.Spot.{Spot}
 use Rattle.ink_restore.proofs.Asking.{below_asks, thread_so, top_asks}
-use Rattle.ink_spelling.proofs.Asking.{or_else}
 use Rattle.ink_restore.proofs.threading.SavedThreadsBuilt.build.Goals as goal
 
 pub returns-in_default-clause-builds : goal.returns-in_default-clause-builds

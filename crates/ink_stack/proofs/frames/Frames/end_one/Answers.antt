@@ -1,6 +1,5 @@
 use Rattle.std.proofs.Common.{◌∙◌, ◌<◌, [], ap, arith, get_or, length, sym, ◌≤◌, length-set, subst}
-use Rattle.ink_model.specs.Flow.Threads.{stale}
-use Rattle.ink_stack.specs.Frames.{frame_with}
+use Rattle.ink_stack.proofs.Common.{stale, frame_with}
 use Rattle.ink_stack.proofs.Flat.{framed_at, framed_length, header_changed}
 use Rattle.ink_stack.proofs.frames.Frames.end_one.Goals as goal
 

@@ -1,6 +1,5 @@
 use Rattle.std.proofs.Common.{◌<◌, true, ap, arith, length, ◌≤◌, length-set, subst, sym}
-use Rattle.ink_stack.specs.Cells.{with_fresh}
-use Rattle.ink_stack.specs.Frames.{frame_with}
+use Rattle.ink_stack.proofs.Common.{with_fresh, frame_with}
 use Rattle.ink_stack.proofs.Flat.{framed_length, header_changed}
 use Rattle.ink_stack.proofs.frames.Frames.freshen.Goals as goal
 

@@ -1,6 +1,5 @@
 use Rattle.std.proofs.Common.{◌∙◌, [], ◌∷◌, ap, arith, length}
-use Rattle.std.proofs.lemmas.List.{length-append}
-use Rattle.ink_stack.specs.Frames.{framed}
+use Rattle.ink_stack.proofs.Common.{length-append, framed}
 use Rattle.ink_stack.proofs.Flat.{last_taken}
 use Rattle.ink_stack.proofs.frames.Frames.pop.Goals as goal
 

@@ -1,8 +1,6 @@
 use Rattle.std.proofs.Common.{◌≡◌, ◌∙◌, ◌<◌, [], ap, arith, get_or, length, set, sym, false, nat_lt, ◌≤◌, length-set, subst}
-use Rattle.std.proofs.lemmas.Bool.Decides.{nat_tests}
+use Rattle.ink_stack.proofs.Common.{nat_tests, temps_back, framed}
 use Rattle.std.proofs.lemmas.List.{get_or_default}
-use Rattle.ink_stack.specs.Cells.{temps_back}
-use Rattle.ink_stack.specs.Frames.{framed}
 use Rattle.ink_stack.proofs.Flat.{bare_back, framed_length, rows_past, temps_at, temps_set}
 use Rattle.ink_stack.proofs.frames.Frames.put_temp_back.Goals as goal
 

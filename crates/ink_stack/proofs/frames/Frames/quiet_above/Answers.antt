@@ -1,7 +1,6 @@
 use Rattle.std.proofs.Common.{◌≡◌, ◌∙◌, [], ap, arith, get_or, length, subst, sym}
 use Rattle.ink_stack.proofs.Flat.{framed_at, framed_length}
-use Rattle.ink_stack.specs.Frames.{frame_with, framed}
-use Rattle.ink_stack.specs.Quiet.{Covers}
+use Rattle.ink_stack.proofs.Common.{frame_with, framed, Covers}
 use Rattle.ink_stack.proofs.frames.Frames.quiet_above.Goals as goal
 
 pub index-requires : goal.index-requires

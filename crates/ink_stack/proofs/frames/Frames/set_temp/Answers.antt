@@ -1,10 +1,6 @@
 use Rattle.std.proofs.Common.{rules, ◌≡◌, ◌∙◌, ◌<◌, ◌+◌, ◌-◌, ap, arith, false, get_or, length, length-set, nat_lt, set, sym, subst, ◌≤◌, vec_capacity}
-use Rattle.std.proofs.lemmas.Bool.Decides.{nat_tests}
+use Rattle.ink_stack.proofs.Common.{nat_tests, IfOk-weaker, err_from_is_err_and, on_err_weaker, on_ok_weaker, name_order, row, with_row, framed, text_of}
 use Rattle.std.proofs.lemmas.List.{length-append, length-replicate, set-get_or}
-use Rattle.std.proofs.lemmas.Result.{IfOk-weaker, err_from_is_err_and, on_err_weaker, on_ok_weaker}
-use Rattle.ink_model.specs.Variables.Rows.{name_order, row, with_row}
-use Rattle.ink_stack.specs.Frames.{framed}
-use Rattle.ink_stack.specs.Temps.{text_of}
 use Rattle.ink_stack.proofs.Flat.{framed_length, rows_past, temps_at, temps_filled, temps_put, temps_restored, temps_were, filled_past}
 use Rattle.std.proofs.Math.Nat.{le_refl}
 use Rattle.ink_stack.proofs.frames.Frames.set_temp.Goals as goal

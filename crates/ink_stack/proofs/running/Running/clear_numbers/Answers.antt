@@ -1,7 +1,6 @@
 use Rattle.std.proofs.Common.{refl, reverse, subst, ap}
 use Rattle.std.proofs.lemmas.List.{length-map}
-use Rattle.ink_model.specs.Flow.Bases.{BaseFirst}
-use Rattle.ink_model.specs.Flow.Frames.{unnumbered_frame}
+use Rattle.ink_stack.proofs.Common.{BaseFirst, unnumbered_frame}
 use Rattle.ink_stack.proofs.Bases.{base_same, base_unnumbered}
 use Rattle.ink_stack.proofs.Quietness.{quiet_unnumbered}
 use Rattle.ink_stack.proofs.Reversing.{map-reverse}

@@ -1,13 +1,9 @@
 use Rattle.std.proofs.Common.{◌≡◌, ◌∙◌, ap, arith, length, refl, reverse, subst, sym}
-use Rattle.std.proofs.lemmas.Bool.{OnTrue_at}
-use Rattle.std.proofs.lemmas.List.{length-reverse}
-use Rattle.ink_model.specs.Flow.Bases.{BaseFirst}
-use Rattle.ink_model.specs.Flow.Threads.{stale_run}
+use Rattle.ink_stack.proofs.Common.{OnTrue_at, length-reverse, BaseFirst, stale_run, is_unnumbered}
 use Rattle.ink_stack.proofs.Bases.{base_same, base_stale, stale_kind}
 use Rattle.ink_stack.proofs.Quietness.{quiet_run}
 use Rattle.ink_stack.proofs.Runs.{length-run}
 use Rattle.ink_stack.proofs.Unnumbered.{unnumbered_run}
-use Rattle.ink_stack.specs.Quiet.{is_unnumbered}
 use Rattle.ink_stack.proofs.running.Running.end_freshness.Goals as goal
 
 pub returns-then-not-quiet : goal.returns-then-not-quiet

@@ -1,12 +1,10 @@
 use Rattle.std.proofs.Common.{◌∙◌, ◌≤◌, ◌-◌, true, ap, arith, get_or, length, length-set, refl, reverse, set, sym}
 use Rattle.std.proofs.lemmas.Bool.{OnFalse_at, OnFalse_from, OnTrue_at, OnTrue_from}
 use Rattle.std.proofs.lemmas.List.{length-reverse, set-get_or}
-use Rattle.ink_model.specs.Flow.Threads.{stale}
-use Rattle.ink_stack.specs.Cells.{with_fresh}
+use Rattle.ink_stack.proofs.Common.{stale, with_fresh, ThreadOf}
 use Rattle.ink_stack.proofs.Bases.{stale_kind, base_same}
 use Rattle.ink_stack.proofs.Framing.{base_set, framed_below, unframed_below, framed_top}
 use Rattle.ink_stack.proofs.Unnumbered.{number_stale, unnumbered_set}
-use Rattle.ink_model.specs.Flow.Frames.{ThreadOf}
 use Rattle.ink_stack.proofs.running.Running.end_one.Goals as goal
 
 pub invariant_of-self-2 : goal.invariant_of-self-2

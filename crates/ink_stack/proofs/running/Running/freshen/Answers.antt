@@ -1,7 +1,5 @@
 use Rattle.std.proofs.Common.{◌≡◌, ◌+◌, ◌≤◌, true, ◌-◌, ap, arith, get_or, length, length-set, refl}
-use Rattle.std.proofs.lemmas.List.{length-reverse}
-use Rattle.ink_model.specs.Flow.Threads.{frame_count}
-use Rattle.ink_stack.specs.Cells.{with_fresh}
+use Rattle.ink_stack.proofs.Common.{length-reverse, frame_count, with_fresh}
 use Rattle.ink_stack.proofs.Framing.{base_set, framed_below, framed_none}
 use Rattle.ink_stack.proofs.Unnumbered.{unnumbered_set}
 use Rattle.ink_stack.proofs.running.Running.freshen.Goals.{else-number-gt0-via-then-number-gt0+else-number-len-2, else-number-gt0-via-else-number-gt0}

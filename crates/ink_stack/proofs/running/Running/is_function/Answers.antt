@@ -1,6 +1,5 @@
 use Rattle.std.proofs.Common.{◌≡◌, ◌∙◌, ◌∷◌, ◌<◌, ◌≤◌, ap, arith, length, sym, subst}
-use Rattle.std.proofs.lemmas.List.{length-reverse}
-use Rattle.ink_model.specs.Flow.Frames.{is_function}
+use Rattle.ink_stack.proofs.Common.{length-reverse, is_function}
 use Rattle.ink_stack.specs.Cells.{holds_of}
 use Rattle.ink_stack.proofs.Numbers.{none_numbered, numbered_below, number_below}
 use Rattle.ink_stack.proofs.running.Running.is_function.Goals.{then-number-eq0-via-then-number-eq0, then-number-eq0-via-else-number-eq0+then-number-frames-2}

@@ -1,8 +1,7 @@
 use Rattle.std.proofs.Common.{◌≤◌, IfSome, arith, reverse, subst}
 use Rattle.std.proofs.lemmas.Bool.{OnTrue_from}
-use Rattle.std.proofs.lemmas.Bool.Decides.{nat_tests}
+use Rattle.ink_stack.proofs.Common.{nat_tests, IsQuiet}
 use Rattle.ink_stack.proofs.Quietness.{quiet_weaker}
-use Rattle.ink_stack.specs.Quiet.{IsQuiet}
 use Rattle.ink_stack.proofs.running.Running.is_quiet.Goals as goal
 
 pub returns-in-Some : goal.returns-in-Some

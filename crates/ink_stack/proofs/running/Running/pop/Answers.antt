@@ -1,8 +1,6 @@
 use Rattle.std.proofs.Common.{◌≡◌, ◌∙◌, [], ◌∷◌, true, ap, arith, reverse, length}
-use Rattle.std.proofs.lemmas.List.{reverse-append}
-use Rattle.ink_model.specs.Flow.Frames.{ThreadOf}
+use Rattle.ink_stack.proofs.Common.{reverse-append, ThreadOf, same_kind}
 use Rattle.ink_stack.proofs.Keeping.{kept_fewer}
-use Rattle.ink_model.specs.Flow.Threads.{same_kind}
 use Rattle.ink_stack.proofs.Tops.{popped_made}
 use Rattle.ink_stack.proofs.running.Running.pop.Goals as goal
 

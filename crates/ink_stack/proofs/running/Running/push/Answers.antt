@@ -1,6 +1,5 @@
 use Rattle.std.proofs.Common.{◌≡◌, ◌∙◌, [], ◌∷◌, ◌++◌, false, ap, arith, is_some, length, refl, sym}
-use Rattle.std.proofs.lemmas.List.{length-append, length-reverse}
-use Rattle.ink_stack.specs.Calls.{frame_kind}
+use Rattle.ink_stack.proofs.Common.{length-append, length-reverse, frame_kind}
 use Rattle.ink_stack.proofs.Bases.{call_is}
 use Rattle.ink_stack.proofs.Keeping.{base_more, quiet_more, unnumbered_more, true_false}
 use Rattle.ink_stack.proofs.running.Running.push.Goals.{then-self, else-self}

@@ -1,7 +1,5 @@
 use Rattle.std.proofs.Common.{◌≡◌, ◌+◌, ◌≤◌, ◌-◌, ap, arith, get_or, length, length-set, refl}
-use Rattle.std.proofs.lemmas.List.{length-reverse}
-use Rattle.ink_model.specs.Flow.Threads.{frame_count}
-use Rattle.ink_stack.specs.Cells.{temp_back}
+use Rattle.ink_stack.proofs.Common.{length-reverse, frame_count, temp_back}
 use Rattle.ink_stack.proofs.Framing.{base_set, framed_below, framed_none}
 use Rattle.ink_stack.proofs.Numbers.{quiet_set}
 use Rattle.ink_stack.proofs.Unnumbered.{unnumbered_set}

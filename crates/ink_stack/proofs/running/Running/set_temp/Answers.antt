@@ -1,17 +1,11 @@
 use Rattle.std.proofs.Common.{◌≡◌, ◌∙◌, ◌<◌, ◌≤◌, ◌-◌, IfOk, IfSome, OnOk, ap, arith, get_or, length, length-set, refl, reverse, subst, sym}
-use Rattle.std.proofs.lemmas.List.{length-reverse}
-use Rattle.std.proofs.lemmas.Result.{IfOk-weaker}
-use Rattle.ink_stack.specs.Cells.{temp_back, with_frame}
-use Rattle.ink_stack.specs.Temps.{text_of}
+use Rattle.ink_stack.proofs.Common.{length-reverse, IfOk-weaker, temp_back, with_frame, text_of, ThreadOf, BaseFirst, IsQuiet, is_unnumbered}
 use Rattle.ink_stack.proofs.Bases.{base_same, same_along}
 use Rattle.ink_stack.proofs.Framing.{base_set, unframed_below}
 use Rattle.ink_stack.proofs.Numbers.{memory_along, quiet_set, row_kept, row_made, set_either, temp_along, number_below, some_number}
 use Rattle.ink_stack.proofs.Unnumbered.{unnumbered_set}
 use Rattle.ink_stack.proofs.Tops.{back_top, memory_top, temp_top}
-use Rattle.ink_model.specs.Flow.Frames.{ThreadOf}
-use Rattle.ink_model.specs.Flow.Bases.{BaseFirst}
 use Rattle.ink_model.specs.Flow.Threads.{frame_count, with_row_in, with_temp}
-use Rattle.ink_stack.specs.Quiet.{IsQuiet, is_unnumbered}
 use Rattle.ink_stack.proofs.running.Running.set_temp.Goals as goal
 
 pub invariant_of-self-2 : goal.invariant_of-self-2

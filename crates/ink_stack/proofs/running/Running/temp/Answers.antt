@@ -1,6 +1,5 @@
 use Rattle.std.proofs.Common.{◌≡◌, ◌∙◌, ◌∷◌, ◌<◌, ◌≤◌, ap, arith, length, option_and_then, refl, reverse, sym, subst}
-use Rattle.std.proofs.lemmas.List.{length-reverse}
-use Rattle.ink_model.specs.Variables.Rows.{name_order, row}
+use Rattle.ink_stack.proofs.Common.{length-reverse, name_order, row}
 use Rattle.ink_stack.proofs.Numbers.{none_numbered, temp_below, number_below}
 use Rattle.ink_stack.proofs.running.Running.temp.Goals.{then-number-eq0-via-then-number-eq0, then-number-eq0-via-else-number-eq0+then-number-frames-2}
 use Rattle.ink_stack.proofs.running.Running.temp.Goals as goal

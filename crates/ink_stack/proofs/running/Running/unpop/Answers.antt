@@ -1,8 +1,6 @@
 use Rattle.std.proofs.Common.{◌≡◌, ◌∙◌, [], ◌∷◌, false, ap, arith, is_some, length, refl, reverse, sym}
-use Rattle.std.proofs.lemmas.List.{length-append, length-reverse, reverse-append}
-use Rattle.ink_model.specs.Flow.Frames.{ThreadOf}
+use Rattle.ink_stack.proofs.Common.{length-append, length-reverse, reverse-append, ThreadOf, unpopped}
 use Rattle.ink_stack.proofs.Keeping.{base_more, quiet_more, unnumbered_more, true_false}
-use Rattle.ink_stack.specs.Cells.{unpopped}
 use Rattle.ink_stack.proofs.Staling.{running_is}
 use Rattle.ink_stack.proofs.running.Running.unpop.Goals.{then-self, else-self}
 use Rattle.ink_stack.proofs.running.Running.unpop.Goals as goal

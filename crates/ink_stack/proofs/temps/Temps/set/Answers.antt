@@ -1,9 +1,6 @@
 use Rattle.std.proofs.Common.{◌≡◌, ◌∙◌, ◌∷◌, ◌++◌, Ok, Err, Some, ap, drop, set, subst, sym, take, true}
-use Rattle.ink_model.specs.Variables.Rows.{name_order, rows_rise}
-use Rattle.ink_stack.specs.Cells.{temps_back}
-use Rattle.ink_stack.specs.Rows.{FindsName}
+use Rattle.ink_stack.proofs.Common.{name_order, rows_rise, temps_back, FindsName, text_of}
 use Rattle.std.specs.List.{remove}
-use Rattle.ink_stack.specs.Temps.{text_of}
 use Rattle.ink_stack.proofs.Cells.{removed_back, value_back}
 use Rattle.ink_stack.proofs.Rises.{put_rises}
 use Rattle.ink_stack.proofs.temps.Temps.set.Goals.{In-Ok, In-Err}

@@ -1,8 +1,6 @@
 use Rattle.std.proofs.Common.{◌≡◌, ◌∙◌, ◌<◌, ◌++◌, [], ◌∷◌, ap, arith, length}
-use Rattle.std.proofs.lemmas.List.{length-append}
-use Rattle.ink_model.specs.declared.limits.TheConstants.{MAX_FRAMES}
+use Rattle.ink_stack.proofs.Common.{length-append, MAX_FRAMES, err_from_is_err_and}
 use Rattle.ink_stack.proofs.BaseTests.{bottom_base}
-use Rattle.std.proofs.lemmas.Result.{err_from_is_err_and}
 use Rattle.ink_stack.proofs.Given.{thread_asks, thread_made}
 use Rattle.ink_stack.proofs.thread.Thread.with.Goals as goal
 

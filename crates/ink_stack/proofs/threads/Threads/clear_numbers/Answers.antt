@@ -1,9 +1,7 @@
 use Rattle.std.proofs.Common.{◌≡◌, ◌∙◌, ap, arith, false, is_some, length, map, refl, vec_len}
 use Rattle.std.proofs.lemmas.List.{length-map, length-reverse, with_items_is}
 use Rattle.ink_model.specs.Flow.Frames.{unnumbered_thread}
-use Rattle.ink_trail.specs.Undo.{trail_of}
-use Rattle.ink_stack.specs.Running.{threads_in}
-use Rattle.ink_stack.specs.Undo.{threads_spare}
+use Rattle.ink_stack.proofs.Common.{trail_of, threads_in, threads_spare}
 use Rattle.ink_stack.proofs.Backs.{stood-unmarked, unmarked-stood}
 use Rattle.ink_stack.proofs.Holding.{held-now, held-unmarked}
 use Rattle.ink_stack.proofs.Reversing.{map-reverse}

@@ -1,6 +1,5 @@
 use Rattle.std.proofs.Common.{◌∙◌, ap, sym}
-use Rattle.ink_model.specs.Flow.Threads.{frame_count}
-use Rattle.ink_stack.specs.Running.{threads_in}
+use Rattle.ink_stack.proofs.Common.{frame_count, threads_in}
 use Rattle.ink_stack.proofs.Backs.{room-of, spare-of, stood-of}
 use Rattle.ink_stack.proofs.Holding.{held-moved}
 use Rattle.ink_stack.proofs.Unmarked.{free}

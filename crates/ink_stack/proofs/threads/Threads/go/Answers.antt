@@ -1,9 +1,5 @@
 use Rattle.std.proofs.Common.{◌∙◌, ap, refl, reverse, subst, sym}
-use Rattle.std.proofs.lemmas.List.{reverse-reverse}
-use Rattle.ink_trail.proofs.Undoing.{notes-trails}
-use Rattle.ink_trail.specs.Undo.{trail_of}
-use Rattle.ink_stack.specs.Running.{threads_in}
-use Rattle.ink_stack.specs.Undo.{HasGone, threads_back}
+use Rattle.ink_stack.proofs.Common.{reverse-reverse, notes-trails, trail_of, threads_in, HasGone, threads_back}
 use Rattle.ink_stack.proofs.Backs.{spare-noted, stood-noted}
 use Rattle.ink_stack.proofs.Holding.{held-same}
 use Rattle.ink_stack.proofs.Unmarked.{free}

@@ -1,8 +1,6 @@
 use Rattle.std.proofs.Common.{arith, refl, subst, sym}
 use Rattle.ink_trail.proofs.Undoing.{notes-none}
-use Rattle.ink_trail.specs.Undo.{trail_of}
-use Rattle.ink_stack.specs.Running.{threads_in}
-use Rattle.ink_stack.specs.Undo.{HasGone, threads_back}
+use Rattle.ink_stack.proofs.Common.{trail_of, threads_in, HasGone, threads_back}
 use Rattle.ink_stack.proofs.Backs.{gone-noted, spare-noted, stood-noted}
 use Rattle.ink_stack.proofs.Holding.{held-further}
 use Rattle.ink_stack.proofs.threads.Threads.go_further.Goals as goal

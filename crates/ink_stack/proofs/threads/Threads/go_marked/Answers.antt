@@ -1,8 +1,5 @@
 use Rattle.std.proofs.Common.{arith, refl}
-use Rattle.ink_model.specs.Flow.Frames.{gone, on_top}
-use Rattle.ink_trail.proofs.Undoing.{notes-trails, trails-one}
-use Rattle.ink_stack.specs.Running.{threads_in}
-use Rattle.ink_stack.specs.Undo.{threads_back}
+use Rattle.ink_stack.proofs.Common.{gone, on_top, notes-trails, trails-one, threads_in, threads_back}
 use Rattle.ink_stack.specs.declared.undo.ThreadsPair.TheVariants.{Gone}
 use Rattle.ink_stack.proofs.Backs.{gone-back, room-of, spare-noted, stood-noted}
 use Rattle.ink_stack.proofs.Holding.{held-set, more-refl}

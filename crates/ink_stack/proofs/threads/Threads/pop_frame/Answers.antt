@@ -1,6 +1,5 @@
 use Rattle.std.proofs.Common.{◌∙◌, sym}
-use Rattle.ink_model.specs.Flow.Threads.{frame_popped, top_result}
-use Rattle.ink_stack.specs.Running.{threads_in}
+use Rattle.ink_stack.proofs.Common.{frame_popped, top_result, threads_in}
 use Rattle.ink_stack.proofs.Bases.{top_changes}
 use Rattle.ink_stack.proofs.Holding.{held-moved}
 use Rattle.ink_stack.proofs.Unmarked.{spare-or, stood-or, trails-changed}

@@ -1,9 +1,5 @@
 use Rattle.std.proofs.Common.{◌≡◌, ◌∙◌, Err, Ok, ap, arith, refl, reverse}
-use Rattle.ink_model.specs.Flow.Threads.{frame_popped}
-use Rattle.ink_trail.proofs.Undoing.{trails-one}
-use Rattle.ink_stack.specs.Cells.{unpopped}
-use Rattle.ink_stack.specs.Running.{threads_in}
-use Rattle.ink_stack.specs.Undo.{threads_back}
+use Rattle.ink_stack.proofs.Common.{frame_popped, trails-one, unpopped, threads_in, threads_back}
 use Rattle.ink_stack.specs.declared.undo.ThreadsPair.TheVariants.{FramePopped}
 use Rattle.ink_stack.proofs.Backs.{as-it-was, changed-err, changed-kept, changed-ok, room-of, spare-of, stood-of, stood-same, unpopped-changed}
 use Rattle.ink_stack.proofs.Bases.{top_changes}

@@ -1,7 +1,5 @@
 use Rattle.std.proofs.Common.{ap, arith, length, option_to_list, refl, reverse, sym, ◌∙◌, ◌≤◌, vec_capacity}
-use Rattle.std.proofs.lemmas.List.{length-append, length-reverse}
-use Rattle.ink_trail.specs.Undo.{trail_of}
-use Rattle.ink_stack.specs.Running.{threads_in}
+use Rattle.ink_stack.proofs.Common.{length-append, length-reverse, trail_of, threads_in}
 use Rattle.ink_stack.proofs.Backs.{spare-of, stood-of}
 use Rattle.ink_stack.proofs.Holding.{held-next, held-now, held-unmarked}
 use Rattle.ink_stack.proofs.Tops.{dropped_is}

@@ -1,9 +1,7 @@
 use Rattle.std.proofs.Common.{ap, arith, length, option_to_list, refl, sym, ◌++◌, ◌∙◌, ◌≡◌, ◌≤◌, vec_capacity, reverse, unwrap_or, is_some}
 use Rattle.std.proofs.lemmas.List.{append-nil, length-reverse}
 use Rattle.ink_trail.proofs.Undoing.{trails-kept, trails-one}
-use Rattle.ink_trail.specs.Undo.{trail_of}
-use Rattle.ink_stack.specs.Running.{threads_in}
-use Rattle.ink_stack.specs.Undo.{threads_back}
+use Rattle.ink_stack.proofs.Common.{trail_of, threads_in, threads_back}
 use Rattle.ink_stack.specs.declared.undo.ThreadsPair.TheVariants.{ThreadPopped}
 use Rattle.ink_stack.proofs.Backs.{room-of, spare-of, stood-of, thread-popped-back}
 use Rattle.ink_stack.proofs.Holding.{held-as, held-next, held-now, held-with, room-refl, room-same}

@@ -1,7 +1,5 @@
 use Rattle.std.proofs.Common.{◌∙◌, sym}
-use Rattle.ink_model.specs.Flow.Threads.{frame_pushed, top_result}
-use Rattle.ink_stack.specs.Calls.{frame_kind}
-use Rattle.ink_stack.specs.Running.{threads_in}
+use Rattle.ink_stack.proofs.Common.{frame_pushed, top_result, frame_kind, threads_in}
 use Rattle.ink_stack.proofs.Bases.{top_grows}
 use Rattle.ink_stack.proofs.Holding.{held-moved}
 use Rattle.ink_stack.proofs.Unmarked.{spare-or, stood-or, trails-grown}

@@ -1,12 +1,6 @@
 use Rattle.std.proofs.Common.{◌≡◌, ◌∙◌, Err, ap, arith, refl, reverse, subst}
-use Rattle.ink_model.specs.Flow.Threads.{frame_pushed, top_result}
-use Rattle.ink_model.specs.declared.fault.Fault.TheVariants.{OutOfMemory}
-use Rattle.ink_trail.proofs.Undoing.{trails-one}
-use Rattle.ink_stack.specs.Calls.{frame_kind}
-use Rattle.ink_stack.specs.Running.{threads_in}
-use Rattle.ink_stack.specs.Undo.{threads_back}
+use Rattle.ink_stack.proofs.Common.{frame_pushed, top_result, OutOfMemory, trails-one, frame_kind, threads_in, threads_back, Grows}
 use Rattle.ink_stack.specs.declared.undo.ThreadsPair.TheVariants.{FramePushed}
-use Rattle.ink_stack.specs.Outcomes.{Grows}
 use Rattle.ink_stack.proofs.Backs.{as-it-was, but-for-room, grown-kept, grown-refused, spare-of, stood-of, stood-same, unpushed-grown}
 use Rattle.ink_stack.proofs.Bases.{top_grows}
 use Rattle.ink_stack.proofs.Holding.{held-as, held-noted, room-as}

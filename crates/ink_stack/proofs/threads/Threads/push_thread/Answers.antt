@@ -1,8 +1,5 @@
 use Rattle.std.proofs.Common.{◌∙◌, arith, sym}
-use Rattle.std.proofs.lemmas.List.{length-reverse}
-use Rattle.ink_model.specs.Flow.Threads.{doubled}
-use Rattle.ink_trail.specs.Undo.{trail_of}
-use Rattle.ink_stack.specs.Running.{threads_in}
+use Rattle.ink_stack.proofs.Common.{length-reverse, doubled, trail_of, threads_in}
 use Rattle.ink_stack.proofs.Holding.{held-now, held-unmarked}
 use Rattle.ink_stack.proofs.Unmarked.{spare-or, stood-or, trails-grown}
 use Rattle.ink_stack.proofs.threads.Threads.push_thread.Goals as goal

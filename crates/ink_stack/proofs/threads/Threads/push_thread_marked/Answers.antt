@@ -1,12 +1,5 @@
 use Rattle.std.proofs.Common.{◌≡◌, ◌∙◌, Err, ap, arith, length, refl, subst}
-use Rattle.std.proofs.lemmas.List.{length-reverse}
-use Rattle.ink_model.specs.Flow.Threads.{doubled}
-use Rattle.ink_model.specs.declared.fault.Fault.TheVariants.{OutOfMemory}
-use Rattle.ink_trail.proofs.Undoing.{trails-one}
-use Rattle.ink_trail.specs.Undo.{trail_of}
-use Rattle.ink_stack.specs.Running.{threads_in}
-use Rattle.ink_stack.specs.Undo.{threads_back}
-use Rattle.ink_stack.specs.Outcomes.{Grows}
+use Rattle.ink_stack.proofs.Common.{length-reverse, doubled, OutOfMemory, trails-one, trail_of, threads_in, threads_back, Grows}
 use Rattle.ink_stack.specs.declared.undo.ThreadsPair.TheVariants.{ThreadPushed}
 use Rattle.ink_stack.proofs.Backs.{as-it-was, but-for-room, doubled-back, grown-kept, grown-refused, popped-drop, spare-of, stood-of, stood-same}
 use Rattle.ink_stack.proofs.Holding.{held-as, held-now, held-with, room-refl}

@@ -1,8 +1,6 @@
 use Rattle.std.proofs.Common.{arith, refl}
 use Rattle.ink_model.specs.Flow.Frames.{put_in, on_top}
-use Rattle.ink_trail.proofs.Undoing.{trails-one}
-use Rattle.ink_stack.specs.Running.{threads_in}
-use Rattle.ink_stack.specs.Undo.{threads_back}
+use Rattle.ink_stack.proofs.Common.{trails-one, threads_in, threads_back}
 use Rattle.ink_stack.specs.declared.undo.ThreadsPair.TheVariants.{Placed}
 use Rattle.ink_stack.proofs.Backs.{placed-back, room-of, spare-of, stood-of}
 use Rattle.ink_stack.proofs.Holding.{held-set, more-refl}

@@ -1,9 +1,8 @@
 use Rattle.std.proofs.Common.{◌∙◌, Err, ap, inl, refl, reverse, sym, ◌≤◌, subst}
-use Rattle.ink_model.specs.declared.fault.Fault.TheVariants.{OutOfMemory}
+use Rattle.ink_stack.proofs.Common.{OutOfMemory, frame_count}
 use Rattle.ink_stack.proofs.Backs.{as-it-was, spare-of, stood-of, stood-same}
 use Rattle.ink_stack.proofs.Holding.{held-moved}
 use Rattle.ink_stack.proofs.Unmarked.{free, spare-or}
-use Rattle.ink_model.specs.Flow.Threads.{frame_count}
 use Rattle.ink_stack.proofs.threads.Threads.put_temp.Goals as goal
 
 pub returns-then-is_marked : goal.returns-then-is_marked

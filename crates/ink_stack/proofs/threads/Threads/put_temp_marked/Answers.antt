@@ -1,13 +1,10 @@
 use Rattle.std.proofs.Common.{Err, ap, arith, inl, inr, refl, reverse, vec_capacity, ◌≤◌, subst, sym}
-use Rattle.ink_model.specs.declared.fault.Fault.TheVariants.{OutOfMemory}
+use Rattle.ink_stack.proofs.Common.{OutOfMemory, threads_in, threads_back, frame_count}
 use Rattle.ink_trail.proofs.Undoing.{trails-after, trails-one}
-use Rattle.ink_stack.specs.Running.{threads_in}
-use Rattle.ink_stack.specs.Undo.{threads_back}
 use Rattle.ink_stack.specs.declared.undo.ThreadsPair.TheVariants.{Temp}
 use Rattle.ink_stack.proofs.Backs.{but-for-room, few-of, spare-of, stood-of, stood-same}
 use Rattle.ink_stack.proofs.Holding.{held-as, held-noted, more-refl, rooms_at}
 use Rattle.ink_stack.proofs.Unmarked.{spare-or}
-use Rattle.ink_model.specs.Flow.Threads.{frame_count}
 use Rattle.ink_stack.proofs.threads.Threads.put_temp_marked.Goals as goal
 
 pub invariant_of-self : goal.invariant_of-self

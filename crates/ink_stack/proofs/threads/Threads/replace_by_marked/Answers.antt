@@ -1,7 +1,5 @@
 use Rattle.std.proofs.Common.{◌≡◌, ◌∙◌, ◌≤◌, [], ap, arith, vec_capacity, reverse}
-use Rattle.ink_trail.proofs.Undoing.{trails-one}
-use Rattle.ink_stack.specs.Running.{threads_in}
-use Rattle.ink_stack.specs.Undo.{threads_back}
+use Rattle.ink_stack.proofs.Common.{trails-one, threads_in, threads_back}
 use Rattle.ink_stack.specs.declared.undo.ThreadsPair.TheVariants.{Replaced}
 use Rattle.ink_stack.proofs.Backs.{room-of, spare-of, stood-of}
 use Rattle.ink_stack.proofs.Holding.{held-with, room-same}

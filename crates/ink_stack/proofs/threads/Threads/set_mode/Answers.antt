@@ -1,7 +1,5 @@
 use Rattle.std.proofs.Common.{◌∙◌, ap, refl, sym}
-use Rattle.ink_trail.proofs.Undoing.{notes-trails}
-use Rattle.ink_stack.specs.Running.{threads_in}
-use Rattle.ink_stack.specs.Undo.{threads_back}
+use Rattle.ink_stack.proofs.Common.{notes-trails, threads_in, threads_back}
 use Rattle.ink_stack.proofs.Backs.{spare-noted, stood-noted}
 use Rattle.ink_stack.proofs.Holding.{held-same}
 use Rattle.ink_stack.proofs.Unmarked.{free}

@@ -1,8 +1,6 @@
 use Rattle.std.proofs.Common.{arith, refl, subst, sym}
 use Rattle.ink_trail.proofs.Undoing.{notes-none}
-use Rattle.ink_trail.specs.Undo.{trail_of}
-use Rattle.ink_stack.specs.Running.{threads_in}
-use Rattle.ink_stack.specs.Undo.{HasMode, threads_back}
+use Rattle.ink_stack.proofs.Common.{trail_of, threads_in, HasMode, threads_back}
 use Rattle.ink_stack.proofs.Backs.{mode-noted, spare-noted, stood-noted}
 use Rattle.ink_stack.proofs.Holding.{held-again}
 use Rattle.ink_stack.proofs.threads.Threads.set_mode_again.Goals as goal

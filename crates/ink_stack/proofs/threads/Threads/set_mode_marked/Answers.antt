@@ -1,10 +1,5 @@
 use Rattle.std.proofs.Common.{arith, refl, reverse, subst}
-use Rattle.std.proofs.lemmas.List.{reverse-reverse}
-use Rattle.ink_model.specs.Flow.Frames.{mode_in, on_top}
-use Rattle.ink_trail.proofs.Undoing.{notes-trails, trails-one}
-use Rattle.ink_trail.specs.Undo.{trail_of}
-use Rattle.ink_stack.specs.Running.{threads_in}
-use Rattle.ink_stack.specs.Undo.{HasMode, threads_back}
+use Rattle.ink_stack.proofs.Common.{reverse-reverse, mode_in, on_top, notes-trails, trails-one, trail_of, threads_in, HasMode, threads_back}
 use Rattle.ink_stack.specs.declared.undo.ThreadsPair.TheVariants.{Evaluating}
 use Rattle.ink_stack.proofs.Backs.{mode-back, room-of, spare-noted, stood-noted}
 use Rattle.ink_stack.proofs.Holding.{held-set, more-refl}

@@ -1,9 +1,6 @@
 use Rattle.std.proofs.Common.{arith, refl}
-use Rattle.ink_model.specs.Flow.Frames.{on_top}
+use Rattle.ink_stack.proofs.Common.{on_top, trails-one, threads_in, threads_back}
 use Rattle.ink_model.specs.Flow.Threads.{number_in}
-use Rattle.ink_trail.proofs.Undoing.{trails-one}
-use Rattle.ink_stack.specs.Running.{threads_in}
-use Rattle.ink_stack.specs.Undo.{threads_back}
 use Rattle.ink_stack.specs.declared.undo.ThreadsPair.TheVariants.{Numbered}
 use Rattle.ink_stack.proofs.Backs.{numbered-back, room-of, spare-of, stood-of}
 use Rattle.ink_stack.proofs.Holding.{held-set, more-refl}

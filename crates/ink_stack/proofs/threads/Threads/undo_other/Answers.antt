@@ -1,8 +1,7 @@
 use Rattle.std.proofs.Common.{arith, refl, ◌∙◌, ap}
-use Rattle.std.proofs.lemmas.List.{length-reverse}
+use Rattle.ink_stack.proofs.Common.{length-reverse, threads_in}
 use Rattle.ink_trail.proofs.Parting.{stays-last}
 use Rattle.ink_trail.specs.Undo.{trail_of, writes_of}
-use Rattle.ink_stack.specs.Running.{threads_in}
 use Rattle.ink_stack.specs.Undo.{Held, rooms_of, threads_back}
 use Rattle.ink_stack.proofs.Holding.{held-as, held-now}
 use Rattle.ink_stack.proofs.threads.Threads.undo_other.Goals as goal

@@ -1,8 +1,6 @@
 use Rattle.ink_trail.proofs.Undoing.{stood-none}
-use Rattle.ink_stack.specs.Undo.{threads_back, threads_stood}
+use Rattle.ink_stack.proofs.Common.{threads_back, threads_stood, length-append, length-reverse, reverse-append, MAX_THREADS}
 use Rattle.std.proofs.Common.{◌≡◌, ◌∙◌, ◌<◌, ◌++◌, [], ◌∷◌, Some, ap, arith, length, reverse, sym}
-use Rattle.std.proofs.lemmas.List.{length-append, length-reverse, reverse-append}
-use Rattle.ink_model.specs.declared.limits.TheConstants.{MAX_THREADS}
 use Rattle.ink_stack.specs.Saving.{threads_with}
 use Rattle.ink_stack.proofs.threads.Threads.with.Goals as goal
 

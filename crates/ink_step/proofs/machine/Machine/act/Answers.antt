@@ -1,26 +1,12 @@
 use Rattle.std.proofs.Common.{◌&&◌, ◌||◌, ◌∙◌, ◌≡◌, Err, Ok, ap, is_some, option_map, rules, subst, sym, true}
-use Rattle.ink_check.specs.Standing.{story_tree}
-use Rattle.ink_model.specs.Memory.Asks.{acting_asks}
-use Rattle.ink_model.specs.Run.Effect.{context_of, fields_of}
+use Rattle.ink_step.proofs.Common.{story_tree, acting_asks, context_of, fields_of, following_asks, move, move_asks, acted, effect, leaf, Stood, keeps_mark, pressed, stood_of, takes_there, StepEnds, config_of, AsksToStore, Performs, or_first, place_of, globals_stood}
 use Rattle.ink_model.specs.Memory.Refusals.{content_asks}
-use Rattle.ink_model.specs.Choices.Choosing.{following_asks}
-use Rattle.ink_model.specs.Run.Move.{move}
-use Rattle.ink_model.specs.Memory.Moves.{move_asks}
-use Rattle.ink_model.specs.Run.Step.{acted, effect}
-use Rattle.ink_model.specs.Story.Tree.{leaf}
-use Rattle.ink_step.specs.Marks.{Stood, keeps_mark, pressed, stood_of, takes_there}
-use Rattle.ink_step.specs.Steps.{StepEnds}
 use Rattle.ink_moves.specs.declared.flow.StepEnd.TheVariants as ends
-use Rattle.ink_step.specs.Standing.{config_of}
-use Rattle.ink_effects.specs.Performs.{AsksToStore, Performs}
 use Rattle.ink_step.proofs.Finished.{finished}
-use Rattle.ink_effects.proofs.Bools.{or_first}
 use Rattle.ink_step.proofs.Follows.{ends_any, ends_unperformed, ends_where, or_apart, or_where, or_whole}
 use Rattle.ink_step.proofs.Storing.{performs_marked, stores_marked}
 use Rattle.ink_step.proofs.Stopping.{broke}
 use Rattle.ink_step.proofs.machine.Machine.act.Goals as goal
-use Rattle.ink_tree.specs.Nodes.{place_of}
-use Rattle.ink_vars.specs.Undo.{globals_stood}
 
 pub returns-in_err-perform-clause-ends : goal.returns-in_err-perform-clause-ends
 returns-in_err-perform-clause-ends c =

@@ -1,18 +1,11 @@
 use Rattle.std.proofs.Common.{◌≡◌, refl, rules, sym, subst, Err, ◌∙◌, ap}
-use Rattle.ink_check.specs.Standing.{story_tree}
-use Rattle.ink_host.specs.Desk.{bound_by}
+use Rattle.ink_step.proofs.Common.{story_tree, bound_by, fields_of, call_of, pressed, stood_of, StepMakes, config_of, stops_kept}
 use Rattle.ink_model.specs.Memory.Asks.{calling_asks, external_asks}
-use Rattle.ink_model.specs.Run.Effect.{fields_of}
 use Rattle.ink_model.specs.Run.Step.{call_made}
 use Rattle.ink_model.specs.Run.Step.Host.{call_external}
-use Rattle.ink_effects.specs.External.{call_of}
-use Rattle.ink_step.specs.Marks.{pressed, stood_of}
-use Rattle.ink_step.specs.Steps.{StepMakes}
-use Rattle.ink_step.specs.Standing.{config_of}
 use Rattle.ink_step.proofs.Makes.{external_call, makes_broken, makes_ended}
 use Rattle.ink_effects.proofs.Plain.{keeps_plain, offers_plain, stores_plain}
 use Rattle.ink_effects.specs.Refusals.{StepStopsAtRefusal}
-use Rattle.ink_effects.proofs.Refusals.{stops_kept}
 use Rattle.ink_step.proofs.machine.Machine.act_external.Goals as goal
 
 pub returns-in_err-transfer-clause-step : goal.returns-in_err-transfer-clause-step

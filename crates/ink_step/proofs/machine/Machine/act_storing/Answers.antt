@@ -1,15 +1,6 @@
 use Rattle.std.proofs.Common.{◌≡◌, ◌⊎◌, ◌||◌, ◌&&◌, Some, inl, inr, sym, subst}
-use Rattle.ink_check.specs.Standing.{story_tree}
-use Rattle.ink_model.specs.Memory.Asks.{acting_asks, content_asks}
-use Rattle.ink_model.specs.Run.Effect.{context_of, fields_of}
-use Rattle.ink_model.specs.Run.Step.{acted, effect}
-use Rattle.ink_model.specs.Story.Tree.{leaf}
-use Rattle.ink_step.specs.Marks.{keeps_mark, pressed, stood_of, takes_there}
-use Rattle.ink_step.specs.Steps.{StepEnds}
-use Rattle.ink_step.specs.Standing.{config_of}
-use Rattle.ink_effects.proofs.Bools.{or_first}
+use Rattle.ink_step.proofs.Common.{story_tree, acting_asks, content_asks, context_of, fields_of, acted, effect, leaf, keeps_mark, pressed, stood_of, takes_there, StepEnds, config_of, or_first, place_of}
 use Rattle.ink_step.proofs.machine.Machine.act_storing.Goals as goal
-use Rattle.ink_tree.specs.Nodes.{place_of}
 
 -- what holds of both holds of what is one of them
 of_both : {X : Type 0} (P : X → Type 0) (x a b : X) → (x ≡ a) ⊎ (x ≡ b) → P a → P b → P x

@@ -1,25 +1,13 @@
 use Rattle.std.proofs.Common.{◌≡◌, ◌∙◌, ◌⊎◌, ◌*◌, ◌||◌, Bool, List, Option, length, ap, refl, rules, subst, sym, true, false, is_some, slice_get, option_map, MatchOption, Some, None, Ok, Err, unwrap_or, arith}
-use Rattle.ink_check.specs.Standing.{story_tree}
-use Rattle.ink_choice.specs.Undo.{choices_stood}
-use Rattle.ink_choice.specs.Outcomes.{Takes}
+use Rattle.ink_step.proofs.Common.{story_tree, choices_stood, Takes, ChoiceOf, can_go_on, map_choice, entered_places, StoryTree, adds_rows, all_visited, Part, config_of, counts_in, Machine, or_first, or_more, place_of, counts_spare, counts_stood}
 use Rattle.ink_model.specs.Choices.Making.{choice_gone, visible}
 use Rattle.ink_model.specs.Choices.Choosing.{open_choice, taken_up}
-use Rattle.ink_model.specs.Run.Configuration.{ChoiceOf, can_go_on, map_choice}
-use Rattle.ink_model.specs.Run.Entered.{entered_places}
-use Rattle.ink_model.specs.Story.Tree.{StoryTree}
-use Rattle.ink_model.specs.Run.Visits.{adds_rows, all_visited}
-use Rattle.ink_model.specs.declared.place.Part.{Part}
 use Rattle.ink_step.specs.Marks.{choices_lack, choosing_lacks, counts_lack, entered_by, lacks, own_lacks, stood_of, threads_lack, turn_lacks}
 use Rattle.ink_step.specs.Steps.{Chooses}
-use Rattle.ink_step.specs.Standing.{config_of, counts_in}
-use Rattle.ink_step.specs.declared.machine.Machine.{Machine}
 use Rattle.ink_step.proofs.Chosen.{asks_or_lacks, chooses_none, chooses_one, chooses_short, chosen_lands, open_alike, takes_any, takes_visible, turn_short}
-use Rattle.ink_effects.proofs.Bools.{or_first, or_more}
 use Rattle.ink_step.proofs.machine.Machine.choose.Goals as goal
 use Rattle.ink_step.proofs.machine.Machine.choose.Goals.{After-enter_landed, Else-can_go_on}
 use Rattle.ink_tree.specs.Nodes as Nodes
-use Rattle.ink_tree.specs.Nodes.{place_of}
-use Rattle.ink_vars.specs.Undo.{counts_spare, counts_stood}
 
 -- flow has stopped
 stopped : (c : Else-can_go_on) → can_go_on (config_of (story_tree c.args.story.now) c.args.self.now) ≡ false

@@ -1,7 +1,5 @@
 use Rattle.std.proofs.Common.{ap, if◌then◌else◌, sym}
-use Rattle.ink_step.specs.Marks.{stood_of}
-use Rattle.ink_model.specs.Run.Visits.{entering_around}
-use Rattle.ink_step.specs.Standing.{config_of}
+use Rattle.ink_step.proofs.Common.{stood_of, entering_around, config_of}
 use Rattle.ink_tree.specs.Nodes.{story_tree}
 use Rattle.ink_step.proofs.machine.Machine.enter_around.Goals as goal
 

@@ -1,14 +1,5 @@
 use Rattle.std.proofs.Common.{◌≡◌, ◌∙◌, ◌||◌, ap, is_some, rules, sym, subst, true, Ok, Err}
-use Rattle.ink_check.specs.Standing.{story_tree}
-use Rattle.ink_model.specs.Choices.Choosing.{following, following_asks}
-use Rattle.ink_model.specs.Run.Effect.{fields_of}
-use Rattle.ink_model.specs.Run.Move.{move}
-use Rattle.ink_model.specs.Memory.Moves.{move_asks}
-use Rattle.ink_step.specs.Marks.{Stood, pressed}
-use Rattle.ink_effects.specs.Performs.{storing_in, unstored}
-use Rattle.ink_step.specs.Steps.{StepEnds}
-use Rattle.ink_step.specs.Standing.{config_of}
-use Rattle.ink_effects.proofs.Bools.{or_first, or_more}
+use Rattle.ink_step.proofs.Common.{story_tree, following, following_asks, fields_of, move, move_asks, Stood, pressed, storing_in, unstored, StepEnds, config_of, or_first, or_more}
 use Rattle.ink_step.proofs.Follows.{ends_after, ends_any, kept_stays, offered_stay, or_assoc, or_whole}
 use Rattle.ink_step.proofs.Stopping.{broke_storing, ends_stored}
 use Rattle.ink_step.proofs.machine.Machine.finish_by.Goals as goal

@@ -1,31 +1,17 @@
 use Rattle.std.proofs.Common.{[], ◌||◌, ◌∙◌, ◌≡◌, ◌≤◌, Bool, Err, None, Ok, Result, ap, arith, false, refl, rules, subst, sym, true}
-use Rattle.ink_check.specs.Standing.{story_tree}
+use Rattle.ink_step.proofs.Common.{story_tree, Effect, fields_of, going, move, reached_in, written_in, next_place, StoryTree, Fault, OutOfMemory, threads_spare, pressed, stood_of, Performs, unstored, StepEnds, aside_in, config_of, start_of, StepEnd, Machine, place_of}
 use Rattle.ink_model.specs.Run.Configuration.{ended, with_safe, with_threads}
-use Rattle.ink_model.specs.Run.Effect.{Effect, fields_of}
 use Rattle.ink_model.specs.Flow.Transfers.{Written, done, forked, halt, moved_on}
 use Rattle.ink_model.specs.Flow.Frames.{base_threads, map_threads}
-use Rattle.ink_model.specs.Run.Move.{going, move, reached_in, written_in}
 use Rattle.ink_model.specs.Memory.Moves.{dropped_asks, forked_asks, move_asks, moved_asks}
-use Rattle.ink_model.specs.Run.Place.{next_place}
 use Rattle.ink_model.specs.Flow.Threads.{dropped}
-use Rattle.ink_model.specs.Story.Tree.{StoryTree}
-use Rattle.ink_model.specs.declared.fault.Fault.{Fault}
-use Rattle.ink_model.specs.declared.fault.Fault.TheVariants.{OutOfMemory}
-use Rattle.ink_stack.specs.Undo.{threads_spare}
-use Rattle.ink_step.specs.Marks.{pressed, stood_of}
-use Rattle.ink_effects.specs.Performs.{Performs, unstored}
 use Rattle.ink_moves.specs.Reaches.{ReachesAs, written}
-use Rattle.ink_step.specs.Steps.{StepEnds}
-use Rattle.ink_step.specs.Standing.{aside_in, config_of, start_of}
-use Rattle.ink_moves.specs.declared.flow.StepEnd.{StepEnd}
-use Rattle.ink_step.specs.declared.machine.Machine.{Machine}
 use Rattle.ink_effects.proofs.Plain.{when_ok}
 use Rattle.ink_step.proofs.Follows.{ends_more, ends_pressed, ends_reached, goes_after_text, goes_done, goes_forking, goes_nowhere}
 use Rattle.ink_step.proofs.Landed.{goes_back, goes_into, goes_on, goes_storing, goes_there}
 use Rattle.ink_step.proofs.Marks.{pressed_choices, pressed_fresh, pressed_own}
 use Rattle.ink_model.proofs.Maps.{is_last_map, staled_map}
 use Rattle.ink_step.proofs.machine.Machine.follow.Goals as goal
-use Rattle.ink_tree.specs.Nodes.{place_of}
 
 pub returns-in-Next-clause-ends : goal.returns-in-Next-clause-ends
 returns-in-Next-clause-ends c asks e h has offers =

@@ -1,19 +1,12 @@
 use Rattle.std.proofs.Common.{◌≡◌, ◌∙◌, ◌||◌, Err, Ok, Some, ap, is_some, map, refl, rules, subst, sym, true}
-use Rattle.ink_check.specs.Standing.{story_tree}
-use Rattle.ink_choice.specs.Outcomes.{Takes}
+use Rattle.ink_step.proofs.Common.{story_tree, Takes, default_asks, default_choice, stopped_by, map_choice, landing_lacks, pressed, stood_of, StepEnds, config_of, place_of}
 use Rattle.ink_model.specs.Choices.Making.{only_invisible, choice_gone}
-use Rattle.ink_model.specs.Choices.Choosing.{default_asks, default_choice, stopped_by}
-use Rattle.ink_model.specs.Run.Configuration.{map_choice}
 use Rattle.ink_model.specs.Run.Visits.{entering_around, entering_asks}
-use Rattle.ink_step.specs.Marks.{landing_lacks, pressed, stood_of}
-use Rattle.ink_step.specs.Steps.{StepEnds}
-use Rattle.ink_step.specs.Standing.{config_of}
 use Rattle.ink_step.proofs.Marks.{pressed_choices, pressed_default, pressed_landing}
 use Rattle.ink_step.proofs.Chosen.{follows_default, is_default, no_default, short_of_default, short_pressed, stays_stopped, takes_none}
 use Rattle.ink_step.proofs.Follows.{or_where}
 use Rattle.ink_step.proofs.machine.Machine.follow_default.Goals as goal
 use Rattle.ink_step.proofs.machine.Machine.follow_default.Goals.{In-Some}
-use Rattle.ink_tree.specs.Nodes.{place_of}
 
 -- the choice that was taken is followed
 is_first : (c : In-Some) → let s = story_tree c.args.story.now in default_choice (map (map_choice (place_of s)) c.args.self.now.flow.choices.items) ≡ Some (map_choice (place_of s) c.in-Some.choice)

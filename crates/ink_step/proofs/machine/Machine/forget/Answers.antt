@@ -1,7 +1,6 @@
 use Rattle.std.proofs.Common.{◌∙◌, ap}
 use Rattle.ink_step.specs.Marks.{Stood, own_stood, unmarked}
-use Rattle.ink_step.specs.Standing.{aside_in, config_of}
-use Rattle.ink_step.specs.declared.machine.Machine.{Machine}
+use Rattle.ink_step.proofs.Common.{aside_in, config_of, Machine}
 use Rattle.ink_step.proofs.Backs.{as_roomy, room_with}
 use Rattle.ink_step.proofs.machine.Machine.forget.Goals as goal
 

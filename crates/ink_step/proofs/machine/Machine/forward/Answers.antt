@@ -1,11 +1,5 @@
 use Rattle.std.proofs.Common.{subst, sym, Ok}
-use Rattle.ink_check.specs.Standing.{story_tree}
-use Rattle.ink_host.specs.Desk.{bound_by}
-use Rattle.ink_model.specs.Memory.Asks.{asks}
-use Rattle.ink_model.specs.Run.Step.{step}
-use Rattle.ink_step.specs.Marks.{presses}
-use Rattle.ink_step.specs.Steps.{StepMakes, step_end}
-use Rattle.ink_step.specs.Standing.{config_of}
+use Rattle.ink_step.proofs.Common.{story_tree, bound_by, asks, step, presses, StepMakes, step_end, config_of}
 use Rattle.ink_step.proofs.Makes.{makes_went}
 use Rattle.ink_step.proofs.machine.Machine.forward.Goals as goal
 

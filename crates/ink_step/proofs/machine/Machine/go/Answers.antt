@@ -1,12 +1,5 @@
 use Rattle.std.proofs.Common.{◌≡◌, ◌||◌, ◌∙◌, Err, Ok, rules, subst, sym}
-use Rattle.ink_check.specs.Standing.{story_tree}
-use Rattle.ink_model.specs.Choices.Choosing.{default_asks, default_choice, following, following_asks, stopped_by}
-use Rattle.ink_model.specs.Run.Move.{move}
-use Rattle.ink_model.specs.Memory.Moves.{move_asks}
-use Rattle.ink_step.specs.Marks.{pressed}
-use Rattle.ink_effects.specs.Performs.{unstored}
-use Rattle.ink_step.specs.Steps.{StepEnds}
-use Rattle.ink_step.specs.Standing.{config_of}
+use Rattle.ink_step.proofs.Common.{story_tree, default_asks, default_choice, following, following_asks, stopped_by, move, move_asks, pressed, unstored, StepEnds, config_of}
 use Rattle.ink_step.proofs.Follows.{ends_any, or_assoc}
 use Rattle.ink_step.proofs.Stopping.{broke, stopped_so}
 use Rattle.ink_step.proofs.machine.Machine.go.Goals as goal

@@ -1,21 +1,14 @@
 use Rattle.std.proofs.Common.{◌&&◌, ◌||◌, ◌∙◌, ◌≡◌, Err, Ok, cond, option_map, refl, rules, subst, sym, true}
-use Rattle.ink_check.specs.Standing.{story_tree}
+use Rattle.ink_step.proofs.Common.{story_tree, map_threads, next_place, landing_lacks, pressed, stood_of, StepEnds, config_of, counts_in, adds_rows, around, entering_around, place_of}
 use Rattle.ink_model.specs.Flow.Transfers.{returned}
-use Rattle.ink_model.specs.Flow.Frames.{map_threads}
 use Rattle.ink_model.specs.Run.Move.{landing_outcome, may_enter, place_to, written_in}
 use Rattle.ink_model.specs.Memory.Moves.{landed_asks, returned_asks}
-use Rattle.ink_model.specs.Run.Place.{next_place}
-use Rattle.ink_step.specs.Marks.{landing_lacks, pressed, stood_of}
 use Rattle.ink_effects.specs.Performs.{landing_of}
 use Rattle.ink_moves.specs.Reaches.{ReachesAs, written}
-use Rattle.ink_step.specs.Steps.{StepEnds}
-use Rattle.ink_step.specs.Standing.{config_of, counts_in}
-use Rattle.ink_model.specs.Run.Visits.{adds_rows, around, entering_around}
 use Rattle.ink_step.proofs.Marks.{pressed_landing}
 use Rattle.ink_step.proofs.Follows.{or_where}
 use Rattle.ink_step.proofs.Landed.{lands, lands_broken, lands_short, returned_lands}
 use Rattle.ink_step.proofs.machine.Machine.go_back.Goals as goal
-use Rattle.ink_tree.specs.Nodes.{place_of}
 
 pub returns-in_err-end-clause-ends : goal.returns-in_err-end-clause-ends
 returns-in_err-end-clause-ends c =

@@ -1,8 +1,6 @@
 use Rattle.std.proofs.Common.{ap, sym}
-use Rattle.ink_model.specs.Run.Visits.{all_visited}
-use Rattle.ink_step.specs.Standing.{counts_in}
+use Rattle.ink_step.proofs.Common.{all_visited, counts_in, stood_of}
 use Rattle.ink_step.proofs.Goings.{goes_nowhere_in, passes_none, went_in}
-use Rattle.ink_step.specs.Marks.{stood_of}
 use Rattle.ink_step.proofs.machine.Machine.go_in.Goals as goal
 use Rattle.ink_tree.specs.Nodes.{place_of, story_tree}
 

@@ -1,18 +1,10 @@
 use Rattle.std.proofs.Common.{◌≡◌, ◌&&◌, ◌||◌, cond, false, rules, subst, sym, true, Err, ◌∙◌, ap}
-use Rattle.ink_check.specs.Standing.{story_tree}
+use Rattle.ink_step.proofs.Common.{story_tree, map_threads, landing_outcome, written_in, landed_asks, adds_rows, around, entering_around, landing_lacks, pressed, stood_of, StepEnds, config_of, counts_in, place_of}
 use Rattle.ink_model.specs.Flow.Transfers.{reach}
-use Rattle.ink_model.specs.Flow.Frames.{map_threads}
-use Rattle.ink_model.specs.Run.Move.{landing_outcome, written_in}
-use Rattle.ink_model.specs.Memory.Moves.{landed_asks}
-use Rattle.ink_model.specs.Run.Visits.{adds_rows, around, entering_around}
-use Rattle.ink_step.specs.Marks.{landing_lacks, pressed, stood_of}
-use Rattle.ink_step.specs.Steps.{StepEnds}
-use Rattle.ink_step.specs.Standing.{config_of, counts_in}
 use Rattle.ink_step.proofs.Marks.{pressed_landing}
 use Rattle.ink_step.proofs.Follows.{or_where}
 use Rattle.ink_step.proofs.Landed.{lands, lands_short}
 use Rattle.ink_step.proofs.machine.Machine.go_to.Goals as goal
-use Rattle.ink_tree.specs.Nodes.{place_of}
 
 pub returns-in_err-enter_around-clause-ends : goal.returns-in_err-enter_around-clause-ends
 returns-in_err-enter_around-clause-ends c =

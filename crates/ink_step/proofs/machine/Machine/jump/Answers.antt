@@ -1,18 +1,11 @@
 use Rattle.std.proofs.Common.{◌≡◌, ◌∙◌, ◌⊎◌, ◌*◌, ◌||◌, length, ap, subst, true, false, map, None, Some, ◌≤◌, arith, is_err, sym, Result, Ok, Err, OnOk}
-use Rattle.ink_check.specs.Standing.{story_tree}
-use Rattle.ink_model.specs.Run.Configuration.{Configuration, map_choice}
-use Rattle.ink_model.specs.Run.Entered.{entered_places}
+use Rattle.ink_step.proofs.Common.{story_tree, Configuration, map_choice, entered_places, adds_rows, all_visited, threads_stood, threads_spare, config_of, counts_in, aside_in, place_of, counts_spare, counts_stood}
 use Rattle.ink_model.specs.Flow.Frames.{map_threads, on_top, put_in}
-use Rattle.ink_model.specs.Run.Visits.{adds_rows, all_visited}
-use Rattle.ink_stack.specs.Undo.{threads_stood, threads_spare}
 use Rattle.ink_step.specs.Marks.{choices_lack, counts_lack, lacks, own_lacks, stood_of, threads_lack, turn_lacks, own_spare}
-use Rattle.ink_step.specs.Standing.{config_of, counts_in, aside_in}
 use Rattle.ink_step.proofs.Chosen.{asks_or_lacks, jump_lands, jumped_in}
 use Rattle.ink_choice.specs.Undo.{choices_spare}
 use Rattle.ink_step.proofs.machine.Machine.jump.Goals.{Else-is_err}
 use Rattle.ink_step.proofs.machine.Machine.jump.Goals as goal
-use Rattle.ink_tree.specs.Nodes.{place_of}
-use Rattle.ink_vars.specs.Undo.{counts_spare, counts_stood}
 
 pub returns-in-Ok-clause-ok : goal.returns-in-Ok-clause-ok
 returns-in-Ok-clause-ok c =

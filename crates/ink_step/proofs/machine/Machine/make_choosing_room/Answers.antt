@@ -1,6 +1,5 @@
 use Rattle.std.proofs.Common.{◌∙◌, ap, refl}
-use Rattle.ink_step.specs.Standing.{aside_in, config_of}
-use Rattle.ink_step.specs.declared.machine.Machine.{Machine}
+use Rattle.ink_step.proofs.Common.{aside_in, config_of, Machine}
 use Rattle.ink_step.proofs.machine.Machine.make_choosing_room.Goals as goal
 
 pub returns-clause-config : goal.returns-clause-config

@@ -1,11 +1,9 @@
 use Rattle.std.proofs.Common.{◌∙◌, ap, option_map, subst, sym}
-use Rattle.ink_check.specs.Standing.{story_tree}
+use Rattle.ink_step.proofs.Common.{story_tree, config_of, place_of}
 use Rattle.ink_model.specs.Run.Configuration.{start}
 use Rattle.ink_step.specs.Steps.{FailsToOpen}
-use Rattle.ink_step.specs.Standing.{config_of}
 use Rattle.ink_step.proofs.Openings.{first_of, opens_plainly, opens, fails}
 use Rattle.ink_step.proofs.machine.Machine.open.Goals as goal
-use Rattle.ink_tree.specs.Nodes.{place_of}
 
 pub returns-in_default-clause-ok : goal.returns-in_default-clause-ok
 returns-in_default-clause-ok c =

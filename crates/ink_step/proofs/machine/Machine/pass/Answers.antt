@@ -1,24 +1,10 @@
 use Rattle.std.proofs.Common.{◌≡◌, ◌&&◌, ◌||◌, ap, option_map, rules, subst, sym, Some, Result, Err, ◌∙◌}
-use Rattle.ink_check.specs.Standing.{story_tree}
-use Rattle.ink_model.specs.Memory.Asks.{acting_asks, asks, content_asks}
-use Rattle.ink_model.specs.Run.Configuration.{Configuration}
-use Rattle.ink_model.specs.Run.Effect.{context_of, fields_of}
-use Rattle.ink_model.specs.Host.Bindings.{Bound}
-use Rattle.ink_model.specs.Run.Step.{acted, effect, step}
-use Rattle.ink_model.specs.Story.Tree.{leaf}
-use Rattle.ink_model.specs.declared.fault.Fault.{Fault}
-use Rattle.ink_step.specs.Marks.{Stood, keeps_mark, pressed, presses, stood_of, takes_there}
-use Rattle.ink_step.specs.Steps.{EndsPlainly, StepEnds}
-use Rattle.ink_step.specs.Standing.{config_of, start_of, aside_in}
-use Rattle.ink_moves.specs.declared.flow.StepEnd.{StepEnd}
-use Rattle.ink_step.specs.declared.machine.Machine.{Machine}
+use Rattle.ink_step.proofs.Common.{story_tree, acting_asks, asks, content_asks, Configuration, context_of, fields_of, Bound, acted, effect, step, leaf, Fault, Stood, keeps_mark, pressed, presses, stood_of, takes_there, EndsPlainly, StepEnds, config_of, start_of, aside_in, StepEnd, Machine, or_first, or_more, place_of}
 use Rattle.ink_step.proofs.Finished.{not_external, passed, takes_here}
-use Rattle.ink_effects.proofs.Bools.{or_first, or_more}
 use Rattle.ink_step.proofs.Follows.{ends_short, ready_alike}
 use Rattle.ink_step.proofs.Marks.{step_pressed}
 use Rattle.ink_step.proofs.machine.Machine.pass.Goals as goal
 use Rattle.ink_step.proofs.machine.Machine.pass.Goals.{Start}
-use Rattle.ink_tree.specs.Nodes.{place_of}
 
 -- how what stands there ends
 abbrev Acts : Start → Configuration → Machine → Result StepEnd Fault → Type 0

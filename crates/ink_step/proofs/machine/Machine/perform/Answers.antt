@@ -1,19 +1,13 @@
 use Rattle.std.proofs.Common.{◌≡◌, ◌&&◌, ◌||◌, OnOk, Some, ap, is_some, option_map, refl, subst, sym, ◌∙◌}
-use Rattle.ink_check.specs.Standing.{story_tree}
+use Rattle.ink_step.proofs.Common.{story_tree, effect, leaf, at, takes_there, config_of, place_of, stack_stood}
 use Rattle.ink_model.specs.Run.Effect.{context_of, fields_of, Moves}
 use Rattle.ink_model.specs.Memory.Refusals.{content_asks}
-use Rattle.ink_model.specs.Run.Step.{effect}
-use Rattle.ink_model.specs.Story.Tree.{leaf, at}
-use Rattle.ink_step.specs.Marks.{takes_there}
 use Rattle.ink_effects.specs.Flows.{fields_of_flow}
 use Rattle.ink_effects.specs.Performs.{KeepsThreads, KeepsChoices, Performs, leading}
-use Rattle.ink_step.specs.Standing.{config_of}
 use Rattle.ink_effects.proofs.Plain.{keeps_plain, offers_plain}
 use Rattle.ink_step.proofs.Finished.{leaf_there}
 use Rattle.ink_step.proofs.machine.Machine.perform.Goals as goal
 use Rattle.ink_step.proofs.machine.Machine.perform.Goals.{In-Some}
-use Rattle.ink_tree.specs.Nodes.{place_of}
-use Rattle.ink_value.specs.Undo.{stack_stood}
 
 -- what was found is that leaf
 leaf_found : (c : In-Some) → option_map (λ x. leaf x.now) c.args.found ≡ Some (leaf c.in-Some.content.now)

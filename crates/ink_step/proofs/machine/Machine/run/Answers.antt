@@ -1,8 +1,5 @@
 use Rattle.std.proofs.Common.{◌≡◌, ◌∙◌, ap, arith, refl, rules, subst, sym, Err, inl}
-use Rattle.ink_host.specs.Telling.{log_of}
-use Rattle.ink_check.specs.Standing.{story_tree}
-use Rattle.ink_step.specs.Marks.{keeps_mark, pressed, stood_of}
-use Rattle.ink_step.specs.Standing.{config_of}
+use Rattle.ink_step.proofs.Common.{log_of, story_tree, keeps_mark, pressed, stood_of, config_of}
 use Rattle.ink_step.proofs.Runnings.{EndsRun, ran_none, ran_on, ran_out, ran_to_fault, ran_to_stop}
 use Rattle.ink_effects.specs.Refusals.{RunStopsAtRefusal}
 use Rattle.ink_effects.proofs.Refusals.{keeps_all, keeps_then, run_stops}

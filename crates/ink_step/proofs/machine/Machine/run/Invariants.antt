@@ -1,9 +1,6 @@
 use Rattle.std.proofs.Common.{◌≡◌}
-use Rattle.ink_host.specs.Telling.{log_of}
-use Rattle.ink_check.specs.Standing.{story_tree}
-use Rattle.ink_step.specs.Marks.{stood_of}
+use Rattle.ink_step.proofs.Common.{log_of, story_tree, stood_of, aside_in, config_of, start_of}
 use Rattle.ink_effects.specs.Refusals.{KeepsRefusals}
-use Rattle.ink_step.specs.Standing.{aside_in, config_of, start_of}
 use Rattle.ink_step.proofs.Runnings.{Ran}
 use Rattle.ink_step.proofs.machine.Machine.run.Given as goal
 

@@ -1,7 +1,5 @@
 use Rattle.std.proofs.Common.{◌∙◌, ap}
-use Rattle.ink_check.specs.Standing.{story_tree}
-use Rattle.ink_step.specs.Marks.{keeps_mark}
-use Rattle.ink_step.specs.Standing.{config_of}
+use Rattle.ink_step.proofs.Common.{story_tree, keeps_mark, config_of}
 use Rattle.ink_step.proofs.Marks.{not_pressed}
 use Rattle.ink_step.proofs.Runnings.{runs_alone_at}
 use Rattle.ink_step.proofs.machine.Machine.run_alone.Goals as goal

@@ -1,16 +1,14 @@
 use Rattle.ink_out.proofs.Marks.{output_free}
 use Rattle.ink_out.specs.Undo.{output_stood}
-use Rattle.ink_step.specs.Marks.{Stood}
+use Rattle.ink_step.proofs.Common.{Stood, config_of, place_of}
 use Rattle.std.proofs.Common.{◌≡◌, None, arith}
 use Rattle.std.proofs.Common.{◌∙◌, ap, map, sym}
 use Rattle.ink_model.specs.Run.Configuration.{map_choice, settled, unnumbered_choice, with_choices, with_threads}
 use Rattle.ink_model.specs.Run.Effect.{with_page}
 use Rattle.ink_model.specs.Flow.Frames.{map_threads, unnumbered_threads}
 use Rattle.ink_model.specs.Text.Output.{empty_page}
-use Rattle.ink_step.specs.Standing.{config_of}
 use Rattle.ink_model.proofs.Maps.{choices_unnumbered_map, unnumbered_map}
 use Rattle.ink_step.proofs.machine.Machine.settle.Goals as goal
-use Rattle.ink_tree.specs.Nodes.{place_of}
 
 pub returns-clause-settled : goal.returns-clause-settled
 unfolding settled

@@ -1,23 +1,10 @@
 use Rattle.std.proofs.Common.{◌≡◌, ◌∙◌, ap, option_map, refl, rules, subst, sym, false, is_some, [], Some, Ok}
-use Rattle.ink_check.specs.Standing.{story_tree}
-use Rattle.ink_host.proofs.Laws.{grew-none}
-use Rattle.ink_host.specs.Desk.{bound_by}
-use Rattle.ink_host.specs.Telling.{log_of}
-use Rattle.ink_model.specs.Memory.Asks.{asks}
-use Rattle.ink_model.specs.Run.Move.{Stop}
-use Rattle.ink_model.specs.Run.Step.{Comes, step}
-use Rattle.ink_model.specs.Run.Step.Host.{call_at}
-use Rattle.ink_model.specs.Story.Tree.{at, leaf}
-use Rattle.ink_step.specs.Marks.{presses}
+use Rattle.ink_step.proofs.Common.{story_tree, grew-none, bound_by, log_of, asks, Stop, Comes, step, call_at, at, leaf, presses, config_of, keeps_all, stops_kept, leaf_in, place_of}
 use Rattle.ink_step.specs.Steps.{Steps}
-use Rattle.ink_step.specs.Standing.{config_of}
 use Rattle.ink_moves.specs.declared.flow.StepEnd.TheVariants as ends
 use Rattle.ink_step.proofs.Follows.{stands_still}
 use Rattle.ink_step.proofs.Makes.{plainly_never, steps_plainly}
-use Rattle.ink_effects.proofs.Refusals.{keeps_all, stops_kept}
 use Rattle.ink_step.proofs.machine.Machine.step.Goals as goal
-use Rattle.ink_tree.specs.Kept.{leaf_in}
-use Rattle.ink_tree.specs.Nodes.{place_of}
 
 pub returns-in_default-clause-step : goal.returns-in_default-clause-step
 returns-in_default-clause-step g c =

@@ -1,33 +1,15 @@
 use Rattle.std.proofs.Common.{◌≡◌, ◌∙◌, ◌&&◌, ◌||◌, List, Bool, Option, Some, None, Result, ap, option_map, rules, subst, sym, true, refl, [], Err, length, ◌+◌, ◌≤◌}
-use Rattle.ink_check.specs.Standing.{story_tree}
-use Rattle.ink_host.proofs.Laws.{grew-none}
-use Rattle.ink_host.specs.Desk.{bound_by}
-use Rattle.ink_host.specs.Telling.{log_of}
+use Rattle.ink_step.proofs.Common.{story_tree, grew-none, bound_by, log_of, Configuration, content_place, Stepped, gone_in, performed, step, Call, call_at, at, leaf, Fault, Event, call_of, StepMakes, config_of, StepEnd, or_more, keeps_all, stops_kept, leaf_in, place_of}
 use Rattle.ink_model.specs.Memory.Asks.{asks, going_in_asks, performing_asks}
-use Rattle.ink_model.specs.Run.Configuration.{Configuration}
-use Rattle.ink_model.specs.Run.Place.{content_place}
-use Rattle.ink_model.specs.Run.Step.{Stepped, gone_in, performed, step}
-use Rattle.ink_model.specs.Run.Step.Host.{Call, call_at}
-use Rattle.ink_model.specs.Story.Tree.{at, leaf}
-use Rattle.ink_model.specs.declared.fault.Fault.{Fault}
-use Rattle.ink_model.specs.declared.host.Event.{Event}
-use Rattle.ink_effects.specs.External.{call_of}
 use Rattle.ink_step.specs.Marks.{counts_lack, keeps_mark, pressed, presses, stood_of, takes_first, takes_there}
-use Rattle.ink_step.specs.Steps.{StepMakes}
-use Rattle.ink_step.specs.Standing.{config_of}
-use Rattle.ink_moves.specs.declared.flow.StepEnd.{StepEnd}
-use Rattle.ink_effects.proofs.Bools.{or_more}
 use Rattle.ink_step.proofs.Follows.{or_where}
 use Rattle.ink_step.proofs.Landed.{Performing, ends_outside, ends_performed, performs_alike, performs_told}
 use Rattle.ink_step.proofs.Makes.{found_leaves, makes_more, makes_short, makes_where}
 use Rattle.ink_step.proofs.Marks.{pressed_counts, takes_alike, takes_at}
 use Rattle.ink_step.proofs.machine.Machine.step_from.Given as given
-use Rattle.ink_effects.proofs.Refusals.{keeps_all, stops_kept}
 use Rattle.ink_value.specs.Undo.{stack_spare}
 use Rattle.ink_step.proofs.machine.Machine.step_from.Goals as goal
 use Rattle.ink_step.proofs.machine.Machine.step_from.Goals.{In_ok-here}
-use Rattle.ink_tree.specs.Kept.{leaf_in}
-use Rattle.ink_tree.specs.Nodes.{place_of}
 
 -- what is performed inside is what the step comes to
 goes_in : (g : given.Over) (c : In_ok-here g) → let s = story_tree c.args.story.now in let desk = c.args.desk.now in let b = bound_by g.P.PureFn.meaning desk.functions in let before = config_of s c.args.self.now in

@@ -1,19 +1,10 @@
 use Rattle.std.proofs.Common.{◌≡◌, ◌∙◌, ◌&&◌, ◌||◌, ap, rules, subst, sym, true, false, true≢false, [], Err, Ok}
-use Rattle.ink_check.specs.Standing.{story_tree}
-use Rattle.ink_host.proofs.Laws.{grew-none}
-use Rattle.ink_host.specs.Desk.{bound_by}
-use Rattle.ink_host.specs.Telling.{log_of}
-use Rattle.ink_model.specs.Memory.Asks.{asks}
-use Rattle.ink_model.specs.Run.Step.{step}
-use Rattle.ink_step.specs.Marks.{Stood, keeps_mark, pressed, presses, stood_of, takes_first}
+use Rattle.ink_step.proofs.Common.{story_tree, grew-none, bound_by, log_of, asks, step, Stood, keeps_mark, pressed, presses, stood_of, takes_first, aside_in, config_of, start_of, or_first, or_more, keeps_all, stops_kept}
 use Rattle.ink_step.specs.Steps.{StepMakes, Steps, wants}
-use Rattle.ink_step.specs.Standing.{aside_in, config_of, start_of}
 use Rattle.ink_moves.specs.declared.flow.StepEnd.TheVariants as ends
-use Rattle.ink_effects.proofs.Bools.{or_first, or_more}
 use Rattle.ink_step.proofs.Follows.{ready_alike}
 use Rattle.ink_step.proofs.Makes.{makes_quietly, makes_said, makes_short, said}
 use Rattle.ink_step.proofs.Marks.{step_pressed}
-use Rattle.ink_effects.proofs.Refusals.{keeps_all, stops_kept}
 use Rattle.ink_step.proofs.machine.Machine.step_in.Given as given
 use Rattle.ink_step.proofs.machine.Machine.step_in.Goals as goal
 use Rattle.ink_step.proofs.machine.Machine.step_in.Goals.{After-make_step_room, After-step_from, else-quiet-via-then-quiet+else-wants_call, else-quiet-via-else-quiet}

@@ -1,12 +1,7 @@
 use Rattle.std.proofs.Common.{◌≡◌, ◌⊎◌, Bool, false, is_some, rules, subst, sym, true, Ok, Err, ap}
-use Rattle.ink_model.specs.Variables.Store.{stored}
-use Rattle.ink_model.specs.declared.fault.Fault.TheVariants.{OutOfMemory}
-use Rattle.ink_effects.specs.Performs.{Performs, storing_in}
-use Rattle.ink_step.specs.Steps.{StepEnds}
+use Rattle.ink_step.proofs.Common.{stored, OutOfMemory, Performs, storing_in, StepEnds, stood_of, globals_stood}
 use Rattle.ink_step.proofs.Stopping.{stored_short}
-use Rattle.ink_step.specs.Marks.{stood_of}
 use Rattle.ink_step.proofs.machine.Machine.store.Goals as goal
-use Rattle.ink_vars.specs.Undo.{globals_stood}
 use Rattle.ink_vars.specs.Outcomes.{name_of}
 
 pub returns-in_err-put-in-Store-clause-stored : goal.returns-in_err-put-in-Store-clause-stored

@@ -1,9 +1,6 @@
 use Rattle.std.proofs.Common.{ap, subst}
-use Rattle.ink_check.specs.Standing.{story_tree}
-use Rattle.ink_model.specs.Values.Stack.{popped}
+use Rattle.ink_step.proofs.Common.{story_tree, popped, stood_of, config_of}
 use Rattle.ink_effects.specs.Stacks.{Pops}
-use Rattle.ink_step.specs.Marks.{stood_of}
-use Rattle.ink_step.specs.Standing.{config_of}
 use Rattle.ink_step.proofs.AtOnce.{assigns_at_once, declares_at_once, none_there}
 use Rattle.ink_step.proofs.machine.Machine.store_at_once.Goals as goal
 

@@ -1,19 +1,10 @@
 use Rattle.std.proofs.Common.{◌≡◌, ◌∙◌, refl, ap, subst, is_some, rules, sym, Err}
-use Rattle.ink_step.specs.Marks.{stood_of}
-use Rattle.ink_check.specs.Standing.{story_tree}
-use Rattle.ink_model.specs.Values.Stack.{popped}
+use Rattle.ink_step.proofs.Common.{stood_of, story_tree, popped, config_of, context_of, fields_of, acted, OutOfMemory, StepEnds, or_first, or_more, stack_stood}
 use Rattle.ink_effects.specs.Stacks.{Pops}
-use Rattle.ink_step.specs.Standing.{config_of}
 use Rattle.ink_step.proofs.AtOnce.{assigns_at_once, declares_at_once, none_there}
-use Rattle.ink_model.specs.Run.Effect.{context_of, fields_of}
-use Rattle.ink_model.specs.Run.Step.{acted}
 use Rattle.ink_model.specs.Run.Step.Variables.{assign, declare}
-use Rattle.ink_model.specs.declared.fault.Fault.TheVariants.{OutOfMemory}
 use Rattle.ink_model.specs.declared.scope.Scope.TheVariants.{Global}
-use Rattle.ink_step.specs.Steps.{StepEnds}
-use Rattle.ink_effects.proofs.Bools.{or_first, or_more}
 use Rattle.ink_step.proofs.Follows.{ends_short}
-use Rattle.ink_value.specs.Undo.{stack_stood}
 use Rattle.ink_step.proofs.machine.Machine.store_marked.Goals as goal
 
 pub returns-in_err-put_there-clause-mark : goal.returns-in_err-put_there-clause-mark

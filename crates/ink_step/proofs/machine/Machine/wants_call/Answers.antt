@@ -1,19 +1,10 @@
 use Rattle.std.proofs.Common.{◌≡◌, ◌∙◌, ap, option_map, subst, sym}
-use Rattle.ink_check.specs.Standing.{story_tree}
-use Rattle.ink_host.specs.Desk.{bound_by}
-use Rattle.ink_model.specs.Run.Effect.{fields_of}
-use Rattle.ink_model.specs.Run.Place.{content_place}
-use Rattle.ink_model.specs.Run.Step.{gone_in}
-use Rattle.ink_model.specs.Story.Tree.{at, leaf}
-use Rattle.ink_effects.specs.External.{call_of}
-use Rattle.ink_step.specs.Standing.{config_of}
+use Rattle.ink_step.proofs.Common.{story_tree, bound_by, fields_of, content_place, gone_in, at, leaf, call_of, config_of, leaf_in, place_of}
 use Rattle.ink_step.proofs.Makes.{found_leaves, stands_in, wants_call, wants_none}
 use Rattle.ink_step.proofs.machine.Machine.wants_call.Given as given
 use Rattle.ink_step.proofs.machine.Machine.wants_call.Goals as goal
 use Rattle.ink_step.proofs.machine.Machine.wants_call.Goals.{After-first_leaf}
-use Rattle.ink_tree.specs.Kept.{leaf_in}
 use Rattle.ink_tree.specs.Nodes as nodes
-use Rattle.ink_tree.specs.Nodes.{place_of}
 
 -- what was found stands where flow goes in
 stands : (g : given.Over) (c : After-first_leaf g) → let s = story_tree c.args.story.now in option_map (λ x. leaf x.now) c.first_leaf.result.1 ≡ option_map leaf (leaf_in (at s (content_place s (place_of s c.args.place))))

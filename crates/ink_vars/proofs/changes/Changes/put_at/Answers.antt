@@ -1,7 +1,5 @@
 use Rattle.std.proofs.Common.{◌≡◌, ◌∙◌, ◌<◌, ap, arith, is_some, length, subst, sym, true}
-use Rattle.ink_model.specs.Variables.Store.{Values, store}
-use Rattle.ink_vars.specs.Changes.{Tracks, noted_at, with_noted}
-use Rattle.ink_vars.specs.Globals.{set_value_at}
+use Rattle.ink_vars.proofs.Common.{Values, store, Tracks, noted_at, with_noted, set_value_at}
 use Rattle.ink_vars.proofs.Covering.{changed_length}
 use Rattle.ink_vars.proofs.Noting.{noted, same_noted}
 use Rattle.ink_vars.proofs.Numbers.{there_within}

@@ -1,7 +1,5 @@
 use Rattle.std.proofs.Common.{◌≡◌, ◌∙◌, Some, ap, is_some, length, subst, sym, ◌<◌}
-use Rattle.ink_model.specs.Variables.Store.{stored}
-use Rattle.ink_vars.specs.Changes.{noted_at, number_of}
-use Rattle.ink_vars.specs.Globals.{set_value_at}
+use Rattle.ink_vars.proofs.Common.{stored, noted_at, number_of, set_value_at}
 use Rattle.ink_vars.proofs.Noting.{more_noted}
 use Rattle.ink_vars.proofs.Taking.{was_there}
 use Rattle.ink_vars.proofs.changes.Changes.put_first.Goals as goal

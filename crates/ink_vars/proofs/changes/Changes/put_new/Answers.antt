@@ -1,7 +1,6 @@
 use Rattle.std.proofs.Common.{◌≡◌, ◌∙◌, ◌<◌, ◌≤◌, ◌++◌, ◌∷◌, [], None, ap, arith, is_some, length, subst, sym, true}
 use Rattle.std.proofs.lemmas.Result.{on_ok_weaker}
-use Rattle.ink_model.specs.Variables.Store.{Values, store, stored}
-use Rattle.ink_vars.specs.Changes.{Tracks, noted_at, number_of, with_noted}
+use Rattle.ink_vars.proofs.Common.{Values, store, stored, Tracks, noted_at, number_of, with_noted}
 use Rattle.ink_vars.proofs.Noting.{either_way, more_noted, none_of, noted, same_noted}
 use Rattle.ink_vars.proofs.Numbers.{number_next, stored_within}
 use Rattle.ink_vars.proofs.changes.Changes.put_new.Goals as goal

@@ -1,14 +1,9 @@
 use Rattle.std.proofs.Common.{◌≡◌, ◌∙◌, ◌≤◌, ◌+◌, ◌&&◌, Option, ap, arith, length, nat_lt, subst, sym}
-use Rattle.std.proofs.lemmas.List.{with_items_is}
-use Rattle.std.specs.Ordering.{nat_cmp}
+use Rattle.ink_vars.proofs.Common.{with_items_is, nat_cmp, row, Undo, trail_of, AreCounts, rows_from, with_slot, CountPair}
 use Rattle.ink_model.specs.Variables.Counts.{counts, one_more, visits_at}
 use Rattle.ink_model.specs.Story.Flags.{counts_visits, notes_turns}
-use Rattle.ink_model.specs.Variables.Rows.{row}
 use Rattle.ink_trail.proofs.Undoing.{stood-trails}
-use Rattle.ink_trail.specs.Undo.{Undo, trail_of}
-use Rattle.ink_vars.specs.Slots.{AreCounts, rows_from, with_slot}
 use Rattle.ink_vars.specs.Undo.{HaveSlots, counts_back, counts_stood, rows_of, with_rows}
-use Rattle.ink_vars.specs.declared.undo.CountPair.{CountPair}
 use Rattle.ink_vars.proofs.Restored.{as_before, differs}
 use Rattle.ink_vars.proofs.Slotting.{have_more, have_rows, noted_slots, rows_trails, unchanged_past, within}
 use Rattle.ink_vars.proofs.counts.Counts.restore.Goals as goal

@@ -1,13 +1,8 @@
 use Rattle.std.proofs.Common.{◌≡◌, ◌∙◌, Option, ap, arith, if◌then◌else◌, length, subst, sym, unwrap_or, ◌<◌, true}
-use Rattle.std.proofs.lemmas.List.{with_items_is}
-use Rattle.std.specs.Ordering.{nat_cmp}
+use Rattle.ink_vars.proofs.Common.{with_items_is, nat_cmp, row, with_row, Undo, trail_of, AreCounts, rows_from, CountPair}
 use Rattle.ink_model.specs.Variables.Counts.{one_more, counts}
-use Rattle.ink_model.specs.Variables.Rows.{row, with_row}
 use Rattle.ink_trail.proofs.Undoing.{stood-trails, spare-trails}
-use Rattle.ink_trail.specs.Undo.{Undo, trail_of}
 use Rattle.ink_vars.specs.Undo.{HaveSlots, counts_back, counts_stood, rows_of, with_rows, counts_spare}
-use Rattle.ink_vars.specs.Slots.{AreCounts, rows_from}
-use Rattle.ink_vars.specs.declared.undo.CountPair.{CountPair}
 use Rattle.ink_vars.proofs.Restored.{as_before}
 use Rattle.ink_vars.proofs.Slotting.{have_more, have_rows, visit_trails, counts_late, counts_start, visit_counts}
 use Rattle.ink_vars.proofs.counts.Counts.visit.Goals.{else-not-at_start-via-then-not-at_start+else-counts_at_start, else-not-at_start-via-else-not-at_start}

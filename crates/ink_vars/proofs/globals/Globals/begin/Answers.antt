@@ -1,6 +1,5 @@
 use Rattle.std.proofs.Common.{◌∙◌, ap, arith, is_some, length}
-use Rattle.ink_trail.proofs.Undoing.{none-stood}
-use Rattle.ink_vars.specs.Undo.{global_back, globals_stood}
+use Rattle.ink_vars.proofs.Common.{none-stood, global_back, globals_stood}
 use Rattle.ink_vars.proofs.Covering.{covers_unmarked}
 use Rattle.ink_vars.proofs.Fitting.{fits_none, was_none}
 use Rattle.ink_vars.proofs.globals.Globals.begin.Goals as goal

@@ -1,9 +1,7 @@
 use Rattle.std.proofs.Common.{◌∙◌, ap, inl, inr, is_some, length, sym, ◌≡◌, subst, true}
 use Rattle.std.proofs.lemmas.Result.{on_err_weaker}
-use Rattle.ink_model.specs.Variables.Store.{stored}
-use Rattle.ink_vars.specs.Changes.{Tracks, as_they_were}
+use Rattle.ink_vars.proofs.Common.{stored, Tracks, as_they_were, global_back, globals_stood}
 use Rattle.ink_trail.proofs.Undoing.{stood-or-kept, stood-marked}
-use Rattle.ink_vars.specs.Undo.{global_back, globals_stood}
 use Rattle.ink_vars.proofs.Covering.{covers_unmarked}
 use Rattle.ink_vars.proofs.Either.{either-unmarked, on_err}
 use Rattle.ink_vars.proofs.Fitting.{as_it_stood, fits_put, tracked}

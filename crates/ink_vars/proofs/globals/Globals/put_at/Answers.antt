@@ -1,8 +1,5 @@
 use Rattle.std.proofs.Common.{◌∙◌, ap, is_some, length, subst, sym}
-use Rattle.ink_trail.proofs.Undoing.{none-stood}
-use Rattle.ink_vars.specs.Changes.{Tracks, as_they_were}
-use Rattle.ink_vars.specs.Globals.{DifferInName}
-use Rattle.ink_vars.specs.Undo.{global_back, globals_stood}
+use Rattle.ink_vars.proofs.Common.{none-stood, Tracks, as_they_were, DifferInName, global_back, globals_stood}
 use Rattle.ink_vars.proofs.Covering.{covers_unmarked}
 use Rattle.ink_vars.proofs.Fitting.{differ_stored, tracked}
 use Rattle.ink_vars.proofs.globals.Globals.put_at.Goals as goal

@@ -1,8 +1,6 @@
 use Rattle.std.proofs.Common.{◌≡◌, ◌∙◌, ◌≤◌, ap, arith, inl, inr, is_some, length, subst, sym, true}
 use Rattle.std.proofs.lemmas.Result.{on_err_weaker}
-use Rattle.ink_trail.specs.Undo.{trail_of}
-use Rattle.ink_vars.specs.Changes.{Tracks, as_they_were, noted_at, number_of}
-use Rattle.ink_vars.specs.Undo.{Covers, global_back}
+use Rattle.ink_vars.proofs.Common.{trail_of, Tracks, as_they_were, noted_at, number_of, Covers, global_back}
 use Rattle.ink_vars.proofs.Covering.{covers_noted, is_noted}
 use Rattle.ink_vars.proofs.Either.{either-after}
 use Rattle.ink_vars.proofs.Fitting.{as_it_stood, fits_put, fits_same, tracked}

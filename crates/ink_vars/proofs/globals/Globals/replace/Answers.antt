@@ -1,8 +1,6 @@
 use Rattle.std.proofs.Common.{◌∙◌, ap, arith, is_some, length, subst, sym}
-use Rattle.ink_trail.proofs.Undoing.{none-stood}
-use Rattle.ink_vars.specs.Undo.{global_back, globals_stood}
+use Rattle.ink_vars.proofs.Common.{none-stood, global_back, globals_stood, DifferInName}
 use Rattle.ink_vars.proofs.Covering.{covers_unmarked}
-use Rattle.ink_vars.specs.Globals.{DifferInName}
 use Rattle.ink_vars.proofs.Fitting.{differ_stored, fits_none, no_longer, was_none}
 use Rattle.ink_vars.proofs.Noting.{either_way}
 use Rattle.ink_vars.proofs.globals.Globals.replace.Goals as goal

@@ -1,7 +1,5 @@
 use Rattle.std.proofs.Common.{◌∙◌, ap, length, subst}
-use Rattle.ink_trail.specs.Undo.{trail_of}
-use Rattle.ink_vars.specs.Changes.{as_they_were}
-use Rattle.ink_vars.specs.Undo.{Covers}
+use Rattle.ink_vars.proofs.Common.{trail_of, as_they_were, Covers}
 use Rattle.ink_vars.proofs.Covering.{covers_back, fits_back, were_back}
 use Rattle.ink_vars.proofs.globals.GlobalsUndo.undo_last.Goals as goal
 

@@ -1,6 +1,5 @@
 use Rattle.std.proofs.Common.{◌∙◌, ◌∷◌, ◌++◌, [], ap, is_some, sym}
-use Rattle.ink_model.specs.Variables.Store.{stored}
-use Rattle.ink_vars.specs.Globals.{rows_of}
+use Rattle.ink_vars.proofs.Common.{stored, rows_of}
 use Rattle.ink_vars.proofs.Naming.{store_new}
 use Rattle.ink_vars.proofs.Noting.{none_of}
 use Rattle.ink_vars.proofs.Rows.{not_in, pushed, both_longer}

@@ -1,7 +1,6 @@
 use Rattle.std.proofs.Common.{◌≡◌, ◌∙◌, ap, length, sym, take}
 use Rattle.ink_names.specs.Names.{without_last}
-use Rattle.ink_trail.specs.Undo.{but_last}
-use Rattle.ink_vars.specs.Globals.{rows_of}
+use Rattle.ink_vars.proofs.Common.{but_last, rows_of}
 use Rattle.ink_vars.proofs.Rows.{popped, shortened}
 use Rattle.ink_vars.proofs.table.Table.remove_last.Goals as goal
 

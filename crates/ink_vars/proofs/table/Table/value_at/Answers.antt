@@ -1,6 +1,5 @@
 use Rattle.std.proofs.Common.{◌∙◌, ap, slice_get, sym}
-use Rattle.ink_model.specs.Variables.Store.{stored}
-use Rattle.ink_vars.specs.Changes.{number_of}
+use Rattle.ink_vars.proofs.Common.{stored, number_of}
 use Rattle.ink_vars.proofs.Rows.{got, value_in}
 use Rattle.ink_vars.proofs.table.Table.value_at.Goals as goal
 
