@@ -2,6 +2,7 @@
 use Rattle.std.specs.Prelude.{◌≡◌, ℕ, pos, List, [], ◌∷◌, ◌++◌, refl, codes, true, false, Some, None}
 use Rattle.std.proofs.Common.{inl, inr, lit≤, subst, arith}
 use Rattle.serde_json.proofs.OnLiterals.{serde_json_on_literals}
+use Rattle.ink_model.specs.Run.Ahead.{writes_words}
 use Rattle.ink_model.specs.Protocol.Answer.{Tells, Refuses, Breaks, answer}
 use Rattle.ink_model.specs.Examples.CallStories.{does, says, story}
 use Rattle.ink_model.specs.Text.Clean.{clean}
@@ -92,6 +93,10 @@ says_more : is_call (step sets nothing_bound past_a) ≡ false
 unfolding step start fresh_at content_place next_place passed_places entered_places cut
 says_more = refl
 
+says_no_words : writes_words sets past_a ≡ false
+unfolding start fresh_at content_place next_place passed_places entered_places cut
+says_no_words = refl
+
 -- so memory may be refused there; then the command faults, and x is as it was behind the newline
 looked_at : Knows sets nothing_bound MAX_STEPS (moment sets nothing_bound (begun (start sets (x_is 1))) []) 6 (Looking (At behind_a [] []) 1 (At past_a [] []))
     → LooksFrom sets nothing_bound (begun (start sets (x_is 1))) [] behind_a
@@ -101,6 +106,7 @@ looked_at (p, opens, same, first, kept, at) = record {
   reached = past_a;
   got_there = at;
   calls_nothing = says_more;
+  writes_none = says_no_words;
   step = p;
   opens = opens;
   first = first;

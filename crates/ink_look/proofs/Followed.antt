@@ -6,7 +6,7 @@ use Rattle.ink_line.proofs.Grows.{EffectHolds, OutcomeHolds, PageHolds, acted_ho
 use Rattle.ink_line.proofs.Opens.{open_is}
 use Rattle.ink_line.proofs.Stands.{Stands, has_words, stands_on, stands_shown, words_stand}
 use Rattle.ink_line.specs.Look.{Looking, Over, look_on, looked, looked_by, looked_on}
-use Rattle.ink_look.specs.Ahead.{is_worded, writes_words}
+use Rattle.ink_model.specs.Run.Ahead.{is_worded, writes_words}
 use Rattle.ink_model.specs.Run.Configuration.{Configuration, current_place}
 use Rattle.ink_model.specs.Run.Effect.{Fields, fields_of, is_fresh, pushing, writing_text}
 use Rattle.ink_look.proofs.Common.{Bound, Fault, Given}

@@ -2,6 +2,5 @@ pub mod Said
 pub mod Ends
 pub mod LineEnds
 pub mod Looking
-pub mod Ahead
 pub mod Extents
 pub mod Passages

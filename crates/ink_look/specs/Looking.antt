@@ -7,6 +7,7 @@ use Rattle.ink_look.specs.declared.looking.Looked.TheVariants as looked
 use Rattle.ink_look.specs.declared.looking.Standing.{Standing}
 use Rattle.ink_look.specs.declared.looking.Standing.TheVariants as standing
 use Rattle.ink_model.specs.Memory.Asks.{asks}
+use Rattle.ink_model.specs.Run.Ahead.{writes_words}
 use Rattle.ink_model.specs.Run.Configuration.{Configuration}
 use Rattle.ink_model.specs.Host.Bindings.{Bound}
 use Rattle.ink_model.specs.Text.Output.{is_line}
@@ -95,10 +96,12 @@ FindsAs newline kept now (Ok looked.Stopped) = ⊤
 FindsAs newline kept now (Ok l) = (l ≡ found_of newline) × MarksHere l kept now
 FindsAs newline kept now (Err f) = ⊤
 
--- A step past a newline, which may be refused memory, unless it would call a turn function: then it has gone back to the newline.
+-- A step past a newline, which may be refused memory, unless it would call a turn function, or write a text of more than white behind
+-- a newline that is open: then it has gone back to the newline.
 abbrev pub LooksAs : StoryTree → Bound → ℕ → Configuration → Configuration → Configuration → Configuration → Result Looked Fault → Type 0
 LooksAs s b newline kept old kept_then new (Ok l) = (left : List (Option Given)) (made : List Made) → look_on s b (Looking (At kept left made) newline (At old left made)) ≡ search_after l kept_then new left made
-LooksAs s b newline kept old kept_then new (Err f) = (f ≡ OutOfMemory) × (is_call (step s b old) ≡ false) × (new ≡ kept)
+LooksAs s b newline kept old kept_then new (Err f) =
+    (f ≡ OutOfMemory) × (is_call (step s b old) ≡ false) × (writes_words s old ≡ true → open_newline old.page.line ≡ Some newline → ⊥) × (new ≡ kept)
 
 -- A step, with its events, which count on from a stamp: where no newline waits, one of a run, by what it writes; else one that calls
 -- nothing.

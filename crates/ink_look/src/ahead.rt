@@ -3,7 +3,7 @@
 ghost use Rattle.std.specs.Prelude.{◌≡◌, not, option_map};
 ghost use Rattle.std.specs.List.{list_any};
 ghost use Rattle.ink_check.specs.Standing.{story_tree};
-ghost use Rattle.ink_look.specs.Ahead as rules;
+ghost use Rattle.ink_model.specs.Run.Ahead as rules;
 ghost use Rattle.ink_model.specs.Text.Bytes.{is_white};
 ghost use Rattle.ink_step.specs.Parts.{config_of_parts};
 

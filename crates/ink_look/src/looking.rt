@@ -6,7 +6,7 @@ ghost use Rattle.ink_check.specs.Standing.{story_tree};
 ghost use Rattle.ink_host.specs.Desk.{Grew, bound_by};
 ghost use Rattle.ink_host.specs.Telling.{log_of};
 ghost use Rattle.ink_line.specs.Look.{looked_by};
-ghost use Rattle.ink_look.specs.Ahead.{writes_words};
+ghost use Rattle.ink_model.specs.Run.Ahead.{writes_words};
 ghost use Rattle.ink_look.specs.LineEnds.{RunsToLine};
 ghost use Rattle.ink_look.specs.Looking.{IsMarked, MarksHere, StandsAs, StepsOn, Waits, found_of, newline_from, search_after, waiting_after, waiting_then};
 ghost use Rattle.ink_model.specs.Run.Configuration.{Configuration};

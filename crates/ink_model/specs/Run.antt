@@ -2,6 +2,7 @@
 pub mod Configuration
 pub mod Flows
 pub mod Place
+pub mod Ahead
 pub mod Entered
 pub mod Visits
 pub mod Effect

@@ -110,6 +110,7 @@ impl<E> Trail<E> {
         ensures ok { OnOk result (count ≤ self.new.room) }
         ensures spare { OnOk result (count ≤ spare self.new) }
         ensures memory { OnErr result (self.old.room < count) }
+        ensures err { OnErr result (self.new.room ≡ self.old.room) }
     {
         self.pairs.reserve(count)
     }
@@ -125,6 +126,7 @@ impl<E> Trail<E> {
         ensures spare { OnOk result (count ≤ spare self.new) }
         ensures memory { OnErr result (LacksRoom count self.old) }
         ensures lacks { OnErr result (spare self.old < count) }
+        ensures err { OnErr result (self.new.room ≡ self.old.room) }
     {
         if self.marked && self.room() < count {
             return self.ready_marked(count);
@@ -143,6 +145,7 @@ impl<E> Trail<E> {
         ensures spare { OnOk result (count ≤ spare self.new) }
         ensures memory { OnErr result (LacksRoom count self.old) }
         ensures lacks { OnErr result (spare self.old < count) }
+        ensures err { OnErr result (self.new.room ≡ self.old.room) }
     {
         self.make_room(count)
     }

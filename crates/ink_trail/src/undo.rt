@@ -68,7 +68,8 @@ pub trait Undo {
         ensures stood { stood self.new ≡ stood self.old }
         ensures more { spare self.old ≤ spare self.new }
         ensures ok { OnOk result (count ≤ (trail self.new).room) }
-        ensures memory { OnErr result ((trail self.old).room < count) };
+        ensures memory { OnErr result ((trail self.old).room < count) }
+        ensures err { OnErr result ((trail self.new).room ≡ (trail self.old).room) };
 
     ghost stood_is: { (part : Self) → stood part ≡ rules.stood_at before (trail part) (cells part) };
 
@@ -106,6 +107,7 @@ pub trait Undo {
         ensures more { spare self.old ≤ spare self.new }
         ensures ok { OnOk result (count ≤ spare self.new) }
         ensures memory { OnErr result ((is_some (stood self.old) ≡ true) × (spare self.old < count)) }
+        ensures err { OnErr result ((trail self.new).room ≡ (trail self.old).room) }
     {
         if self.is_marked() && self.room() < count {
             return self.make_room(count);

@@ -3,6 +3,7 @@ use Rattle.std.specs.Prelude.{◌≡◌, ⊤, ℕ, ◌+◌, ◌/◌, ◌%◌, �
 use Rattle.std.specs.Borrow.{Bor}
 use Rattle.std.specs.Option.{option_map}
 use Rattle.ink_json.specs.Node.{Node}
+pub use Rattle.ink_model.specs.Story.View.{leaf_in}
 use Rattle.ink_model.specs.Run.Entered.{flags_at, is_around}
 use Rattle.ink_model.specs.Run.Place.{next_place}
 use Rattle.ink_model.specs.Story.Places.{places}
@@ -16,12 +17,6 @@ use Rattle.ink_model.specs.declared.place.Part.TheVariants.{Index}
 use Rattle.ink_tree.specs.Numbers.{node_place, IsNode}
 use Rattle.ink_tree.specs.declared.link.Link.{Link}
 use Rattle.ink_tree.specs.declared.spot.NodeId.{NodeId}
-
--- content that holds no other
-abbrev pub leaf_in : Option StoryTree → Option Single
-leaf_in None = None
-leaf_in (Some (leaf l)) = Some l
-leaf_in (Some (container name flags content named)) = None
 
 -- ---- of a content itself
 

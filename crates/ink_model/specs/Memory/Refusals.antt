@@ -3,6 +3,7 @@ use Rattle.std.specs.Prelude.{◌≡◌, ◌<◌, ◌⊎◌, ℕ, suc, List, [],
 unfoldable pub use Rattle.ink_model.specs.Memory.Asks.{acting_asks, asks, asks_at, asks_for, content_asks, control_asks, going_in_asks, has_top, is_found_late, leaf_asks, offer_asks, operator_asks, output_asks, visit_asks}
 use Rattle.ink_model.specs.Choices.Making.{has_any}
 use Rattle.ink_model.specs.Host.Bindings.{Bound, nothing_bound, value_given}
+use Rattle.ink_model.specs.Run.Ahead.{writes_words}
 use Rattle.ink_model.specs.Run.Configuration.{Configuration, begun}
 use Rattle.ink_model.specs.Run.Effect.{Fields}
 use Rattle.ink_model.specs.Run.Line.{NoneBelow, NoneOpen, StaysOpen, is_call}
@@ -101,14 +102,15 @@ pub record FallsShort (s : StoryTree) (b : Bound) (c : Configuration) (made : Li
 
 -- ---- lines
 
--- A run got to a configuration up to which the newline of a step stays open, and whose step calls no turn function: there memory
--- is asked for to come back to that newline. What is kept is the configuration behind it.
+-- A run got to a configuration up to which the newline of a step stays open, and whose step calls no turn function and writes no text
+-- of more than white: there memory is asked for to come back to that newline. What is kept is the configuration behind it.
 pub record LooksFrom (s : StoryTree) (b : Bound) (c : Configuration) (made : List Made) (kept : Configuration) : Type 0 where
   pub steps : ℕ
   pub within : steps < MAX_STEPS
   pub reached : Configuration
   pub got_there : moment s b c (answers_of made) steps ≡ At reached [] made
   pub calls_nothing : is_call (step s b reached) ≡ false
+  pub writes_none : writes_words s reached ≡ false
   pub step : ℕ
   pub opens : StaysOpen s b (moment s b c (answers_of made)) step steps
   pub first : NoneBelow s b MAX_STEPS (moment s b c (answers_of made)) step

@@ -1,7 +1,7 @@
 use Rattle.std.proofs.Common.{◌≡◌, ◌∙◌, ap, length, refl, rules, sym, true, [], Some, Ok, Err, subst}
 use Rattle.ink_look.proofs.Common.{story_tree, bound_by, log_of, asks, step, OutOfMemory, config_of}
 use Rattle.ink_host.proofs.Laws.{grew-none}
-use Rattle.ink_look.specs.Ahead.{writes_words}
+use Rattle.ink_model.specs.Run.Ahead.{writes_words}
 use Rattle.ink_look.specs.Looking.{search_after, Waits, waiting_after}
 use Rattle.ink_look.proofs.Followed.{words_end}
 use Rattle.ink_look.proofs.Marks.{back_stays, stays_marked}

@@ -1,4 +1,4 @@
--- What the next step writes, by where flow is.
+-- What the next step writes, by where flow is (docs/RUNNING.md, "Lines").
 use Rattle.std.specs.Prelude.{Bool, false, not, ◌&&◌, Option, Some, option_and_then}
 use Rattle.std.specs.List.{list_any}
 use Rattle.ink_model.specs.Text.Bytes.{is_white}
@@ -7,7 +7,7 @@ use Rattle.ink_model.specs.Text.Output.{is_line}
 use Rattle.ink_model.specs.Story.Tree.{StoryTree, at}
 use Rattle.ink_model.specs.declared.content.Leaf.{Leaf}
 use Rattle.ink_model.specs.declared.content.Leaf.TheVariants as leaves
-use Rattle.ink_tree.specs.Kept.{leaf_in}
+use Rattle.ink_model.specs.Story.View.{leaf_in}
 
 -- a text of more than white
 abbrev pub is_worded : Option Leaf → Bool
