@@ -73,7 +73,7 @@ a_row = (after_a, first_line, (after_b, second_line, refl))
 -- ---- a story that sets a global past its first newline
 
 abbrev sets : StoryTree
-sets = story (says (codes "a") ∷ leaf leaves.Newline ∷ does control.BeginEval ∷ leaf (leaves.Int (pos 2)) ∷ leaf (leaves.Assign (codes "x")) ∷ does control.EndEval ∷ says (codes "b") ∷ []) [] []
+sets = story (says (codes "a") ∷ leaf leaves.Newline ∷ does control.BeginEval ∷ leaf (leaves.Int (pos 2)) ∷ leaf (leaves.Assign (codes "x")) ∷ does control.EndEval ∷ does control.Nop ∷ says (codes "b") ∷ []) [] []
 
 abbrev x_is : ℕ → Values
 x_is n = (codes "x", value.Int (pos n)) ∷ []
