@@ -1,4 +1,4 @@
--- Saved configurations (docs/SAVES.md).
+-- Saved games (docs/SAVES.md).
 pub mod Spelling
 pub mod Sound
 pub mod Reads

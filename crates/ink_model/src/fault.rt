@@ -18,7 +18,7 @@ pub enum Cause {
     Version,
     /// What stands there has no form that the format knows.
     Shape,
-    /// What stands there is known, and left out: lists, floats, shuffles.
+    /// What stands there is known, and left out: lists, floats, shuffles; or it is a word that is not known.
     Unsupported,
     /// A path leads nowhere, or to what it may not.
     BadPath,

@@ -23,6 +23,6 @@ pub struct Passage {
     pub events: Seq<Event>,
     /// Whether the story can go on.
     pub more: bool,
-    /// Whether the content ran out without an end: neither `-> END` nor `-> DONE` was met.
+    /// Whether the content ran out without an end: neither `-> END` nor `-> DONE` was met, and no choice of any kind is left.
     pub loose: bool,
 }

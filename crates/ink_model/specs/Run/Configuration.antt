@@ -1,4 +1,4 @@
--- A configuration: all that a saved game holds, and the text being written (docs/RUNNING.md, "Configurations").
+-- A configuration: all that a saved game holds without the flows aside, and the text being written (docs/RUNNING.md, "Configurations").
 use Rattle.std.specs.Prelude.{ℕ, List, [], map, Bool, true, false, Option, Some, None, is_some}
 use Rattle.ink_model.specs.Flow.Frames.{ThreadOf, ThreadsOf, map_thread, map_threads, base_threads, gone, place_in, on_top, put_in, unnumbered_thread, unnumbered_threads}
 use Rattle.ink_model.specs.Variables.Counts.{CountsOf, one_more}
