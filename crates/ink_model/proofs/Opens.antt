@@ -31,9 +31,9 @@ shown_clear x s e h = absurd (false≢true h)
 -- ---- with a test whether a Text or Tag stands behind an index, among marks that are listed from the last on
 
 module _
-  (behind : List Mark → ℕ → Bool)
-  (followed : (m : Mark) (before : List Mark) (i : ℕ) → ((ms : List Mark) → has_more (m ∷ ms) ≡ true) → i < length before → behind (m ∷ before) i ≡ true)
-  (over : (m : Mark) (before : List Mark) (i : ℕ) → ((ms : List Mark) → has_more (m ∷ ms) ≡ has_more ms) → i < length before → behind (m ∷ before) i ≡ behind before i) where
+    (behind : List Mark → ℕ → Bool)
+    (followed : (m : Mark) (before : List Mark) (i : ℕ) → ((ms : List Mark) → has_more (m ∷ ms) ≡ true) → i < length before → behind (m ∷ before) i ≡ true)
+    (over : (m : Mark) (before : List Mark) (i : ℕ) → ((ms : List Mark) → has_more (m ∷ ms) ≡ has_more ms) → i < length before → behind (m ∷ before) i ≡ behind before i) where
   marked_behind : (m : Mark) (before after : List Mark) (i : ℕ) → ((ms : List Mark) → has_more (m ∷ ms) ≡ true) → is_among i (newlines_before before (m ∷ after)) ≡ true → behind (m ∷ before) i ≡ false → ⊥
   marked_behind m before after i more e h = both_ways (behind (m ∷ before) i) h (followed m before i more (newlines_within before (m ∷ after) i e))
 
