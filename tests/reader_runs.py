@@ -1,7 +1,7 @@
 #!/usr/bin/env python3
 """What only the reader shows beside the run that is stored in crates/inkread: its save's file, tags, and its errors.
 
-    tests/reader.py [PROGRAM]      the program is ./inkread unless another is named
+    tests/reader_runs.py [PROGRAM]      the program is ./inkread unless another is named
 
 Prints each run that goes wrong, and last how many hold; the status is 0 only where all do.
 """

@@ -1,4 +1,4 @@
-//! What contents do to the fields of a machine.
+//! What contents do to a flow, to the text and to the globals; also containers that are entered, and calls of the host.
 #![tactic(auto)]
 
 mod calls;

@@ -61,6 +61,7 @@ impl Recorder {
     pub fn open(&mut self, stamp: u64, arguments: &[Value]) -> Result<OpenCall, HostFault>
         ensures call { IfOk result (λ call. call ≡ record { stamp = stamp; arguments = arguments.now }) }
         ensures room { OnOk result (self.new.has_room ≡ true) }
+        ensures stays { OnErr result (self.new.has_room ≡ self.old.has_room) }
         ensures log { self.new.log ≡ self.old.log }
         ensures kept { OnOk result (self.new.refusals ≡ self.old.refusals) }
         ensures counts { OnErr result (self.new.refusals ≡ counted self.old.refusals) }

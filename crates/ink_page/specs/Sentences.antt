@@ -7,6 +7,7 @@ use Rattle.ink_model.specs.declared.fault.Fault.TheVariants as fault
 use Rattle.ink_model.specs.declared.fault.Refusal.{Refusal}
 use Rattle.ink_model.specs.declared.fault.Refusal.TheVariants as refusal
 
+-- a word of the story that is not known is told as what is left out
 abbrev pub cause_sentence : Cause → List ℕ
 cause_sentence cause.NotJson = codes "The story's file is no JSON: it may be cut, or not what inklecate writes."
 cause_sentence cause.Version = codes "The story is of a version of ink that is not played here: 20 and 21 are."

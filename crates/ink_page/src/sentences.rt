@@ -5,7 +5,7 @@ ghost use Rattle.ink_page.specs.Sentences.{cause_sentence, fault_sentence, refus
 
 use ink_model::{Cause, Fault, Refusal};
 
-/// Why a story is refused.
+/// Why a story is refused. A word of the story that is not known is told as what is left out.
 pub fn cause_words(cause: Cause) -> &'static str
     ensures { result.now ≡ cause_sentence cause }
 {

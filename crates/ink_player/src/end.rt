@@ -28,7 +28,7 @@ impl fmt::Display for PlayFault {
         match self {
             PlayFault::Story(refusal) => write!(f, "story refused: {refusal}"),
             PlayFault::Start(fault) => write!(f, "story fault: {fault}"),
-            PlayFault::Run(fault) => write!(f, "run fault: {}", fault.name()),
+            PlayFault::Run(fault) => write!(f, "run fault: {fault}"),
         }
     }
 }

@@ -25,8 +25,10 @@ use std::io::{Read, Write};
 /// limit of the input, 64 MiB, counts the story. The desk is handed back, at an error too.
 ///
 /// Errors: `Story`, where the story is refused, with nothing written; a story line over 16 MiB is refused with `Limit` at
-/// the root, whatever memory there is. `Start`, where its declarations fault, or where they run to a step that asks
-/// for memory and gets none. `Run`, as of `run`; the reader may also fail within the story.
+/// the root, whatever memory there is, once what was read shows that it is longer; until then memory may be refused. `Start`,
+/// where its declarations fault, or where they run to a step that asks for memory and gets none. `Run`, as of `run`; the reader
+/// may also fail within the story. At an error lines that were read ahead and not served are lost, so that no session can go on
+/// with the same reader.
 pub fn play<R: Read, W: Write, P: PureFn, F: TurnFn, O: Watcher>(
     alloc: Global,
     reader: &mut R,
@@ -42,8 +44,9 @@ pub fn play<R: Read, W: Write, P: PureFn, F: TurnFn, O: Watcher>(
 }
 
 /// Plays a story as `play` does, over a source and a sink, which count their failures: the source has failed in this call
-/// exactly where the error is `Read`, and the sink, or it took no byte, exactly where it is `Write`. `Watched` makes a source of
-/// any reader, and a sink of any writer.
+/// exactly where the error is `Read`, and the sink, or it took no byte, exactly where it is `Write`. The end is read
+/// at most once, and nothing after it. At an error lines that were read ahead are lost. `Watched` makes a source of any reader,
+/// and a sink of any writer.
 pub fn serve_story<S: Source, T: Sink, P: PureFn, F: TurnFn, O: Watcher>(
     alloc: Global,
     source: &mut S,

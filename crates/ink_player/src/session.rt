@@ -63,7 +63,8 @@ pub(crate) enum Served {
 /// Errors, where the answers to earlier lines have been written: `Read`, where the reader failed; `Write`, where the writer
 /// failed or took no byte, and the command whose answer could not be written has taken effect; `TooLong`, where a line is
 /// longer than 1 MiB or the input longer than 64 MiB; `OutOfMemory`, where memory was refused for a line, or for the text of
-/// an answer, whose command has taken effect.
+/// an answer, whose command has taken effect. Lines that were read ahead and not served are lost then, so that no session can
+/// go on with the same reader.
 ///
 /// It never flushes: a writer that keeps bytes back has to be flushed by its host.
 pub fn run<R: Read, W: Write, P: PureFn, F: TurnFn, O: Watcher>(
@@ -83,8 +84,9 @@ pub fn run<R: Read, W: Write, P: PureFn, F: TurnFn, O: Watcher>(
 }
 
 /// Serves command lines as `run` does, over a source and a sink, which count their failures: the source has failed in this
-/// call exactly where the error is `Read`, and the sink, or it took no byte, exactly where it is `Write`. The end is read once, and
-/// nothing after it. It never flushes. `Watched` makes a source of any reader, and a sink of any writer.
+/// call exactly where the error is `Read`, and the sink, or it took no byte, exactly where it is `Write`. The end is read at most
+/// once, and nothing after it. At an error lines that were read ahead are lost, as of `run`. It never flushes. `Watched` makes a
+/// source of any reader, and a sink of any writer.
 pub fn serve<S: Source, T: Sink, P: PureFn, F: TurnFn, O: Watcher>(
     alloc: Global,
     source: &mut S,

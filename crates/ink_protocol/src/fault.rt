@@ -1,6 +1,6 @@
 //! How sessions end before their reader does.
 
-ghost use Rattle.std.specs.Prelude.{◌≡◌};
+ghost use Rattle.std.specs.Prelude.{◌≡◌, Some};
 ghost use Rattle.ink_protocol.specs.Ends.{run_fault_name};
 
 use std::fmt;
@@ -34,6 +34,8 @@ impl RunFault {
 }
 
 impl fmt::Display for RunFault {
+    ghost output = { λ f. Some (run_fault_name f) };
+
     fn fmt<W: fmt::Write>(&self, f: &mut fmt::Formatter<W>) -> fmt::Result {
         f.write_str(self.name())
     }

@@ -90,7 +90,7 @@ fn bound<X: Drop, E: Drop>(outcome: Result<X, E>) -> Result<(), GameFault> {
     }
 }
 
-/// Plays line by line, to the end of the story or of the input.
+/// Plays line by line, to the end of the input; behind the story's end `l` still goes back.
 fn play<R: Print + Drop>(
     rt: &(impl Print + Input + Alloc<A = Global>),
     alloc: Global,
@@ -161,6 +161,7 @@ fn take<R: Print + Drop>(rt: &impl Print, game: &mut Game<R>, number: u32) -> io
 
 /// Shows line by line what comes, up to the next choice.
 fn tell<R: Print + Drop>(rt: &impl Print, game: &mut Game<R>) -> io::Result<()> {
+    // Each loop has to end, and no contract says that a story stops. So its lines are counted, up to a number that none reaches.
     for _line in 0..u64::MAX {
         match game.continue_line() {
             Ok(line) => {
