@@ -11,7 +11,7 @@ use std::io::ErrorKind;
 #[derive(Drop)]
 pub(crate) struct InputLines<R> {
     pub(crate) rt: R,
-    /// How many times reading a line has failed, by a counter of 64 bits.
+    /// How many times reading a line has failed, by a counter of 64 bits. Refused memory is not among these.
     pub(crate) failures: u64,
 }
 
@@ -28,6 +28,7 @@ impl<R: Input> Lines for InputLines<R> {
             Ok(0) => Ok(None),
             Ok(_) => Ok(Some(line)),
             Err(error) if error.kind() == ErrorKind::InvalidData => Ok(Some(String::new(alloc))),
+            Err(error) if error.kind() == ErrorKind::OutOfMemory => Err(RunFault::OutOfMemory),
             Err(_) => {
                 self.failures = self.failures.wrapping_add(1);
                 Err(RunFault::Read)
