@@ -1,6 +1,6 @@
 //! The choices that are offered.
 
-ghost use Rattle.std.specs.Prelude.{◌≡◌, ◌≢◌, ◌≤◌, ◌<◌, ◌+◌, ◌++◌, ◌||◌, ◌⊎◌, [], None, Some, drop, false, is_some, not, length, map, option_map, remove, slice_get, slice_index_or, take, true, vec_capacity, IfErr, IfOk, OnOk, OnErr};
+ghost use Rattle.std.specs.Prelude.{◌≡◌, ◌≢◌, ◌≤◌, ◌<◌, ◌+◌, ◌++◌, ◌||◌, ◌⊎◌, [], None, Some, drop, false, is_some, not, length, map, option_map, remove, slice_get, slice_index_or, take, true, vec_capacity, IfErr, IfNone, IfOk, OnOk, OnErr};
 ghost use Rattle.ink_model.specs.declared.limits.TheConstants.{MAX_CHOICES};
 ghost use Rattle.ink_choice.specs.Undo.{choices_back, choices_spare, choices_stood};
 ghost use Rattle.ink_choice.specs.Outcomes.{Adds, FindsIndex, Takes};
@@ -19,7 +19,7 @@ use std::mem;
 /// Choices, the invisible ones among them, in the order in which they were made: 1,000 at the most; and while a mark stands the
 /// trail of what they were. A contract sees the list and the trail.
 ///
-/// `settled` says how many of the first ones have no number of a mark in their threads, so that the end of a line looks only at
+/// `settled` says how many of the first ones have no number of an Enter in their threads, so that the end of a line looks only at
 /// those behind them.
 #[derive(Drop)]
 pub struct Choices<P> {
@@ -130,6 +130,7 @@ impl<P: Copy> Choices<P> {
         ensures memory { OnErr result (is_some (choices_stood self.old) ≡ true) }
         ensures asks { OnErr result ((choices_spare self.old < 1) ⊎ (rules.option_asks (option_map (λ r. r.0) (rules.choice_gone number self.old.items)) ≡ true)) }
         ensures trail { TrailsOrKeeps choices_back 1 self.old.items self.old.trail self.new.items self.new.trail result }
+        ensures kept { IfOk result (λ taken. IfNone taken (KeepsTrail self.old.trail self.new.trail)) }
         ensures stood { choices_stood self.new ≡ choices_stood self.old }
         ensures spare { choices_spare self.old ≤ choices_spare self.new + 1 }
     {
@@ -181,7 +182,7 @@ impl<P: Copy> Choices<P> {
         Ok(copy)
     }
 
-    /// No frame of the choices' threads has the number of its mark any more. No mark may stand. Takes no memory.
+    /// No frame of the choices' threads has the number of its Enter any more. No mark may stand. Takes no memory.
     pub fn clear_numbers(&mut self)
         requires unmarked { choices_stood self.old ≡ None }
         ensures items { self.new.items ≡ map unnumbered_choice self.old.items }
@@ -303,7 +304,7 @@ fn index_of<P: Copy>(choices: &[Choice<P>], number: usize, any: bool) -> Option<
     None
 }
 
-// Of the choices from an index on no frame of their threads has the number of its mark any more.
+// Of the choices from an index on no frame of their threads has the number of its Enter any more.
 fn clear_numbers_from<P: Copy>(choices: &mut [Choice<P>], from: usize)
     requires { from ≤ length choices.old }
     ensures { choices.new ≡ take from choices.old ++ map unnumbered_choice (drop from choices.old) }
@@ -311,7 +312,7 @@ fn clear_numbers_from<P: Copy>(choices: &mut [Choice<P>], from: usize)
     clear_numbers_of(&mut choices[from..]);
 }
 
-// No frame of these choices' threads has the number of its mark any more.
+// No frame of these choices' threads has the number of its Enter any more.
 fn clear_numbers_of<P: Copy>(choices: &mut [Choice<P>])
     ensures { choices.new ≡ map unnumbered_choice choices.old }
 {

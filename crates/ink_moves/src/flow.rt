@@ -296,7 +296,7 @@ fn push_void(stack: &mut EvalStack, evaluating: bool) -> Result<(), Fault>
     stack.push(Value::Void)
 }
 
-/// A function that was called has its mark in the text, and its frame the mark's number. `TooDeep` for more than 100,000 marks in
+/// A function that was called has its Enter in the text, and its frame the number of it. `TooDeep` for more than 100,000 marks in
 /// the line, and where no number is left; `OutOfMemory` for a refused request for memory.
 fn enter(threads: &mut Threads<Spot>, output: &mut Output, kind: CallKind) -> Result<(), Fault>
     requires room { 1 ≤ threads_spare threads.old }

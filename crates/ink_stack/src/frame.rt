@@ -36,7 +36,7 @@ impl CallKind {
 }
 
 /// What a frame has but for its temporaries: what it was pushed for, whether it evaluates, whether it is a fresh function, how
-/// many sections were open at its push, where it is, and the number of its mark on this line. A copy is a copy of some words.
+/// many sections were open at its push, where it is, and the number of its Enter on this line. A copy is a copy of some words.
 #[derive(Clone, Copy)]
 pub(crate) struct Header<P> {
     pub(crate) kind: FrameKind,
@@ -265,9 +265,7 @@ impl<P: Copy> Frame<P> {
     pub(crate) fn end_freshness(&mut self, depth: usize)
         ensures { self.new ≡ stale depth self.old }
     {
-        if self.header.depth == depth {
-            self.header.fresh = false;
-        }
+        let _was_fresh = self.header.end_one(depth);
     }
 
     /// The value of a temporary, none where the frame has none of that name. Takes no memory.
@@ -301,11 +299,7 @@ impl<P: Copy> Frame<P> {
         ensures ended { OnTrue result (with_fresh true self.new ≡ self.old) }
         ensures kept { OnFalse result (self.new ≡ self.old) }
     {
-        if self.header.fresh && self.header.depth == depth {
-            self.header.fresh = false;
-            return true;
-        }
-        false
+        self.header.end_one(depth)
     }
 
     pub(crate) fn freshen(&mut self)

@@ -255,7 +255,7 @@ impl<P: Copy> Frames<P> {
         }
     }
 
-    /// No frame has the number of its mark any more.
+    /// No frame has the number of its Enter any more.
     pub(crate) fn clear_numbers(&mut self)
         ensures items { self.new.items ≡ map unnumbered_frame self.old.items }
         ensures room { self.new.room ≡ self.old.room }
@@ -264,7 +264,7 @@ impl<P: Copy> Frames<P> {
     }
 }
 
-/// No header has the number of its mark any more.
+/// No header has the number of its Enter any more.
 fn clear_numbers_of<P: Copy>(headers: &mut [Header<P>])
     ensures { headers.new ≡ map unnumbered headers.old }
 {

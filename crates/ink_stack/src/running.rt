@@ -1,11 +1,11 @@
 //! The thread that runs.
 
-ghost use Rattle.std.specs.Prelude.{◌≡◌, ◌≢◌, ◌⊎◌, [], ◌∷◌, ◌<◌, ◌≤◌, None, Some, true, option_map, reverse, IfOk, IfSome, OnOk, OnErr};
+ghost use Rattle.std.specs.Prelude.{◌≡◌, ◌≢◌, ◌⊎◌, [], ◌∷◌, ◌<◌, ◌≤◌, Err, None, Some, true, length, option_map, reverse, IfErr, IfOk, IfSome, OnOk, OnErr};
 ghost use Rattle.std.specs.Bool.{OnTrue, OnFalse};
 ghost use Rattle.ink_model.specs.Flow.Bases.{BaseFirst};
 ghost use Rattle.ink_model.specs.Flow.Frames.{base_frame, fresh_depth, frame_numbered, gone, is_function, mode_in, put_in, unnumbered_thread};
 ghost use Rattle.ink_model.specs.declared.limits.TheConstants.{MAX_FRAMES};
-ghost use Rattle.ink_model.specs.Flow.Threads.{frame_count, number_in, frame_popped, frame_pushed, stale, stale_run, staled, temp_in, with_temp};
+ghost use Rattle.ink_model.specs.Flow.Threads.{frame_count, number_in, frame_popped, frame_pushed, same_kind, stale, stale_run, staled, temp_in, with_temp};
 ghost use Rattle.ink_stack.specs.Calls.{frame_kind};
 ghost use Rattle.ink_stack.specs.Cells.{Within, holds_of, number_back, temp_back, ungone, unpopped, unpushed, with_frame, with_fresh};
 ghost use Rattle.ink_stack.specs.Frames.{MoreRoom};
@@ -27,7 +27,7 @@ use std::mem;
 ///
 /// Of the function frames that are nearest below the top one each fresh one was pushed where fewer than `quiet` sections were open,
 /// so that a text where so many are open, or more, need not look at them; none where that is not known. `numbered` says whether a
-/// frame below the top one may have the number of its mark, so that the end of a line need not look at them where none has one.
+/// frame below the top one may have the number of its Enter, so that the end of a line need not look at them where none has one.
 pub struct Running<P> {
     pub(crate) frame: Frame<P>,
     pub(crate) below: Frames<P>,
@@ -120,7 +120,7 @@ impl<P: Copy> Running<P> {
         self.frame.is_evaluating()
     }
 
-    /// The number of the top frame's mark on this line, where it has one.
+    /// The number of the top frame's Enter on this line, where it has one.
     pub fn number(&self) -> Option<u64>
         ensures { result ≡ self.now.thread.frame.enter }
     {
@@ -243,11 +243,14 @@ impl<P: Copy> Running<P> {
         Ok(())
     }
 
-    // Pops a frame, and hands it out.
-    pub(crate) fn pop(&mut self, kind: FrameKind, depth: usize) -> Result<Frame<P>, Fault>
-        ensures thread { Changes (frame_popped kind depth self.old.thread) self.old.thread self.new.thread result }
-        ensures frame { IfOk result (λ frame. frame ≡ self.old.thread.frame) }
-        ensures room { self.new.room ≡ self.old.room }
+    // Whether a frame of this kind can be popped where so many sections are open. `BadPop` where the top frame is of another kind
+    // or the only one; else `BadMode` where another number was open at its push.
+    #[inline(always)]
+    fn check_pop(&self, kind: FrameKind, depth: usize) -> Result<(), Fault>
+        ensures same { OnOk result (same_kind self.now.thread.frame.kind kind ≡ true) }
+        ensures caller { OnOk result (0 < length self.now.thread.below) }
+        ensures open { OnOk result (self.now.thread.frame.depth ≡ depth) }
+        ensures fault { IfErr result (λ f. frame_popped kind depth self.now.thread ≡ Err f) }
     {
         if !self.frame.is(kind) || self.below.len() == 0 {
             return Err(Fault::BadPop);
@@ -255,6 +258,16 @@ impl<P: Copy> Running<P> {
         if self.frame.depth() != depth {
             return Err(Fault::BadMode);
         }
+        Ok(())
+    }
+
+    // Pops a frame, and hands it out.
+    pub(crate) fn pop(&mut self, kind: FrameKind, depth: usize) -> Result<Frame<P>, Fault>
+        ensures thread { Changes (frame_popped kind depth self.old.thread) self.old.thread self.new.thread result }
+        ensures frame { IfOk result (λ frame. frame ≡ self.old.thread.frame) }
+        ensures room { self.new.room ≡ self.old.room }
+    {
+        self.check_pop(kind, depth)?;
         match self.below.pop() {
             Some(caller) => {
                 self.quiet = quiet_below(&caller, self.quiet);
@@ -269,12 +282,7 @@ impl<P: Copy> Running<P> {
         ensures thread { Changes (frame_popped kind depth self.old.thread) self.old.thread self.new.thread result }
         ensures room { self.new.room ≡ self.old.room }
     {
-        if self.below.len() == 0 || !self.frame.is(kind) {
-            return Err(Fault::BadPop);
-        }
-        if depth != self.frame.depth() {
-            return Err(Fault::BadMode);
-        }
+        self.check_pop(kind, depth)?;
         self.below.pop_into(&mut self.frame);
         self.quiet = quiet_below(&self.frame, self.quiet);
         Ok(())

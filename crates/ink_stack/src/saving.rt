@@ -19,7 +19,7 @@ use std::alloc::{AllocError, Global};
 use std::cmp::Ordering;
 
 impl<P: Copy> Frame<P> {
-    /// The frame that has these, and no number of a mark; none where the temporaries do not rise by name. Takes no memory.
+    /// The frame that has these, and no number of an Enter; none where the temporaries do not rise by name. Takes no memory.
     pub fn of(
         alloc: Global,
         kind: FrameKind,

@@ -57,7 +57,7 @@ impl<P: Copy> Thread<P> {
         Ok(Thread { running })
     }
 
-    /// No frame has the number of its mark any more. Takes no memory.
+    /// No frame has the number of its Enter any more. Takes no memory.
     pub fn clear_numbers(&mut self)
         ensures { self.new ≡ unnumbered_thread self.old }
     {

@@ -1,6 +1,7 @@
 //! The threads of a running story.
 
 ghost use Rattle.std.specs.Prelude.{◌≡◌, ◌≢◌, ◌⊎◌, ◌<◌, ◌≤◌, ◌+◌, [], None, Some, is_some, length, map, option_map, true, unwrap_or, vec_capacity, IfOk, IfErr, OnOk, OnErr};
+ghost use Rattle.std.specs.Bool.{OnFalse};
 ghost use Rattle.ink_model.specs.Flow.Transfers.{is_last};
 ghost use Rattle.ink_model.specs.Flow.Frames.{base_threads, fresh_depth, gone, mode_in, on_top, place_in, put_in, unnumbered_thread, unnumbered_threads};
 ghost use Rattle.ink_model.specs.Flow.Threads.{alone, doubled, dropped, frame_count, number_in, frame_popped, frame_pushed, staled, temp_in, thread_count, top_result, with_temp};
@@ -227,7 +228,7 @@ impl<P: Copy> Threads<P> {
         self.running.set_mode(evaluating);
     }
 
-    /// The top frame has this number of its mark on the line.
+    /// The top frame has this number of its Enter on the line.
     pub fn set_number(&mut self, number: u64)
         requires room { 1 ≤ threads_spare self.old }
         ensures threads { self.new.threads ≡ on_top (number_in number) self.old.threads }
@@ -272,7 +273,7 @@ impl<P: Copy> Threads<P> {
         self.running.within();
     }
 
-    /// No frame has the number of its mark any more. No mark may stand.
+    /// No frame has the number of its Enter any more. No mark may stand.
     pub fn clear_numbers(&mut self)
         requires unmarked { threads_stood self.old ≡ None }
         ensures threads { self.new.threads ≡ unnumbered_threads self.old.threads }
@@ -400,6 +401,7 @@ impl<P: Copy> Threads<P> {
         ensures dropped { result ≡ is_some (dropped self.old.threads) }
         ensures new { self.new.threads ≡ unwrap_or (dropped self.old.threads) self.old.threads }
         ensures trail { Trails threads_back 1 self.old.threads self.old.trail self.new.threads self.new.trail }
+        ensures kept { OnFalse result (KeepsTrail self.old.trail self.new.trail) }
         ensures stood { threads_stood self.new ≡ threads_stood self.old }
         ensures spare { threads_spare self.old ≤ threads_spare self.new + 1 }
     {
@@ -422,6 +424,7 @@ impl<P: Copy> Threads<P> {
         ensures dropped { result ≡ is_some (dropped self.old.threads) }
         ensures new { self.new.threads ≡ unwrap_or (dropped self.old.threads) self.old.threads }
         ensures trail { Trails threads_back 1 self.old.threads self.old.trail self.new.threads self.new.trail }
+        ensures kept { OnFalse result (KeepsTrail self.old.trail self.new.trail) }
         ensures stood { threads_stood self.new ≡ threads_stood self.old }
         ensures spare { threads_spare self.old ≤ threads_spare self.new + 1 }
     {
@@ -608,7 +611,7 @@ impl<P: Copy> Threads<P> {
     }
 }
 
-/// No frame of these threads has the number of its mark any more.
+/// No frame of these threads has the number of its Enter any more.
 fn clear_numbers_of<P: Copy>(threads: &mut [Thread<P>])
     ensures { threads.new ≡ map unnumbered_thread threads.old }
 {

@@ -27,7 +27,7 @@ pub enum ThreadsPair<P> {
     Gone(Option<P>, Option<P>),
     /// Whether the frame was in evaluation mode.
     Evaluating(bool),
-    /// The number of the frame's mark.
+    /// The number of the frame's Enter.
     Numbered(Option<u64>),
     /// The frame of this number was fresh.
     Fresh(usize),

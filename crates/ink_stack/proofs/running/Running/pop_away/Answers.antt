@@ -1,4 +1,4 @@
-use Rattle.std.proofs.Common.{◌≡◌, ◌∙◌, [], ◌∷◌, true, ap, arith, refl, reverse}
+use Rattle.std.proofs.Common.{◌≡◌, ◌∙◌, [], ◌∷◌, true, ap, refl, reverse}
 use Rattle.ink_stack.proofs.Common.{reverse-append, ThreadOf, same_kind}
 use Rattle.ink_stack.proofs.Keeping.{kept_fewer}
 use Rattle.ink_stack.proofs.Tops.{popped_made}
@@ -14,7 +14,8 @@ returns-clause-thread g c =
     let f = c.pop_into.new.frame in
     let rest = c.pop_into.new.self.items in
     let t : ThreadOf g.row.P.Denot = record { frame = c.self.inside.frame; below = reverse c.self.inside.below.items; previous = c.self.inside.previous } in
-    let kind : same_kind t.frame.kind c.args.kind ≡ true = cc in
+    let kind : same_kind t.frame.kind c.args.kind ≡ true = ap (λ v. same_kind v.thread.frame.kind c.args.kind) c.self.view_is ∙ c.in_ok-check_pop.ensures.same in
+    let depth : t.frame.depth ≡ c.args.depth = ap (λ v. v.thread.frame.depth) c.self.view_is ∙ c.in_ok-check_pop.ensures.open in
     rw (← c.self.view_is)
-    (popped_made c.args.kind c.args.depth t f f tt (reverse rest) kind (omega (arith, c.depth.ensures))
+    (popped_made c.args.kind c.args.depth t f f tt (reverse rest) kind depth
     (ap reverse c.pop_into.ensures.items ∙ reverse-append rest (f ∷ [])) refl)

@@ -9,7 +9,7 @@ use Rattle.ink_stack.proofs.threads.Threads.pop_thread.Goals as goal
 pub returns-then-is_marked : goal.returns-then-is_marked
 returns-then-is_marked g c =
     let e = c.pop_thread_marked.ensures in
-    record { dropped = e.dropped; new = e.new; trail = e.trail; stood = e.stood; spare = e.spare }
+    record { dropped = e.dropped; new = e.new; trail = e.trail; kept = e.kept; stood = e.stood; spare = e.spare }
 
 pub invariant_of-self : goal.invariant_of-self
 invariant_of-self g c =
@@ -51,4 +51,4 @@ returns g c =
     let dropped = dropped_is t c.in-Some.next rest c.self.inside.below.items c.in-Some.ensures.items in
     let trail = free 1 _ _ c.self.inside.trail (sym c.is_marked.ensures ∙ c.if-is_marked.false) in
     rw (← c.self.view_is, c.replace-ended.ensures.after)
-    (record { dropped = rw dropped refl; new = rw dropped (ap (λ u. record { thread = u; below = reverse rest }) c.run.ensures.thread); trail = trail; stood = stood-of 1 _ _ trail; spare = spare-of 1 _ _ trail })
+    (record { dropped = rw dropped refl; new = rw dropped (ap (λ u. record { thread = u; below = reverse rest }) c.run.ensures.thread); trail = trail; kept = tt; stood = stood-of 1 _ _ trail; spare = spare-of 1 _ _ trail })
