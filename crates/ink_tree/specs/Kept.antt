@@ -7,7 +7,7 @@ pub use Rattle.ink_model.specs.Story.View.{leaf_in}
 use Rattle.ink_model.specs.Run.Entered.{flags_at, is_around}
 use Rattle.ink_model.specs.Run.Place.{next_place}
 use Rattle.ink_model.specs.Story.Places.{places}
-use Rattle.ink_model.specs.Story.Tree.{StoryTree, leaf, container, at, width}
+use Rattle.ink_model.specs.Story.Tree.{StoryTree, container, at, width}
 use Rattle.ink_model.specs.Story.View.{own_content}
 use Rattle.ink_model.specs.declared.content.Content.{Content}
 use Rattle.ink_model.specs.declared.content.Content.TheVariants.{Leaf, Container}
