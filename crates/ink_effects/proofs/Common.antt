@@ -32,4 +32,5 @@ pub use Rattle.ink_tree.specs.Nodes.{place_of, node_place}
 pub use Rattle.ink_tree.specs.Walks.{still_entered}
 pub use Rattle.ink_tree.specs.declared.spot.Spot.{Spot}
 unfoldable pub use Rattle.ink_value.specs.Undo.{stack_stood}
+pub use Rattle.ink_vars.proofs.Either.{on_err}
 unfoldable pub use Rattle.ink_vars.specs.Undo.{counts_spare, counts_stood}

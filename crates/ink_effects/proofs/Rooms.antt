@@ -49,30 +49,33 @@ module _ {E D : Type 0} (back : E → D → D) where
   unfolding stood_at spare
   spare_marked t d h = by_mark t.undo d t.room h
 
-pub threads_room : (v : ThreadsView Spot) → is_some (threads_stood v) ≡ true → threads_spare v ≡ v.trail.room
-unfolding threads_stood threads_spare
-threads_room v h = spare_marked threads_back v.trail v.threads h
-
-pub stack_room : (v : Stack) → is_some (stack_stood v) ≡ true → stack_spare v ≡ v.trail.room
-unfolding stack_stood stack_spare
-stack_room v h = spare_marked stack_back v.trail v.items h
-
-pub choices_room : (v : ChoicesView Spot) → is_some (choices_stood v) ≡ true → choices_spare v ≡ v.trail.room
-unfolding choices_stood choices_spare
-choices_room v h = spare_marked choices_back v.trail v.items h
+  -- A part that lacked room lacks it still, where its room stayed.
+  refused : (t v : TrailView E) (d e : D) (n : ℕ) → stood_at back v e ≡ stood_at back t d → v.room ≡ t.room → (is_some (stood_at back t d) ≡ true) × (spare t < n) → lacks (stood_at back v e) (spare v) n ≡ true
+  refused t v d e n same kept lacked =
+      let marked : is_some (stood_at back v e) ≡ true = ap is_some same ∙ lacked.0 in
+      let few : spare t < n = lacked.1 in
+      let was : spare t ≡ t.room = spare_marked t d lacked.0 in
+      let is : spare v ≡ v.room = spare_marked v e marked in
+      lacks_few (stood_at back v e) (spare v) n marked (omega arith)
 
 pub counts_room : (v : CountsView) → is_some (counts_stood v) ≡ true → counts_spare v ≡ v.trail.room
 unfolding counts_stood counts_spare
 counts_room v h = spare_marked counts_back v.trail v.rows h
 
--- ---- what was refused, by the room that there is
+-- ---- what was refused
 
-module _ {A : Type 0} (before left : Option A) (same : left ≡ before) (marked : is_some before ≡ true) (spare room count : ℕ) (is : is_some left ≡ true → spare ≡ room) where
-  still : is_some left ≡ true
-  still = ap is_some same ∙ marked
+pub threads_refused : (old new : ThreadsView Spot) (n : ℕ) → threads_stood new ≡ threads_stood old → new.trail.room ≡ old.trail.room → (is_some (threads_stood old) ≡ true) × (threads_spare old < n) → lacks (threads_stood new) (threads_spare new) n ≡ true
+unfolding threads_stood threads_spare
+threads_refused old new n same kept lacked = refused threads_back old.trail new.trail old.threads new.threads n same kept lacked
 
-  pub refused : room < count → lacks left spare count ≡ true
-  refused few = let all : spare ≡ room = is still in lacks_few left spare count still (omega arith)
+pub stack_refused : (old new : Stack) (n : ℕ) → stack_stood new ≡ stack_stood old → new.trail.room ≡ old.trail.room → (is_some (stack_stood old) ≡ true) × (stack_spare old < n) → lacks (stack_stood new) (stack_spare new) n ≡ true
+unfolding stack_stood stack_spare
+stack_refused old new n same kept lacked = refused stack_back old.trail new.trail old.items new.items n same kept lacked
 
-  pub suffices : count ≤ room → count ≤ spare
-  suffices enough = let all : spare ≡ room = is still in omega arith
+pub choices_refused : (old new : ChoicesView Spot) (n : ℕ) → choices_stood new ≡ choices_stood old → new.trail.room ≡ old.trail.room → (is_some (choices_stood old) ≡ true) × (choices_spare old < n) → lacks (choices_stood new) (choices_spare new) n ≡ true
+unfolding choices_stood choices_spare
+choices_refused old new n same kept lacked = refused choices_back old.trail new.trail old.items new.items n same kept lacked
+
+pub counts_refused : (old new : CountsView) (n : ℕ) → counts_stood new ≡ counts_stood old → new.trail.room ≡ old.trail.room → (is_some (counts_stood old) ≡ true) × (counts_spare old < n) → lacks (counts_stood new) (counts_spare new) n ≡ true
+unfolding counts_stood counts_spare
+counts_refused old new n same kept lacked = refused counts_back old.trail new.trail old.rows new.rows n same kept lacked

@@ -60,14 +60,14 @@ pub(crate) fn push_target(
     push(stack, Value::Target(path))
 }
 
-/// The path that a content spells, which the story keeps read: an accepted one has it for each. The one error is a count of its
-/// owners that is full.
+/// The path that a content spells, which the story keeps read. The error is a count of its owners that is full. A text that spells
+/// no path would be answered so too; an accepted story has none.
 fn path_at(story: &Story, here: Spot, text: &Shared<Text>) -> Result<Shared<Path>, AllocError>
     requires { let s = story_tree story.now in at s (place_of s here) ≡ Some (leaf (Target text.now)) }
     ensures { IfOk result (λ path. path ≡ rules.path_of text.now) }
 {
     let Some(node) = story.tree().node(here) else {
-        return Err(AllocError);
+        unreachable!();
     };
     match story.pushed(node) {
         Some(path) => path.share(),

@@ -293,6 +293,7 @@ fn fits(given: &Given) -> bool
 {
     match given {
         Given::Int(number) => {
+            // Read, so that its 32 bits are known.
             let _number = *number;
             true
         }

@@ -31,6 +31,9 @@ use std::alloc::Global;
 
 /// Performs a content on what it may change. Flow goes on, but for content that sets where it goes. A call of an external function
 /// is performed apart.
+///
+/// The faults are those of the content's own rule, and `OutOfMemory` for a refused request for memory. What flow and the output
+/// hold after a fault is not said, but for whether stops are safe, and for the marks, which stand as they did.
 #[inline(always)]
 pub fn perform_leaf<'a>(
     alloc: Global,

@@ -16,7 +16,8 @@ use ink_tree::Spot;
 use ink_value::EvalStack;
 use ink_vars::Counts;
 
-/// Of threads.
+/// Makes room for so many changes of threads to be noted, where a mark stands. `OutOfMemory` where there is less room
+/// and memory is refused; the room stays as it was then. Nothing else changes.
 #[inline(always)]
 pub fn ready_threads(threads: &mut Threads<Spot>, count: usize) -> Result<(), Fault>
     ensures threads { threads.new.threads ≡ threads.old.threads }
@@ -26,13 +27,12 @@ pub fn ready_threads(threads: &mut Threads<Spot>, count: usize) -> Result<(), Fa
     ensures fault { IfErr result (λ f. f ≡ Fault.OutOfMemory) }
     ensures memory { OnErr result (lacks (threads_stood threads.new) (threads_spare threads.new) count ≡ true) }
 {
-    match threads.ready(count) {
-        Err(_) if threads.room() < count => Err(Fault::OutOfMemory),
-        _ => Ok(()),
-    }
+    threads.ready(count)?;
+    Ok(())
 }
 
-/// Of an evaluation stack.
+/// Makes room for so many changes of an evaluation stack to be noted, where a mark stands. `OutOfMemory` where there is less room
+/// and memory is refused; the room stays as it was then. Nothing else changes.
 #[inline(always)]
 pub fn ready_stack(stack: &mut EvalStack, count: usize) -> Result<(), Fault>
     ensures items { stack.new.items ≡ stack.old.items }
@@ -41,13 +41,12 @@ pub fn ready_stack(stack: &mut EvalStack, count: usize) -> Result<(), Fault>
     ensures fault { IfErr result (λ f. f ≡ Fault.OutOfMemory) }
     ensures memory { OnErr result (lacks (stack_stood stack.new) (stack_spare stack.new) count ≡ true) }
 {
-    match stack.ready(count) {
-        Err(_) if stack.room() < count => Err(Fault::OutOfMemory),
-        _ => Ok(()),
-    }
+    stack.ready(count)?;
+    Ok(())
 }
 
-/// Of choices.
+/// Makes room for so many changes of choices to be noted, where a mark stands. `OutOfMemory` where there is less room
+/// and memory is refused; the room stays as it was then. Nothing else changes.
 #[inline(always)]
 pub fn ready_choices(choices: &mut Choices<Spot>, count: usize) -> Result<(), Fault>
     ensures items { choices.new.items ≡ choices.old.items }
@@ -56,13 +55,12 @@ pub fn ready_choices(choices: &mut Choices<Spot>, count: usize) -> Result<(), Fa
     ensures fault { IfErr result (λ f. f ≡ Fault.OutOfMemory) }
     ensures memory { OnErr result (lacks (choices_stood choices.new) (choices_spare choices.new) count ≡ true) }
 {
-    match choices.ready(count) {
-        Err(_) if choices.room() < count => Err(Fault::OutOfMemory),
-        _ => Ok(()),
-    }
+    choices.ready(count)?;
+    Ok(())
 }
 
-/// Of counts.
+/// Makes room for so many changes of counts to be noted, where a mark stands. `OutOfMemory` where there is less room
+/// and memory is refused; the room stays as it was then. Nothing else changes.
 #[inline(always)]
 pub(crate) fn ready_counts(counts: &mut Counts, count: usize) -> Result<(), Fault>
     ensures rows { counts.new.rows ≡ counts.old.rows }
@@ -71,8 +69,6 @@ pub(crate) fn ready_counts(counts: &mut Counts, count: usize) -> Result<(), Faul
     ensures fault { IfErr result (λ f. f ≡ Fault.OutOfMemory) }
     ensures memory { OnErr result (lacks (counts_stood counts.new) (counts_spare counts.new) count ≡ true) }
 {
-    match counts.ready(count) {
-        Err(_) if counts.room() < count => Err(Fault::OutOfMemory),
-        _ => Ok(()),
-    }
+    counts.ready(count)?;
+    Ok(())
 }

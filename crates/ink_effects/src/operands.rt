@@ -1,10 +1,11 @@
 //! Values at the top of the evaluation stack.
 
 ghost use Rattle.ink_value.specs.Undo.{stack_spare, stack_stood};
-ghost use Rattle.std.specs.Prelude.{◌≡◌, ◌≤◌, ◌&&◌, List, Some, Err, IfErr, OnOk, length, nat_lt, not, true, false, ◌+◌, is_some, IfOk, OnErr, option_map};
+ghost use Rattle.std.specs.Prelude.{◌≡◌, ◌≤◌, ◌<◌, ◌⊎◌, ◌&&◌, List, Some, Err, IfErr, OnOk, length, nat_lt, not, true, false, ◌+◌, is_some, IfOk, OnErr, option_map};
 ghost use Rattle.ink_model.specs.Memory.Asks.{has_room};
 ghost use Rattle.ink_model.specs.Choices.Making.{has_any};
-ghost use Rattle.ink_model.specs.Memory.Refusals.{Leaves};
+ghost use Rattle.ink_model.specs.Memory.Refusals.{Leaves, holds_memory};
+ghost use Rattle.ink_model.specs.Memory.Variables.{on_popped};
 ghost use Rattle.ink_model.specs.Values.Stack.{popped, pushed};
 ghost use Rattle.ink_model.specs.Run.Step.Host.{arguments_on};
 ghost use Rattle.ink_model.specs.declared.limits.TheConstants.{MAX_STACK};
@@ -58,11 +59,15 @@ pub(crate) fn put_over(stack: &mut EvalStack, count: usize, value: Value) -> Res
     }
 }
 
-/// Takes the value on top, none where the stack is empty. The one error is `OutOfMemory`, while a mark stands, for a copy of it.
+/// Takes the value on top, none where the stack is empty. The one error is `OutOfMemory`, while a mark stands: for a count of
+/// owners that is full, where the value shares something, or for a refused request for memory, where there is no room for one
+/// change more. On an error nothing has changed.
 pub fn take(stack: &mut EvalStack) -> Result<Option<Value>, Fault>
     ensures pops { IfOk result (Pops stack.old.items stack.new.items) }
     ensures fault { IfErr result (λ f. f ≡ Fault.OutOfMemory) }
+    ensures kept { OnErr result (stack.new.items ≡ stack.old.items) }
     ensures memory { OnErr result (is_some (stack_stood stack.old) ≡ true) }
+    ensures asks { OnErr result ((on_popped (popped stack.old.items) holds_memory ≡ true) ⊎ (stack_spare stack.old < 1)) }
     ensures mark { stack_stood stack.new ≡ stack_stood stack.old }
 {
     match stack.pop() {

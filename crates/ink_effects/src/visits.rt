@@ -80,7 +80,9 @@ fn enter_flagged(
 }
 
 /// The containers on the way down from a content are entered, to the first content that holds no other by index, which is given;
-/// an empty container is entered too, and none is given. The one error is a refused request for memory.
+/// an empty container is entered too, and none is given. The one error is a refused request for memory, which is made only for a
+/// row that is not there, and where a mark stands and there is no room for the notes; containers further up may have been entered
+/// then.
 #[inline(always)]
 pub fn enter_passed<'a>(
     tree: &'a Tree,
@@ -158,6 +160,7 @@ fn make_entering_room(
     match entering_room(tree, previous, rest) {
         Some(room) => ready_counts(counts, room),
         None => {
+            // The room is a number that the machine holds, so that it is too small.
             let _room = counts.room();
             Err(Fault::OutOfMemory)
         }

@@ -40,10 +40,8 @@ impl Machine {
         ensures fault { IfErr result (λ f. f ≡ Fault.OutOfMemory) }
         ensures memory { OnErr result (own_lacks 2 self.new ≡ true) }
     {
-        match self.trail.ready(2) {
-            Err(_) if self.trail.room() < 2 => Err(Fault::OutOfMemory),
-            _ => Ok(()),
-        }
+        self.trail.ready(2)?;
+        Ok(())
     }
 
     // Starts a mark of the fields. Takes no memory.
