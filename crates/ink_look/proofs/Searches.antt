@@ -1,11 +1,13 @@
 -- A loop that looks for a line, step by step, with its desk.
 use Rattle.std.proofs.Common.{◌≡◌, ◌∙◌, ◌++◌, ◌+◌, ◌<◌, ◌≤◌, ap, sym, refl, subst, inl, inr, arith, append_assoc, ℕ, suc, ◌&&◌, ◌||◌, Bool, true, false, true≢false, List, [], Option, Some, None, Result, Ok, Err}
+use Rattle.std.proofs.lemmas.Bool.{false_from_ne_true}
 use Rattle.std.proofs.lemmas.List.{append-nil, map-append}
 use Rattle.ink_host.specs.Desk.{DeskView, Grew, bound_by}
 use Rattle.ink_host.specs.declared.objects.Called.{Called}
 use Rattle.ink_host.specs.declared.objects.Seen.{Seen}
 use Rattle.ink_host.proofs.Laws.{bound-same, grew-grew, grew-none}
-use Rattle.ink_model.specs.Run.Line.{NoneBelow, NoneOpen, is_call}
+use Rattle.ink_model.specs.Run.Ahead.{writes_words}
+use Rattle.ink_model.specs.Run.Line.{NoneBelow, NoneOpen, is_call, open_in}
 use Rattle.ink_line.specs.Look.{Knows, Over, Search, Seeking, found, look_on, newline_between, search, sought}
 use Rattle.ink_line.proofs.Found.{finds, knows, over_is}
 use Rattle.ink_look.proofs.Steps.{kept_found}
@@ -16,6 +18,7 @@ use Rattle.ink_look.specs.declared.looking.Looked.TheVariants as after
 use Rattle.ink_model.specs.Host.Events.{Made, calls}
 use Rattle.ink_model.specs.Memory.Refusals.{GetsTo, NoneSoFar}
 use Rattle.ink_model.specs.Run.Moments.{Moment, At, Stopped, Faulted, answers_of, came, moment}
+use Rattle.ink_model.specs.Text.Shown.{open_newline}
 use Rattle.ink_model.specs.declared.fault.Fault.TheVariants.{OutOfSteps}
 use Rattle.ink_model.specs.declared.limits.TheConstants.{MAX_STEPS}
 use Rattle.ink_model.specs.declared.value.Value.{Value}
@@ -113,14 +116,17 @@ module _ (s : StoryTree) (b : Bound) (start : Configuration) where
       | inr by ↦ elim by [ inl takes ↦ absurd (true≢false (sym takes.2)) | inr pressing ↦ absurd (true≢false (sym pressing.1)) ]
     ]
 
-  pub look_falls : (n : ℕ) (made : List Made) (w : ℕ) (kept old : Configuration) → n < MAX_STEPS → is_call (step s b old) ≡ false → ComesTo n (search_at (Some w) kept old) made
-      → LineShort s b start made kept
-  look_falls n made w kept old below quiet h = by (subst (λ answers. Knows s b MAX_STEPS (moment s b start answers) n (search_at (Some w) kept old [] made)) (append-nil (answers_of made))
+  -- past a newline, which is open at each step from there on
+  pub look_falls : (n : ℕ) (made : List Made) (w : ℕ) (kept old : Configuration) → n < MAX_STEPS → is_call (step s b old) ≡ false
+      → (writes_words s old ≡ true → open_newline old.page.line ≡ Some w → ⊥) → ComesTo n (search_at (Some w) kept old) made → LineShort s b start made kept
+  look_falls n made w kept old below quiet wordless h = by (subst (λ answers. Knows s b MAX_STEPS (moment s b start answers) n (search_at (Some w) kept old [] made)) (append-nil (answers_of made))
       (known n made (search_at (Some w) kept old) below h []))
     where
       by : Knows s b MAX_STEPS (moment s b start (answers_of made)) n (search_at (Some w) kept old [] made) → LineShort s b start made kept
       by (p, opens, same, first, is, there) =
-          inr (inr (record { steps = n; within = below; reached = old; got_there = there; calls_nothing = quiet; step = p; opens = opens; first = first; goes_back = is }))
+          let waits : open_newline old.page.line ≡ Some w = sym (ap open_in there) ∙ opens.stays n opens.later (omega arith) ∙ ap Some same in
+          let none : writes_words s old ≡ false = false_from_ne_true (writes_words s old) (λ writes. wordless writes waits) in
+          inr (inr (record { steps = n; within = below; reached = old; got_there = there; calls_nothing = quiet; writes_none = none; step = p; opens = opens; first = first; goes_back = is }))
 
 -- ---- a step where no newline waits
 
@@ -228,8 +234,8 @@ module _ {P T W : Type 0} (turn_log : T → List Called) (watch_log : W → List
         grown_by (Some w) ran h.0 [] so.0 h.1,
         record {
           kept = kept;
-          leaves = ap (λ c. c.shared.globals) so.1.2;
-          why = inr (so.1.0, subst (λ all. LineShort s bound_first start all kept) (sym (append-nil ran.made)) (look_falls s bound_first start n ran.made w kept old below so.1.1 ran.comes));
+          leaves = ap (λ c. c.shared.globals) so.1.3;
+          why = inr (so.1.0, subst (λ all. LineShort s bound_first start all kept) (sym (append-nil ran.made)) (look_falls s bound_first start n ran.made w kept old below so.1.1 so.1.2 ran.comes));
         },
       )
 

@@ -30,9 +30,10 @@ pub enum LineEnd {
 /// what it finds there nothing is kept. Turn functions are called on the desk, once for each call of the line, and never past a
 /// newline that is shown; no watcher is told. The fault is that of the step that faulted with no newline open, `OutOfSteps` after
 /// 1,000,000 steps without one, or `OutOfMemory` where memory was refused to a step that asks for it, to what came of a call that it
-/// made, to a look past a newline at a step that calls no turn function, or at the end to a text of more than blanks or to tags.
-/// After a fault the globals are as they were before the step that faulted or was refused memory, or behind the newline where a look
-/// past it was; and the machine is of use for them alone (docs/RUNNING.md, "Lines", "Out of memory").
+/// made, to a look past a newline at a step that calls no turn function and writes no text of more than white, or at the end to a
+/// text of more than blanks or to tags. After a fault the globals are as they were before the step that faulted or was refused
+/// memory, or behind the newline where a look past it was; and the machine is of use for them alone (docs/RUNNING.md, "Lines", "Out
+/// of memory").
 pub fn line<P: PureFn, F: TurnFn, O: Watcher>(
     machine: &mut Machine,
     story: &Story,

@@ -127,8 +127,8 @@ fn seek<P: PureFn, F: TurnFn, O: Watcher>(
 }
 
 // A step past a newline, which calls no turn function, and is not taken where a text comes that is sure to end the line there. The
-// one error is `OutOfMemory`, never where the step would call one, and the machine has gone back to the newline then; any other
-// fault is left to the next line.
+// one error is `OutOfMemory`, never where the step would call one or such a text comes, and the machine has gone back to the newline
+// then; any other fault is left to the next line.
 fn look<P: PureFn, F: TurnFn, O: Watcher>(
     machine: &mut Machine,
     story: &Story,
@@ -164,8 +164,10 @@ fn look<P: PureFn, F: TurnFn, O: Watcher>(
 // Whether this newline is open, and the next step writes a text of more than white, behind which it stands.
 #[inline(always)]
 fn is_followed(parts: Parts<'_>, story: &Story, newline: usize) -> bool
-    ensures { let s = story_tree story.now in let c = config_of_parts s parts.entry in
+    ensures followed { let s = story_tree story.now in let c = config_of_parts s parts.entry in
         result ≡ true → (writes_words s c ≡ true) × (rules.open_newline c.page.line ≡ Some newline) }
+    ensures always { let s = story_tree story.now in let c = config_of_parts s parts.entry in
+        writes_words s c ≡ true → rules.open_newline c.page.line ≡ Some newline → result ≡ true }
 {
     writes_words(parts, story) && parts.output.open_newline() == Some(newline)
 }

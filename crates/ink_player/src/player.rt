@@ -158,8 +158,8 @@ impl<P: PureFn, F: TurnFn, O: Watcher> Player<P, F, O> {
     ///
     /// Faults, which break the player: that of a step that faulted with no newline open; `OutOfSteps` after 1,000,000 steps without
     /// one; `OutOfMemory` where memory was refused to a step, for what came of its call, to a look past a newline at a step that calls
-    /// no turn function, for the passage, for telling, or to a watcher. In the last case the line stands, and all other watchers are
-    /// told.
+    /// no turn function and writes no text of more than white, for the passage, for telling, or to a watcher. In the last case the line
+    /// stands, and all other watchers are told.
     ///
     /// What happened with the objects of the host is among the answer's events, also after a fault. A fault of a step, of the passage
     /// or of room for telling tells no watcher (docs/HOST.md).

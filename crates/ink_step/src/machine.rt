@@ -66,8 +66,8 @@ impl Machine {
         mem::replace(&mut self.shared.globals, Globals::new(self.alloc))
     }
 
-    /// Gives a global that is there a value, without memory. Where there is none nothing has changed, and the value is handed
-    /// back. Changes of globals are those from now on.
+    /// Gives a global that is there a value, without memory. Where there is none the value is handed back. Changes of globals are
+    /// those from now on in either case.
     pub fn set(&mut self, name: &str, value: Value) -> Result<(), Value>
         requires unmarked { stood_of self.old ≡ unmarked }
         ensures found { is_ok result ≡ is_some (stored name.now (globals_of self.old)) }

@@ -414,8 +414,8 @@ impl Machine {
         move_to(story.tree(), &mut self.flow.threads, next);
     }
 
-    /// After a content was performed flow goes where it sends it, and a global is stored. The ways that are taken most have a function
-    /// each, in which the compiler drops the others.
+    /// After a content was performed flow goes where it sends it, and a global is stored. Each way but that of `end` has a function of
+    /// its own, in which the compiler drops the others.
     #[inline(always)]
     fn finish(&mut self, story: &Story, transfer: &mut Transfer<'_>) -> Result<StepEnd, Fault>
         requires room { MOVING + 4 ≤ threads_spare self.old.flow.threads }
@@ -513,7 +513,7 @@ impl Machine {
         self.finish_by(story, &mut transfer)
     }
 
-    // The same after the last content of a container, from which flow goes on.
+    // The same after content that sends flow nowhere: the last of a container, or a call of a function of the host.
     #[inline(never)]
     fn finish_next(&mut self, story: &Story) -> Result<StepEnd, Fault>
         requires room { MOVING + 4 ≤ threads_spare self.old.flow.threads }
@@ -552,7 +552,7 @@ impl Machine {
         self.finish_by(story, &mut transfer)
     }
 
-    // The same after what is none of these.
+    // The same after what is none of these: after `end`.
     #[inline(never)]
     fn finish_other(&mut self, story: &Story, transfer: &mut Transfer<'_>) -> Result<StepEnd, Fault>
         requires room { MOVING + 4 ≤ threads_spare self.old.flow.threads }

@@ -1,4 +1,5 @@
 use Rattle.std.proofs.Common.{◌≡◌, ◌∙◌, ap, length, refl, rules, sym, true, [], Some, Ok, Err, subst}
+use Rattle.std.proofs.lemmas.Bool.{false≢true}
 use Rattle.ink_look.proofs.Common.{story_tree, bound_by, log_of, asks, step, OutOfMemory, config_of}
 use Rattle.ink_host.proofs.Laws.{grew-none}
 use Rattle.ink_model.specs.Run.Ahead.{writes_words}
@@ -21,7 +22,7 @@ returns-then-is_followed-clause-steps g c =
     let b = bound_by g.P.PureFn.meaning c.args.desk.now.functions in
     let old = config_of s c.args.machine.now in
     let kept = config_back s c.args.machine.now in
-    let followed = c.is_followed.ensures c.if-is_followed.true in
+    let followed = c.is_followed.ensures.followed c.if-is_followed.true in
     let same : config_of_parts s c.parts.result ≡ old = c.parts.ensures.config s in
     let words : writes_words s old ≡ true = ap (writes_words s) (sym same) ∙ followed.0 in
     let opens : open_newline old.page.line ≡ Some c.args.newline = ap (λ d. open_newline d.page.line) (sym same) ∙ followed.1 in (
@@ -84,10 +85,13 @@ returns-in-Err-OutOfMemory-clause-steps g c =
     let old = config_of s c.args.machine.now in
     let h = c.in-Err-OutOfMemory.ensures.step in
     let q = quiet_so s b c.args.desk.now.next (presses s c.args.machine.now c.step.new.self) (asks s b old) h.0 old (config_of s c.step.new.self) (step s b old) (Err c.in-Err-OutOfMemory.field-0) (Err OutOfMemory)
-    (ap Err c.in-Err-OutOfMemory.field-0-is) h.2 in (
+    (ap Err c.in-Err-OutOfMemory.field-0-is) h.2 in
+    let same : config_of_parts s c.parts.result ≡ old = c.parts.ensures.config s in
+    let wordless : writes_words s old ≡ true → open_newline old.page.line ≡ Some c.args.newline → ⊥ =
+    λ writes opens. false≢true (sym c.if-is_followed.false ∙ c.is_followed.ensures.always (ap (writes_words s) same ∙ writes) (ap (λ d. open_newline d.page.line) same ∙ opens)) in (
       h.0,
       h.1,
-      (q.0, (refl, q.1, c.back-undone.ensures.config s ∙ back_stays s c.args.machine.now c.step.new.self c.requires.waits c.in-Err-OutOfMemory.ensures.mark)),
+      (q.0, (refl, q.1, wordless, c.back-undone.ensures.config s ∙ back_stays s c.args.machine.now c.step.new.self c.requires.waits c.in-Err-OutOfMemory.ensures.mark)),
     )
 
 pub returns-in-Ok-WantsCall-clause-steps : goal.returns-in-Ok-WantsCall-clause-steps
