@@ -5,7 +5,8 @@ use Rattle.std.specs.Result.{OnErr}
 use Rattle.std.proofs.lemmas.Bool.{cases_Bool, le-leb, le-ltb, lt-leb, lt-ltb, not-false, not-true}
 use Rattle.std.proofs.lemmas.List.{append-nil, drop_all, drop_more, take_more}
 use Rattle.std.proofs.lemmas.Option.{slice_get-get_or}
-use Rattle.ink_choice.specs.Outcomes.{Adds, FindsIndex, Takes}
+use Rattle.ink_choice.specs.Outcomes.{FindsIndex, Takes}
+use Rattle.ink_stack.specs.Outcomes.{Grows}
 use Rattle.ink_model.specs.Choices.Making.{added, behind, none_visible, only_invisible, shown, shown_choice, choice_gone, taken_of, visible}
 use Rattle.ink_model.specs.Run.Configuration.{ChoiceOf}
 use Rattle.ink_model.specs.declared.fault.Fault.{Fault}
@@ -160,15 +161,15 @@ module _ {P : Type 0} where
   too_many cs h = rw (lt-leb (length cs) MAX_CHOICES h) refl
 
   -- there is no room for one more
-  pub full : (c : ChoiceOf P) (cs : List (ChoiceOf P)) → MAX_CHOICES ≤ length cs → Adds (added c cs) cs cs (Err TooDeep)
+  pub full : (c : ChoiceOf P) (cs : List (ChoiceOf P)) → MAX_CHOICES ≤ length cs → Grows {U = Unit} (added c cs) cs cs (Err TooDeep)
   full c cs h = rw (le-ltb (length cs) MAX_CHOICES h) (refl, refl)
 
   -- there is room for one more, and it is added, or memory is refused
-  pub one_more : (c : ChoiceOf P) (cs new : List (ChoiceOf P)) (u : Unit) → length cs < MAX_CHOICES → new ≡ cs ++ c ∷ [] → Adds (added c cs) cs new (Ok u)
+  pub one_more : (c : ChoiceOf P) (cs new : List (ChoiceOf P)) (u : Unit) → length cs < MAX_CHOICES → new ≡ cs ++ c ∷ [] → Grows {U = Unit} (added c cs) cs new (Ok u)
   one_more c cs new u h is = rw (lt-ltb (length cs) MAX_CHOICES h) is
 
   -- a choice that is not added
-  pub refused : (c : ChoiceOf P) (cs : List (ChoiceOf P)) (f : Fault) → ((f ≡ TooDeep) × (MAX_CHOICES ≤ length cs)) ⊎ ((f ≡ OutOfMemory) × (length cs < MAX_CHOICES)) → Adds (added c cs) cs cs (Err f)
+  pub refused : (c : ChoiceOf P) (cs : List (ChoiceOf P)) (f : Fault) → ((f ≡ TooDeep) × (MAX_CHOICES ≤ length cs)) ⊎ ((f ≡ OutOfMemory) × (length cs < MAX_CHOICES)) → Grows {U = Unit} (added c cs) cs cs (Err f)
   refused c cs f (inl h) = rw (le-ltb (length cs) MAX_CHOICES h.1) (h.0, refl)
   refused c cs f (inr h) = rw (lt-ltb (length cs) MAX_CHOICES h.1) (h.0, refl)
 

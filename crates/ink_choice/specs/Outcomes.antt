@@ -40,10 +40,3 @@ module _ {P : Type 0} where
   abbrev pub FindsIndex : (ChoiceOf P → Bool) → ℕ → List (ChoiceOf P) → Option ℕ → Type 0
   FindsIndex test n cs (Some i) = (i < length cs) × ((d : ChoiceOf P) → taken_of test n cs ≡ Some (get_or cs i d, remove cs i))
   FindsIndex test n cs None = taken_of test n cs ≡ None
-
-  -- A call adds what the rule adds, or gives the rule's fault; it may be refused memory. After an error nothing has changed.
-  abbrev pub Adds : Result (List (ChoiceOf P)) Fault → List (ChoiceOf P) → List (ChoiceOf P) → Result Unit Fault → Type 0
-  Adds (Ok cs) old new (Ok u) = new ≡ cs
-  Adds (Ok cs) old new (Err f) = (f ≡ OutOfMemory) × (new ≡ old)
-  Adds (Err g) old new (Ok u) = ⊥
-  Adds (Err g) old new (Err f) = (f ≡ g) × (new ≡ old)

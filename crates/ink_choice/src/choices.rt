@@ -3,7 +3,8 @@
 ghost use Rattle.std.specs.Prelude.{◌≡◌, ◌≢◌, ◌≤◌, ◌<◌, ◌+◌, ◌++◌, ◌||◌, ◌⊎◌, [], None, Some, drop, false, is_some, not, length, map, option_map, remove, slice_get, slice_index_or, take, true, vec_capacity, IfErr, IfNone, IfOk, OnOk, OnErr};
 ghost use Rattle.ink_model.specs.declared.limits.TheConstants.{MAX_CHOICES};
 ghost use Rattle.ink_choice.specs.Undo.{choices_back, choices_spare, choices_stood};
-ghost use Rattle.ink_choice.specs.Outcomes.{Adds, FindsIndex, Takes};
+ghost use Rattle.ink_choice.specs.Outcomes.{FindsIndex, Takes};
+ghost use Rattle.ink_stack.specs.Outcomes.{Grows};
 ghost use Rattle.ink_model.specs.Choices.Making as rules;
 ghost use Rattle.ink_model.specs.Run.Configuration.{unnumbered_choice};
 ghost use Rattle.ink_trail.specs.Undo.{KeepsTrail, Trails, TrailsOrKeeps, spare, with_pair};
@@ -69,7 +70,7 @@ impl<P: Copy> Choices<P> {
     /// request for memory. On an error nothing has changed (docs/CHOICES.md, "The list").
     #[inline(always)]
     pub fn add(&mut self, choice: Choice<P>) -> Result<(), Fault>
-        ensures items { Adds (rules.added choice self.old.items) self.old.items self.new.items result }
+        ensures items { Grows (rules.added choice self.old.items) self.old.items self.new.items result }
         ensures trail { TrailsOrKeeps choices_back 1 self.old.items self.old.trail self.new.items self.new.trail result }
         ensures stood { choices_stood self.new ≡ choices_stood self.old }
         ensures spare { choices_spare self.old ≤ choices_spare self.new + 1 }

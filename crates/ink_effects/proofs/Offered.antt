@@ -1,7 +1,8 @@
 -- Choice points: what is made of spots and of places, and what it comes to.
 use Rattle.std.proofs.Common.{◌≡◌, ◌∙◌, ℕ, List, [], ◌∷◌, ◌++◌, length, map, nat_lt, if◌then◌else◌, Bool, true, false, Option, Some, None, ◌||◌, Result, Ok, Err, OnOk, is_ok, true≢false, ap, sym, subst, refl, inl, inr}
 use Rattle.std.proofs.lemmas.List.{length-map}
-use Rattle.ink_choice.specs.Outcomes.{Adds, Makes}
+use Rattle.ink_choice.specs.Outcomes.{Makes}
+use Rattle.ink_stack.specs.Outcomes.{Grows}
 use Rattle.ink_model.specs.Story.Acceptance.{content_counted, counted_container, lands, leaf_counted, written_target}
 use Rattle.ink_model.specs.Choices.Making.{added, choice, choice_asks, make}
 use Rattle.ink_model.specs.Run.Configuration.{ChoiceOf, map_choice}
@@ -115,7 +116,7 @@ module _ (s : StoryTree) (p : List Part) (rest : Rest) (ts : ThreadsOf Spot) (te
 
       -- one is made
       module _ (c : ChoiceOf Spot) (after : List (ChoiceOf Spot)) (result : Result (Unit {0}) Fault) where
-        one_added : (asks : Bool) (left : List Value) → new ≡ left → (r : Result (List (ChoiceOf Spot)) Fault) (x : Result (Unit {0}) Fault) → (is_ok r ≡ true → asks ≡ true) → Adds r rest.choices after x
+        one_added : (asks : Bool) (left : List Value) → new ≡ left → (r : Result (List (ChoiceOf Spot)) Fault) (x : Result (Unit {0}) Fault) → (is_ok r ≡ true → asks ≡ true) → Grows r rest.choices after x
             → Performs t asks (or_fault (offered_at (place_of s) r) (λ choices. Offers choices (with left))) (with new) (moving x)
         one_added asks left e (Ok ds) (Ok u) there h = ap with e
         one_added asks left e (Ok ds) (Err f) there h = (h.0, there refl)
@@ -130,16 +131,16 @@ module _ (s : StoryTree) (p : List Part) (rest : Rest) (ts : ThreadsOf Spot) (te
             by true h = refl
             by false h = absurd (true≢false (sym h))
 
-        one_by : (m : Result (Option (ChoiceOf Spot) × List Value) Fault) → Makes Short m old new (Ok (Some c)) → Adds (added c rest.choices) rest.choices after result → Comes m (moving result)
+        one_by : (m : Result (Option (ChoiceOf Spot) × List Value) Fault) → Makes Short m old new (Ok (Some c)) → Grows (added c rest.choices) rest.choices after result → Comes m (moving result)
         one_by (Ok (None, left)) h adds = absurd (let no : Some c ≡ None = h.0 in cc)
         one_by (Ok (Some d, left)) h adds =
             let same : c ≡ d = let both : Some c ≡ Some d = h.0 in cc in
             let asks : Bool = choice_asks (map_choice (place_of s) d) || nat_lt others MAX_CHOICES in
             subst (λ r. Performs t asks (or_fault r (λ choices. Offers choices (with left))) (with new) (moving result)) (sym (added_map (place_of s) d rest.choices))
-            (one_added asks left h.1 (added d rest.choices) result (room_there d) (subst (λ x. Adds (added x rest.choices) rest.choices after result) same adds))
+            (one_added asks left h.1 (added d rest.choices) result (room_there d) (subst (λ x. Grows (added x rest.choices) rest.choices after result) same adds))
         one_by (Err g) h adds = absurd h
 
-        pub offers_one : Makes Short made old new (Ok (Some c)) → Adds (added c rest.choices) rest.choices after result → Performs t asking offers (with new) (moving result)
+        pub offers_one : Makes Short made old new (Ok (Some c)) → Grows (added c rest.choices) rest.choices after result → Performs t asking offers (with new) (moving result)
         offers_one h adds = offers_so _ (one_by made h adds)
 
     -- ---- the choices after it
@@ -154,13 +155,13 @@ module _ (s : StoryTree) (p : List Part) (rest : Rest) (ts : ThreadsOf Spot) (te
           by (Err g) h = absurd h
 
       module _ (c : ChoiceOf Spot) (after : List (ChoiceOf Spot)) where
-        keeps_added : (f : Fields) (r : Result (List (ChoiceOf Spot)) Fault) (x : Result (Unit {0}) Fault) → Adds r rest.choices after x
+        keeps_added : (f : Fields) (r : Result (List (ChoiceOf Spot)) Fault) (x : Result (Unit {0}) Fault) → Grows r rest.choices after x
             → OnOk x (KeepsChoices s (or_fault (offered_at (place_of s) r) (λ choices. Offers choices f)) rest.choices after)
         keeps_added f (Ok ds) (Ok u) h = ap (map (map_choice (place_of s))) h
         keeps_added f (Err g) (Ok u) h = absurd h
         keeps_added f r (Err g) h = tt
 
-        pub keeps_one : (result : Result (Unit {0}) Fault) → Makes Short made old new (Ok (Some c)) → Adds (added c rest.choices) rest.choices after result
+        pub keeps_one : (result : Result (Unit {0}) Fault) → Makes Short made old new (Ok (Some c)) → Grows (added c rest.choices) rest.choices after result
             → OnOk result (KeepsChoices s offers rest.choices after)
         keeps_one result h adds = subst (λ e. OnOk result (KeepsChoices s e rest.choices after)) (sym offers_is) (by made h)
           where
@@ -169,5 +170,5 @@ module _ (s : StoryTree) (p : List Part) (rest : Rest) (ts : ThreadsOf Spot) (te
             by (Ok (Some d, left)) h =
                 let same : c ≡ d = let both : Some c ≡ Some d = h.0 in cc in
                 subst (λ r. OnOk result (KeepsChoices s (or_fault r (λ choices. Offers choices (with left))) rest.choices after)) (sym (added_map (place_of s) d rest.choices))
-                (keeps_added (with left) (added d rest.choices) result (subst (λ x. Adds (added x rest.choices) rest.choices after result) same adds))
+                (keeps_added (with left) (added d rest.choices) result (subst (λ x. Grows (added x rest.choices) rest.choices after result) same adds))
             by (Err g) h = absurd h
