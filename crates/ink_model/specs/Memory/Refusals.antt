@@ -22,6 +22,19 @@ use Rattle.ink_model.specs.declared.value.Value.TheVariants as value
 
 -- ---- calls
 
+-- memory was refused, where it may be
+abbrev pub LacksMemory : Bool → Fault → Type 0
+LacksMemory asks f = (f ≡ OutOfMemory) × (asks ≡ true)
+
+-- What a call comes to by its rule. Where the rule gives something, the call gives what goes with it, or memory was refused; where
+-- the rule has a fault, that is the call's, or memory was refused before it was found. `keeps` says of the cause of a failed call
+-- what that call leaves.
+abbrev pub ByRule : {A B F : Type 0} → (F → Type 0) → (A → B → Type 0) → (Type 0 → Type 0) → Result A F → Result B F → Type 0
+ByRule lacks gives keeps (Ok a) (Ok b) = gives a b
+ByRule lacks gives keeps (Ok a) (Err f) = keeps (lacks f)
+ByRule lacks gives keeps (Err g) (Ok b) = ⊥
+ByRule lacks gives keeps (Err g) (Err f) = keeps ((f ≡ g) ⊎ lacks f)
+
 -- A call's result is that of the rule; or it is refused memory, where the rule asks for it.
 abbrev pub Gives : {A : Type 0} → Result A Fault → Result A Fault → Type 0
 Gives (Ok a) rule = rule ≡ Ok a
