@@ -256,7 +256,7 @@ fn tell_halt<T: Sink>(
     ensures told { IsTold (reply_of_halt halt) (T.contents sink.old) (T.contents sink.new) result }
     ensures sink { Reports (writes_fail result) (T.failures sink.old) (T.failures sink.new) (T.name sink.old) (T.name sink.new) }
 {
-    tell(alloc, buffer, sink, Outcome::Passage(Err(halt)))
+    tell(alloc, buffer, sink, Outcome::Halted(halt))
 }
 
 // Performs a command that runs nothing, and writes the answer.

@@ -9,7 +9,7 @@ use Rattle.json.specs.Written.{Written}
 use Rattle.serde_json.specs.Data.{Data, array, string}
 use Rattle.serde_json.specs.Written.{comma_if, compact_text, items_text}
 use Rattle.serde_json.proofs.OnLiterals.{serde_json_on_literals}
-use Rattle.ink_model.specs.Protocol.Answer.{Reply, Acts, Counts, Saves, Shows, Tells, items_of, reply_data, shown_data, answer}
+use Rattle.ink_model.specs.Protocol.Answer.{Reply, Counts, Saves, Shows, Tells, items_of, reply_data, shown_data, answer}
 use Rattle.ink_model.specs.declared.passage.Passage.{Passage}
 use Rattle.ink_model.specs.declared.passage.Shown.{Shown}
 use Rattle.ink_model.specs.declared.value.Value.TheVariants as value
@@ -23,11 +23,6 @@ pub answer_from_tokens : (r : Reply) (start end : Written) (text line : List ℕ
 unfolding answer
 answer_from_tokens r start end text line none no_tokens added is ends =
     ends ∙ ap (λ t. t ++ 10 ∷ []) (text_from_tokens (reply_data r) start end text none no_tokens added is)
-
--- the answer of what is done and tells nothing
-pub done_answer : answer (Acts []) ≡ codes "{\"events\":[]}\n"
-unfolding answer serde_json_on_literals
-done_answer = refl
 
 -- the answer that shows a number
 pub number_answer : (z : ℤ) → answer (Shows (value.Int z)) ≡ codes "{\"value\":" ++ (signed_decimal z ++ codes "}\n")

@@ -1,10 +1,10 @@
 -- What calls returned, as replies.
-use Rattle.std.specs.Prelude.{◌≡◌, ℕ, List, Bool, true, false, Result, Ok, Err}
+use Rattle.std.specs.Prelude.{◌≡◌, ℕ, List, Result, Ok, Err}
 use Rattle.serde_json.specs.Data.{Data}
 use Rattle.serde_json.specs.View.{view}
 use Rattle.serde_json.specs.Written.{compact_text}
 use Rattle.serde_json.specs.declared.value.Value.{Value}
-use Rattle.ink_model.specs.Protocol.Answer.{Reply, Refuses, Saves, reply_of, reply_of_events, reply_of_landing, reply_of_value, reply_of_visits}
+use Rattle.ink_model.specs.Protocol.Answer.{Reply, Refuses, Saves, reply_of_events, reply_of_halt, reply_of_landing, reply_of_value, reply_of_visits}
 use Rattle.ink_model.specs.declared.fault.Refusal.{Refusal}
 use Rattle.ink_protocol.specs.declared.answer.Outcome.{Outcome}
 use Rattle.ink_protocol.specs.declared.answer.Outcome.TheVariants as outcome
@@ -30,7 +30,7 @@ reply_of_text saved (Err r) = Refuses r
 
 -- where a save was made, its text is the one of this value
 abbrev pub HasTextOf : Data → Outcome → Type 0
-HasTextOf saved (outcome.Passage r) = Unit {0}
+HasTextOf saved (outcome.Halted h) = Unit {0}
 HasTextOf saved (outcome.Events r) = Unit {0}
 HasTextOf saved (outcome.Value r) = Unit {0}
 HasTextOf saved (outcome.Visits r) = Unit {0}
@@ -40,16 +40,10 @@ HasTextOf saved (outcome.Refused r) = Unit {0}
 
 -- where a save was made, of this value
 abbrev pub reply_by : Data → Outcome → Reply
-reply_by saved (outcome.Passage r) = reply_of r
+reply_by saved (outcome.Halted h) = reply_of_halt h
 reply_by saved (outcome.Events r) = reply_of_events r
 reply_by saved (outcome.Value r) = reply_of_value r
 reply_by saved (outcome.Visits r) = reply_of_visits r
 reply_by saved (outcome.Landing r) = reply_of_landing r
 reply_by saved (outcome.Saved r) = reply_of_text saved r
 reply_by saved (outcome.Refused r) = Refuses r
-
--- a passage, or a save that was made: their answers are written in ways of their own
-abbrev pub is_long : Outcome → Bool
-is_long (outcome.Passage (Ok passage)) = true
-is_long (outcome.Saved (Ok saved)) = true
-is_long r = false

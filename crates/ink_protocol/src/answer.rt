@@ -7,14 +7,15 @@ ghost use Rattle.json.specs.Token as tokens;
 ghost use Rattle.serde_json.specs.Data.{Data, array, number, string};
 ghost use Rattle.serde_json.specs.Find.{of_integer};
 ghost use Rattle.serde_json.specs.Written.{comma_if, compact_text, items_text};
-ghost use Rattle.ink_model.specs.Protocol.Answer.{answer, answer_asks, refusal_data, reply_data, reply_of_events, reply_of_halt, Acts, Breaks, Counts, Saves, Shows, Tells, items_of, passage_data, shown_data};
+ghost use Rattle.ink_model.specs.Protocol.Answer.{answer, answer_asks, reply_data, reply_of_events, reply_of_halt, Acts, Breaks, Saves, Shows, Tells, items_of, passage_data, shown_data};
 ghost use Rattle.ink_model.specs.Host.Events.{call_data, event_data};
 ghost use Rattle.ink_model.specs.Host.Bindings.{value_given};
 ghost use Rattle.ink_model.specs.Protocol.ValueJson.{value_data};
 ghost use Rattle.ink_protocol.specs.Answers.{choices_front, outcome_tokens, passage_line, quiet_middle, values_text};
-ghost use Rattle.ink_protocol.specs.Replies.{HasTextOf, is_long, reply_by};
+ghost use Rattle.ink_protocol.specs.Replies.{HasTextOf, reply_by};
 ghost use Rattle.ink_tokens.specs.Tokens.{Added, data_tokens};
 
+use crate::fixed::{done_text, fault_text, refusal_text, truth_text, void_text};
 use crate::plain::is_plain;
 use ink_model::{Event, Fault, Given, Halt, Passage, Refusal, Seq, Shared, Shown, Text, Value};
 use ink_tokens::{put, put_flag, put_integer, put_natural, put_text, write_value};
@@ -22,9 +23,9 @@ use json::{Token, Writer};
 use std::alloc::{AllocError, Global};
 use std::mem;
 
-/// What a command's call returned, or its refusal where none was made.
+/// What a command's call returned, a passage aside, or its refusal where none was made.
 pub enum Outcome {
-    Passage(Result<Passage, Halt>),
+    Halted(Halt),
     Events(Result<Seq<Event>, Halt>),
     Value(Result<Value, Refusal>),
     Visits(Result<i32, Refusal>),
@@ -38,7 +39,7 @@ impl Drop for Outcome {
     #[inline(always)]
     fn drop(self) {
         match self {
-            Outcome::Passage(_) => {}
+            Outcome::Halted(_) => {}
             Outcome::Events(_) => {}
             Outcome::Value(_) => {}
             Outcome::Visits(_) | Outcome::Landing(_) | Outcome::Refused(_) => {}
@@ -47,16 +48,23 @@ impl Drop for Outcome {
     }
 }
 
-/// The line that is written where a command's call was done and tells nothing, its newline at the end; none of any other
-/// outcome. Takes no memory.
+/// The line that is written of a refusal, of a truth value or void, and of what was done or faulted and tells no event, its newline
+/// at the end; none of any other outcome. Takes no memory.
 pub fn fixed_answer(outcome: &Outcome) -> Option<&'static str>
     ensures text { (saved : Data) → IfSome result (λ text. text.now ≡ answer (reply_by saved outcome.now)) }
     ensures none { (saved : Data) → IfNone result (answer_asks (reply_by saved outcome.now) ≡ true) }
 {
     match outcome {
+        Outcome::Halted(halt) => halted_answer(halt),
         Outcome::Events(events) => done_answer(events),
+        Outcome::Value(Ok(value)) => shown_answer(value),
         Outcome::Landing(Ok(())) => Some(done_text()),
-        _ => None,
+        Outcome::Value(Err(refusal))
+        | Outcome::Visits(Err(refusal))
+        | Outcome::Landing(Err(refusal))
+        | Outcome::Saved(Err(refusal))
+        | Outcome::Refused(refusal) => Some(refusal_text(*refusal)),
+        Outcome::Visits(Ok(_)) | Outcome::Saved(Ok(_)) => None,
     }
 }
 
@@ -66,7 +74,7 @@ fn done_answer(events: &Result<Seq<Event>, Halt>) -> Option<&'static str>
 {
     match events {
         Ok(events) => untold_answer(events.as_slice()),
-        Err(_) => None,
+        Err(halt) => halted_answer(halt),
     }
 }
 
@@ -81,10 +89,37 @@ fn untold_answer(events: &[Event]) -> Option<&'static str>
     }
 }
 
-fn done_text() -> &'static str
-    ensures { result.now ≡ answer (Acts []) }
+// The line of a truth value or void.
+fn shown_answer(value: &Value) -> Option<&'static str>
+    ensures text { IfSome result (λ text. text.now ≡ answer (Shows value.now)) }
+    ensures none { IfNone result (answer_asks (Shows value.now) ≡ true) }
 {
-    "{\"events\":[]}\n"
+    match value {
+        Value::Bool(truth) => Some(truth_text(*truth)),
+        Value::Void => Some(void_text()),
+        _ => None,
+    }
+}
+
+// The line of a refusal, or of a fault before which nothing happened.
+fn halted_answer(halt: &Halt) -> Option<&'static str>
+    ensures text { IfSome result (λ text. text.now ≡ answer (reply_of_halt halt.now)) }
+    ensures none { IfNone result (answer_asks (reply_of_halt halt.now) ≡ true) }
+{
+    match halt {
+        Halt::Refused(refusal) => Some(refusal_text(*refusal)),
+        Halt::Fault { fault, events } => faulted_answer(*fault, events.as_slice()),
+    }
+}
+
+fn faulted_answer(fault: Fault, events: &[Event]) -> Option<&'static str>
+    ensures text { IfSome result (λ text. text.now ≡ answer (Breaks fault events.now)) }
+    ensures none { IfNone result (answer_asks (Breaks fault events.now) ≡ true) }
+{
+    match events {
+        [] => Some(fault_text(fault)),
+        [..] => None,
+    }
 }
 
 /// A passage that a running command returned, as the line that is written, its newline at the end, in a buffer that is emptied first.
@@ -363,10 +398,63 @@ fn put_replied(alloc: Global, line: &mut Vec<u8>, outcome: &Outcome) -> Result<(
     ensures { (saved : Data) → HasTextOf saved outcome.now → OnOk result (line.new.items ≡ answer (reply_by saved outcome.now)) }
 {
     match outcome {
-        Outcome::Passage(Ok(passage)) => passage_text(alloc, line, passage),
+        Outcome::Events(Ok(events)) => put_acts(alloc, line, events.as_slice()),
+        Outcome::Value(Ok(value)) => put_told_value(alloc, line, value),
+        Outcome::Visits(Ok(visits)) => put_number(line, "{\"visits\":", *visits),
+        Outcome::Landing(Ok(())) => append(line, done_text()),
         Outcome::Saved(Ok(text)) => put_saved(line, text.as_str()),
-        told => put_told(alloc, line, told),
+        Outcome::Halted(halt) | Outcome::Events(Err(halt)) => put_halt(alloc, line, halt),
+        Outcome::Value(Err(refusal))
+        | Outcome::Visits(Err(refusal))
+        | Outcome::Landing(Err(refusal))
+        | Outcome::Saved(Err(refusal))
+        | Outcome::Refused(refusal) => append(line, refusal_text(*refusal)),
     }
+}
+
+// The answer that tells what happened.
+fn put_acts(alloc: Global, line: &mut Vec<u8>, events: &[Event]) -> Result<(), AllocError>
+    requires { line.old.items ≡ [] }
+    ensures { OnOk result (line.new.items ≡ answer (Acts events.now)) }
+{
+    let mut out = writer_behind(alloc, line);
+    write_acts(alloc, &mut out, events)?;
+    end_line(line, out)
+}
+
+// The answer that shows a value.
+fn put_told_value(alloc: Global, line: &mut Vec<u8>, value: &Value) -> Result<(), AllocError>
+    requires { line.old.items ≡ [] }
+    ensures { OnOk result (line.new.items ≡ answer (Shows value.now)) }
+{
+    let mut out = writer_behind(alloc, line);
+    write_shown(alloc, &mut out, value)?;
+    end_line(line, out)
+}
+
+// The answer of a refusal, or of a fault.
+fn put_halt(alloc: Global, line: &mut Vec<u8>, halt: &Halt) -> Result<(), AllocError>
+    requires { line.old.items ≡ [] }
+    ensures { OnOk result (line.new.items ≡ answer (reply_of_halt halt.now)) }
+{
+    match halt {
+        Halt::Refused(refusal) => append(line, refusal_text(*refusal)),
+        Halt::Fault { fault, events } => put_fault(alloc, line, *fault, events.as_slice()),
+    }
+}
+
+fn put_fault(
+    alloc: Global,
+    line: &mut Vec<u8>,
+    fault: Fault,
+    events: &[Event],
+) -> Result<(), AllocError>
+    requires { line.old.items ≡ [] }
+    ensures { OnOk result (line.new.items ≡ answer (Breaks fault events.now)) }
+{
+    let mut out = writer_behind(alloc, line);
+    write_fault(alloc, &mut out, fault, events)?;
+    end_line(line, out)
 }
 
 // The answer that has a save.
@@ -377,17 +465,6 @@ fn put_saved(line: &mut Vec<u8>, text: &str) -> Result<(), AllocError>
     put_between(line, "{\"saved\":", text, "}\n")
 }
 
-// The answer of what is neither a passage nor a save.
-fn put_told(alloc: Global, line: &mut Vec<u8>, outcome: &Outcome) -> Result<(), AllocError>
-    requires empty { line.old.items ≡ [] }
-    requires told { is_long outcome.now ≡ false }
-    ensures { (saved : Data) → OnOk result (line.new.items ≡ answer (reply_by saved outcome.now)) }
-{
-    let mut out = writer_behind(alloc, line);
-    write_reply(alloc, &mut out, outcome)?;
-    end_line(line, out)
-}
-
 /// Values as the JSON array that answers tell them as (docs/PROTOCOL.md, "Answers"). The one error is a refused request for
 /// memory.
 pub fn print_values(alloc: Global, values: &[Value]) -> Result<Vec<u8>, AllocError>
@@ -396,25 +473,6 @@ pub fn print_values(alloc: Global, values: &[Value]) -> Result<Vec<u8>, AllocErr
     let mut out = Writer::new(Vec::new(alloc));
     write_list(alloc, &mut out, values)?;
     Ok(out.into_inner())
-}
-
-fn write_reply(alloc: Global, out: &mut Writer, outcome: &Outcome) -> Result<(), AllocError>
-    requires { is_long outcome.now ≡ false }
-    ensures { (saved : Data) → OnOk result (Added out.old out.new (data_tokens (reply_data (reply_by saved outcome.now)))) }
-{
-    match outcome {
-        Outcome::Events(Ok(events)) => write_acts(alloc, out, events.as_slice()),
-        Outcome::Value(Ok(value)) => write_shown(alloc, out, value),
-        Outcome::Visits(Ok(visits)) => write_visits(out, *visits),
-        Outcome::Landing(Ok(())) => write_acts(alloc, out, &[]),
-        Outcome::Passage(Err(halt)) | Outcome::Events(Err(halt)) => write_halt(alloc, out, halt),
-        Outcome::Value(Err(refusal))
-        | Outcome::Visits(Err(refusal))
-        | Outcome::Landing(Err(refusal))
-        | Outcome::Saved(Err(refusal))
-        | Outcome::Refused(refusal) => write_refusal(out, *refusal),
-        Outcome::Passage(Ok(_)) | Outcome::Saved(Ok(_)) => unreachable!(),
-    }
 }
 
 // ---- parts of answers
@@ -569,35 +627,6 @@ fn write_shown(alloc: Global, out: &mut Writer, value: &Value) -> Result<(), All
 {
     begin(out)?;
     put_value(alloc, out, value)?;
-    end(out)
-}
-
-fn write_visits(out: &mut Writer, visits: i32) -> Result<(), AllocError>
-    ensures { OnOk result (Added out.old out.new (data_tokens (reply_data (Counts visits)))) }
-{
-    begin(out)?;
-    put_key(out, "visits")?;
-    put_integer(out, visits)?;
-    end(out)
-}
-
-fn write_halt(alloc: Global, out: &mut Writer, halt: &Halt) -> Result<(), AllocError>
-    ensures { OnOk result (Added out.old out.new (data_tokens (reply_data (reply_of_halt halt.now)))) }
-{
-    match halt {
-        Halt::Refused(refusal) => write_refusal(out, *refusal),
-        Halt::Fault { fault, events } => write_fault(alloc, out, *fault, events.as_slice()),
-    }
-}
-
-fn write_refusal(out: &mut Writer, refusal: Refusal) -> Result<(), AllocError>
-    ensures { OnOk result (Added out.old out.new (data_tokens (refusal_data refusal))) }
-{
-    begin(out)?;
-    if let Refusal::Broken(fault) = refusal {
-        put_text(out, "fault", fault.name())?;
-    }
-    put_text(out, "refused", refusal.name())?;
     end(out)
 }
 

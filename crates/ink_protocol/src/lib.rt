@@ -6,6 +6,7 @@ mod answer;
 mod command;
 mod failing_ends;
 mod fault;
+mod fixed;
 mod given;
 mod input;
 mod lines;

@@ -20,6 +20,7 @@ use Rattle.ink_model.specs.declared.host.Event.{Event}
 use Rattle.ink_model.specs.declared.passage.Passage.{Passage}
 use Rattle.ink_model.specs.declared.passage.Shown.{Shown}
 use Rattle.ink_model.specs.declared.value.Value.{Value}
+use Rattle.ink_model.specs.declared.value.Value.TheVariants as value
 
 -- what a command answers: a passage, what happened, a value, a count of visits, a save, a refusal, or a fault with what happened
 -- before it
@@ -160,7 +161,11 @@ reply_data (Breaks f events) =
 unfoldable pub answer : Reply → List ℕ
 answer reply = compact_text (reply_data reply) ++ 10 ∷ []
 
--- the text of an answer is made in memory, but for the one of what is done and tells nothing
+-- the text of an answer is made in memory, but for a refusal, a truth value, void, and what is done or faults and tells no event
 abbrev pub answer_asks : Reply → Bool
 answer_asks (Acts []) = false
+answer_asks (Shows (value.Bool b)) = false
+answer_asks (Shows value.Void) = false
+answer_asks (Refuses r) = false
+answer_asks (Breaks f []) = false
 answer_asks reply = true
