@@ -103,13 +103,13 @@ module _ {P : Type 0} where
       → x ≡ get_or cs i x → new ≡ remove cs i → Takes (choice_gone n cs) cs new (Ok (Some x))
   took n i cs new x any same found is left =
       let taken_is : choice_gone n cs ≡ Some (get_or cs i x, remove cs i) = ap (λ b. taken_of (λ c. b || not c.hidden) n cs) (sym same) ∙ found.1 x in
-      rw taken_is (is, left)
+      rw taken_is (ap Some is, left)
 
   pub took_none : (n : ℕ) (cs : List (ChoiceOf P)) (any : Bool) → any ≡ none_visible cs → FindsIndex (λ c. any || not c.hidden) n cs None
       → Takes (choice_gone n cs) cs cs (Ok None)
   took_none n cs any same found =
       let taken_is : choice_gone n cs ≡ None = ap (λ b. taken_of (λ c. b || not c.hidden) n cs) (sym same) ∙ found in
-      rw taken_is refl
+      rw taken_is (refl, refl)
 
   -- ---- where there is one
 
@@ -162,7 +162,7 @@ module _ {P : Type 0} where
 
   -- there is no room for one more
   pub full : (c : ChoiceOf P) (cs : List (ChoiceOf P)) → MAX_CHOICES ≤ length cs → Grows {U = Unit} (added c cs) cs cs (Err TooDeep)
-  full c cs h = rw (le-ltb (length cs) MAX_CHOICES h) (refl, refl)
+  full c cs h = rw (le-ltb (length cs) MAX_CHOICES h) (inl refl, refl)
 
   -- there is room for one more, and it is added, or memory is refused
   pub one_more : (c : ChoiceOf P) (cs new : List (ChoiceOf P)) (u : Unit) → length cs < MAX_CHOICES → new ≡ cs ++ c ∷ [] → Grows {U = Unit} (added c cs) cs new (Ok u)
@@ -170,8 +170,8 @@ module _ {P : Type 0} where
 
   -- a choice that is not added
   pub refused : (c : ChoiceOf P) (cs : List (ChoiceOf P)) (f : Fault) → ((f ≡ TooDeep) × (MAX_CHOICES ≤ length cs)) ⊎ ((f ≡ OutOfMemory) × (length cs < MAX_CHOICES)) → Grows {U = Unit} (added c cs) cs cs (Err f)
-  refused c cs f (inl h) = rw (le-ltb (length cs) MAX_CHOICES h.1) (h.0, refl)
-  refused c cs f (inr h) = rw (lt-ltb (length cs) MAX_CHOICES h.1) (h.0, refl)
+  refused c cs f (inl h) = rw (le-ltb (length cs) MAX_CHOICES h.1) (inl h.0, refl)
+  refused c cs f (inr h) = rw (lt-ltb (length cs) MAX_CHOICES h.1) ((h.0, refl), refl)
 
   -- a call that is refused memory for the one that is to be taken
   pub took_nothing : (n i : ℕ) (cs new : List (ChoiceOf P)) (any : Bool) → any ≡ none_visible cs → FindsIndex (λ c. any || not c.hidden) n cs (Some i)
@@ -179,7 +179,7 @@ module _ {P : Type 0} where
   took_nothing n i [] new any same found h = absurd (omega (arith, found.0))
   took_nothing n i (c ∷ cs) new any same found h =
       let taken_is : choice_gone n (c ∷ cs) ≡ Some (get_or (c ∷ cs) i c, remove (c ∷ cs) i) = ap (λ b. taken_of (λ c. b || not c.hidden) n (c ∷ cs)) (sym same) ∙ found.1 c in
-      rw taken_is (refl, h)
+      rw taken_is ((refl, refl), h)
 
   -- the one at the index is taken
   pub taken_at : (n i : ℕ) (cs : List (ChoiceOf P)) (any : Bool) → any ≡ none_visible cs → FindsIndex (λ c. any || not c.hidden) n cs (Some i)

@@ -1,19 +1,33 @@
 -- What a choice point makes.
-use Rattle.std.proofs.Common.{◌≡◌, ◌≢◌, ◌∙◌, ◌≤◌, ◌++◌, ℕ, List, [], ◌∷◌, Bool, true, Ok, Some, ap, append_assoc, arith, length, reverse, sym}
+use Rattle.std.proofs.Common.{◌≡◌, ◌≢◌, ◌∙◌, ◌≤◌, ◌++◌, ◌<◌, ℕ, List, [], ◌∷◌, Bool, true, Err, Ok, Some, ap, append_assoc, arith, inl, inr, length, nat_lt, refl, reverse, sym}
+use Rattle.std.proofs.lemmas.Bool.{cases_Bool, lt-ltb}
 use Rattle.std.proofs.lemmas.List.{length-append, reverse-reverse}
-use Rattle.ink_choice.specs.Outcomes.{Makes}
+use Rattle.ink_choice.specs.Outcomes.{Makes, MakesWith}
 use Rattle.ink_model.specs.Text.Bytes.{fits_text}
 use Rattle.ink_model.specs.Choices.Making.{Operands, choice, choice_text, is_offered, make, operands, tags_first}
 use Rattle.ink_model.specs.Run.Configuration.{ChoiceOf}
 use Rattle.ink_model.specs.Flow.Frames.{ThreadOf}
+use Rattle.ink_model.specs.declared.fault.Fault.TheVariants.{OutOfMemory}
 use Rattle.ink_model.specs.declared.value.Value.{Value}
 use Rattle.ink_model.specs.declared.value.Value.TheVariants.{Tag}
 
--- a choice is made of what was found, and all of that is popped
-pub makes_one : {P : Type 0} (short : Type 0) (flags : ℕ) (target : P) (visited : Bool) (thread : ThreadOf P) (stack new : List Value) (o : Operands) (made : ChoiceOf P)
-    → operands flags (reverse stack) ≡ Ok o → is_offered flags visited o.condition ≡ true → fits_text (choice_text o) ≡ true → made ≡ choice flags target thread o → reverse new ≡ o.left
-    → Makes short (make flags target visited thread stack) stack new (Ok (Some made))
-makes_one short flags target visited thread stack new o made found offered fits is left = rw (found, offered, fits) (ap Some is, sym (reverse-reverse new) ∙ ap reverse left)
+-- a choice is made of what was found
+module _ {P : Type 0} (flags : ℕ) (target : P) (visited : Bool) (thread : ThreadOf P) (stack new : List Value) (o : Operands) (asks : Bool) (made : ChoiceOf P)
+    (found : operands flags (reverse stack) ≡ Ok o) (offered : is_offered flags visited o.condition ≡ true) (makes : MakesWith (choice_text o) asks (choice flags target thread o) (Ok made)) where
+  -- what was made is that choice, and its text is within the limit
+  within : (made ≡ choice flags target thread o) × (fits_text (choice_text o) ≡ true)
+  within = elim (cases_Bool (fits_text (choice_text o))) [
+    | inl fits ↦ (rw fits at makes, fits)
+    | inr long ↦ absurd (rw long at makes)
+  ]
+
+  -- and all of that is popped
+  pub makes_one : (short : Bool) → reverse new ≡ o.left → Makes short (make flags target visited thread stack) stack new (Ok (Some made))
+  makes_one short left = rw (found, offered, within.1) (ap Some within.0, sym (reverse-reverse new) ∙ ap reverse left)
+
+  -- or there is no room for that
+  pub makes_none : (n m : ℕ) → n < m → new ≡ stack → Makes (nat_lt n m) (make flags target visited thread stack) stack new (Err OutOfMemory)
+  makes_none n m few same = rw (found, offered, within.1, lt-ltb n m few) ((refl, refl), same)
 
 -- ---- tags one after another
 

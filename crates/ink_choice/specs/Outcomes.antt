@@ -1,40 +1,38 @@
 -- What calls do, by what the rules give.
-use Rattle.std.specs.Prelude.{◌≡◌, ◌⊎◌, ℕ, ◌<◌, true, false, List, length, get_or, remove, Bool, Option, Some, None, Result, Ok, Err}
+use Rattle.std.specs.Prelude.{◌≡◌, ℕ, ◌<◌, false, ◌&&◌, ◌||◌, List, length, get_or, remove, Bool, Option, Some, None, is_some, Result, Ok, Err}
+use Rattle.std.specs.Option.{option_map}
 use Rattle.ink_model.specs.Text.Bytes.{fits_text}
-use Rattle.ink_model.specs.Choices.Making.{choice_asks, has_any, option_asks, taken_of}
+use Rattle.ink_model.specs.Text.Output.{kept_text}
+use Rattle.ink_model.specs.Choices.Making.{option_asks, taken_of}
+use Rattle.ink_model.specs.Memory.Refusals.{ByRule, LacksMemory}
 use Rattle.ink_model.specs.Run.Configuration.{ChoiceOf}
 use Rattle.ink_model.specs.declared.fault.Fault.{Fault}
-use Rattle.ink_model.specs.declared.fault.Fault.TheVariants.{OutOfMemory, TooDeep}
 use Rattle.ink_model.specs.declared.value.Value.{Value}
 
--- A text is made, which asks for memory where it is not empty; it has to be within its limit.
-abbrev pub MakesText : List ℕ → Result (List ℕ) Fault → Type 0
-MakesText t (Ok text) = (text ≡ t) × (fits_text t ≡ true)
-MakesText t (Err f) = ((f ≡ TooDeep) × (fits_text t ≡ false)) ⊎ ((f ≡ OutOfMemory) × (fits_text t ≡ true) × (has_any t ≡ true))
+-- A call makes what has this text, which has to be within its limit. Where it is, and what is made asks for memory, that may be refused.
+abbrev pub MakesWith : {A : Type 0} → List ℕ → Bool → A → Result A Fault → Type 0
+MakesWith text asks made result = ByRule (LacksMemory (fits_text text && asks)) (λ a b. b ≡ a) (λ why. why) (kept_text text made) result
 
 module _ {P : Type 0} where
-  -- The same of a choice, which asks for memory for its tags and its thread too.
-  abbrev pub Chooses : ChoiceOf P → Result (ChoiceOf P) Fault → Type 0
-  Chooses c (Ok made) = (made ≡ c) × (fits_text c.text ≡ true)
-  Chooses c (Err f) = ((f ≡ TooDeep) × (fits_text c.text ≡ false)) ⊎ ((f ≡ OutOfMemory) × (fits_text c.text ≡ true) × (choice_asks c ≡ true))
+  -- Making asks for memory where there is too little room for the changes, and for a choice that asks for some. Faults are found before.
+  abbrev pub making_asks : Bool → Result (Option (ChoiceOf P) × List Value) Fault → Bool
+  making_asks short (Ok r) = short || option_asks r.0
+  making_asks short (Err f) = false
 
-  -- A call hands out what the rule makes and leaves the stack that it leaves, or gives the rule's fault. It may be refused
-  -- memory for a choice that asks for some, and where room for the changes is short. After an error nothing has changed.
-  abbrev pub Makes : Type 0 → Result (Option (ChoiceOf P) × List Value) Fault → List Value → List Value → Result (Option (ChoiceOf P)) Fault → Type 0
-  Makes short (Ok r) old new (Ok made) = (made ≡ r.0) × (new ≡ r.1)
-  Makes short (Ok r) old new (Err f) = (f ≡ OutOfMemory) × ((option_asks r.0 ≡ true) ⊎ short) × (new ≡ old)
-  Makes short (Err g) old new (Ok made) = ⊥
-  Makes short (Err g) old new (Err f) = (f ≡ g) × (new ≡ old)
+  -- A call hands out what the rule makes and leaves the stack that it leaves, or has the rule's fault, or is refused memory that it asks
+  -- for. After an error nothing has changed.
+  abbrev pub Makes : Bool → Result (Option (ChoiceOf P) × List Value) Fault → List Value → List Value → Result (Option (ChoiceOf P)) Fault → Type 0
+  Makes short rule old new result = ByRule (LacksMemory (making_asks short rule)) (λ r made. (made ≡ r.0) × (new ≡ r.1)) (λ why. why × (new ≡ old)) rule result
 
-  -- A call takes what the rule says out of a list, or leaves the list as it is; for what it takes it may be refused memory, and
-  -- leaves the list so too.
+  -- the list, or what is left of it
+  abbrev pub left_of : List (ChoiceOf P) → Option (ChoiceOf P × List (ChoiceOf P)) → List (ChoiceOf P)
+  left_of cs None = cs
+  left_of cs (Some r) = r.1
+
+  -- A call takes what the rule says out of a list, or nothing. For what it takes it may be refused memory, and then nothing has changed.
   abbrev pub Takes : Option (ChoiceOf P × List (ChoiceOf P)) → List (ChoiceOf P) → List (ChoiceOf P) → Result (Option (ChoiceOf P)) Fault → Type 0
-  Takes (Some r) old new (Ok (Some c)) = (c ≡ r.0) × (new ≡ r.1)
-  Takes (Some r) old new (Ok None) = ⊥
-  Takes None old new (Ok (Some c)) = ⊥
-  Takes None old new (Ok None) = new ≡ old
-  Takes (Some r) old new (Err f) = (f ≡ OutOfMemory) × (new ≡ old)
-  Takes None old new (Err f) = ⊥
+  Takes gone old new result =
+      ByRule (LacksMemory (is_some gone)) (λ first taken. (taken ≡ first) × (new ≡ left_of old gone)) (λ why. why × (new ≡ old)) (Ok (option_map (λ r. r.0) gone)) result
 
   -- the index of what is to be taken
   abbrev pub FindsIndex : (ChoiceOf P → Bool) → ℕ → List (ChoiceOf P) → Option ℕ → Type 0

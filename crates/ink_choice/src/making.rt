@@ -1,8 +1,8 @@
 //! What a choice point makes (docs/CHOICES.md, "What is made").
 
-ghost use Rattle.std.specs.Prelude.{◌≡◌, ◌-◌, ◌+◌, ◌<◌, ◌≤◌, length, true, reverse, IfOk, OnErr};
+ghost use Rattle.std.specs.Prelude.{◌≡◌, ◌-◌, ◌+◌, ◌≤◌, length, nat_lt, true, reverse, IfOk, OnErr};
 ghost use Rattle.ink_choice.specs.Operands.{operands_of};
-ghost use Rattle.ink_choice.specs.Outcomes.{Chooses, Makes};
+ghost use Rattle.ink_choice.specs.Outcomes.{Makes, MakesWith};
 ghost use Rattle.ink_model.specs.Choices.Making as rules;
 ghost use Rattle.ink_model.specs.Choices.Making.{choice_tags, has_any};
 ghost use Rattle.ink_trail.specs.Undo.{TrailsOrKeeps};
@@ -36,7 +36,7 @@ pub fn make<P: Copy>(
     visited: bool,
     threads: &Threads<P>,
 ) -> Result<Option<Choice<P>>, Fault>
-    ensures made { Makes (stack_spare stack.old < length stack.old.items) (rules.make flags target visited threads.now.threads.thread stack.old.items) stack.old.items stack.new.items result }
+    ensures made { Makes (nat_lt (stack_spare stack.old) (length stack.old.items)) (rules.make flags target visited threads.now.threads.thread stack.old.items) stack.old.items stack.new.items result }
     ensures trail { TrailsOrKeeps stack_back (length stack.old.items - length stack.new.items) stack.old.items stack.old.trail stack.new.items stack.new.trail result }
     ensures stood { stack_stood stack.new ≡ stack_stood stack.old }
     ensures spare { stack_spare stack.old ≤ stack_spare stack.new + length stack.old.items }
@@ -78,7 +78,8 @@ fn choice_of<P: Copy>(
     threads: &Threads<P>,
     operands: &Operands<'_>,
 ) -> Result<Choice<P>, Fault>
-    ensures { Chooses (rules.choice flags target threads.now.threads.thread (operands_of (reverse stack.now.items) operands.now)) result }
+    ensures { let choice = rules.choice flags target threads.now.threads.thread (operands_of (reverse stack.now.items) operands.now) in
+        MakesWith choice.text (rules.choice_asks choice) choice result }
 {
     match joined(alloc, operands.start.text, operands.choice_only.text) {
         Ok(text) => {

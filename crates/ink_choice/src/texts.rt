@@ -3,8 +3,8 @@
 ghost use Rattle.std.specs.Prelude.{◌≡◌, ◌++◌};
 ghost use Rattle.std.specs.List.{prefix_len, suffix_len};
 ghost use Rattle.ink_model.specs.Text.Bytes.{is_blank, trimmed, without};
-ghost use Rattle.ink_model.specs.Choices.Making.{trimmed_text};
-ghost use Rattle.ink_choice.specs.Outcomes.{MakesText};
+ghost use Rattle.ink_model.specs.Choices.Making.{has_any, trimmed_text};
+ghost use Rattle.ink_choice.specs.Outcomes.{MakesWith};
 
 use ink_model::{Fault, MAX_TEXT, Text};
 use std::alloc::Global;
@@ -12,7 +12,7 @@ use std::alloc::Global;
 /// Both texts as one, without the blanks at its ends. `TooDeep` where that is longer than a text may be; `OutOfMemory` for a
 /// refused request for memory, which an empty text never makes.
 pub(crate) fn joined(alloc: Global, start: &str, choice_only: &str) -> Result<Text, Fault>
-    ensures { MakesText (trimmed_text (start.now ++ choice_only.now)) result }
+    ensures { let text = trimmed_text (start.now ++ choice_only.now) in MakesWith text (has_any text) text result }
 {
     let (start, choice_only) = trim_both(start, choice_only);
     let len = start.len() + choice_only.len();

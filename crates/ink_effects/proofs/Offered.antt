@@ -1,5 +1,5 @@
 -- Choice points: what is made of spots and of places, and what it comes to.
-use Rattle.std.proofs.Common.{◌≡◌, ◌∙◌, ℕ, List, [], ◌∷◌, ◌++◌, length, map, nat_lt, if◌then◌else◌, Bool, true, false, Option, Some, None, ◌||◌, Result, Ok, Err, OnOk, is_ok, true≢false, ap, sym, subst, refl, inl, inr}
+use Rattle.std.proofs.Common.{◌≡◌, ◌∙◌, ℕ, List, [], ◌∷◌, ◌++◌, length, map, nat_lt, if◌then◌else◌, Bool, true, false, Option, Some, None, ◌||◌, Result, Ok, Err, OnOk, is_ok, true≢false, ap, sym, subst, refl, inl}
 use Rattle.std.proofs.lemmas.List.{length-map}
 use Rattle.ink_choice.specs.Outcomes.{Makes}
 use Rattle.ink_stack.specs.Outcomes.{Grows}
@@ -14,7 +14,7 @@ use Rattle.ink_model.specs.declared.content.Leaf.TheVariants.{Choice}
 use Rattle.ink_model.specs.declared.limits.TheConstants.{MAX_CHOICES}
 use Rattle.ink_model.proofs.Maps.{added_map, choice_asks_map, made_at, make_map, offered_at}
 use Rattle.ink_effects.proofs.Effects.{short}
-use Rattle.ink_effects.proofs.Bools.{or_first, or_more}
+use Rattle.ink_effects.proofs.Bools.{or_first, or_more, same_fault}
 use Rattle.ink_effects.proofs.Landings.{leaf_landing}
 use Rattle.ink_effects.specs.Performs.{KeepsChoices, Performs, fields, moving}
 use Rattle.ink_effects.specs.declared.transfer.Transfer.TheVariants as transfer
@@ -42,7 +42,7 @@ module _ (s : StoryTree) (p : List Part) (rest : Rest) (ts : ThreadsOf Spot) (te
       (or_else BadTarget o (λ q. or_fault (make flags q (was_visited s p seen text flags) seen.thread old) (λ r. offering s p seen r.0 (with r.1)))) (with new) (Err BadTarget))
       (h ∙ leaf_landing s p _ stands) (inl refl)
 
-  module _ (spot : Spot) (there : Some (place_of s spot) ≡ written_target s p) (visited : Bool) (is : visited ≡ is_visited (visits_in s (counts_in s rest.counts) (counted_container s p))) (Short : Type 0) where
+  module _ (spot : Spot) (there : Some (place_of s spot) ≡ written_target s p) (visited : Bool) (is : visited ≡ is_visited (visits_in s (counts_in s rest.counts) (counted_container s p))) (few : Bool) where
     -- of what is made of spots
     abbrev made : Result (Option (ChoiceOf Spot) × List Value) Fault
     made = make flags spot visited ts.thread old
@@ -90,28 +90,25 @@ module _ (s : StoryTree) (p : List Part) (rest : Rest) (ts : ThreadsOf Spot) (te
           subst (λ b. Performs t b offers (with new) result) (sym asking_is) (subst (λ e. Performs t (makes_choice others (made_at (place_of s) made)) e (with new) result) (sym offers_is) h)
 
       -- none is made
-      none_by : (m : Result (Option (ChoiceOf Spot) × List Value) Fault) → Makes Short m old new (Ok None) → Comes m (Ok transfer.Next)
+      none_by : (m : Result (Option (ChoiceOf Spot) × List Value) Fault) → Makes few m old new (Ok None) → Comes m (Ok transfer.Next)
       none_by (Ok (None, left)) h = ap with h.1
       none_by (Ok (Some c, left)) h = absurd (let no : None ≡ Some c = h.0 in cc)
       none_by (Err g) h = absurd h
 
-      pub offers_none : Makes Short made old new (Ok None) → Performs t asking offers (with new) (Ok transfer.Next)
+      pub offers_none : Makes few made old new (Ok None) → Performs t asking offers (with new) (Ok transfer.Next)
       offers_none h = offers_so _ (none_by made h)
 
       -- or a fault comes
-      fails_by : (never : Short → ⊥) (m : Result (Option (ChoiceOf Spot) × List Value) Fault) (g : Fault) → Makes Short m old new (Err g) → Comes m (Err g)
-      fails_by never (Ok (None, left)) g h = elim h.1 [
-        | inl asks ↦ absurd (let no : false ≡ true = asks in cc)
-        | inr few ↦ absurd (never few)
-      ]
+      fails_by : (never : few ≡ false) (m : Result (Option (ChoiceOf Spot) × List Value) Fault) (g : Fault) → Makes few m old new (Err g) → Comes m (Err g)
+      fails_by never (Ok (None, left)) g h = absurd (let no : false ≡ true = rw never at h.0.1 in cc)
       fails_by never (Ok (Some c, left)) g h =
           let asks : Bool = choice_asks (map_choice (place_of s) c) || nat_lt others MAX_CHOICES in
-          let memory : choice_asks c ≡ true = elim h.1 [ inl asking ↦ asking | inr few ↦ absurd (never few) ] in
-          subst (λ x. Performs t asks (so (Some (map_choice (place_of s) c), left)) (with new) (Err x)) (sym h.0)
+          let memory : choice_asks c ≡ true = rw never at h.0.1 in
+          subst (λ x. Performs t asks (so (Some (map_choice (place_of s) c), left)) (with new) (Err x)) (sym h.0.0)
           (short t asks (with new) _ (or_first _ _ (choice_asks_map (place_of s) c ∙ memory)))
-      fails_by never (Err x) g h = inl h.0
+      fails_by never (Err x) g h = inl (same_fault h.0)
 
-      pub offers_fault : (never : Short → ⊥) (g : Fault) → Makes Short made old new (Err g) → Performs t asking offers (with new) (Err g)
+      pub offers_fault : (never : few ≡ false) (g : Fault) → Makes few made old new (Err g) → Performs t asking offers (with new) (Err g)
       offers_fault never g h = offers_so _ (fails_by never made g h)
 
       -- one is made
@@ -119,9 +116,9 @@ module _ (s : StoryTree) (p : List Part) (rest : Rest) (ts : ThreadsOf Spot) (te
         one_added : (asks : Bool) (left : List Value) → new ≡ left → (r : Result (List (ChoiceOf Spot)) Fault) (x : Result (Unit {0}) Fault) → (is_ok r ≡ true → asks ≡ true) → Grows r rest.choices after x
             → Performs t asks (or_fault (offered_at (place_of s) r) (λ choices. Offers choices (with left))) (with new) (moving x)
         one_added asks left e (Ok ds) (Ok u) there h = ap with e
-        one_added asks left e (Ok ds) (Err f) there h = (h.0, there refl)
+        one_added asks left e (Ok ds) (Err f) there h = (h.0.0, there refl)
         one_added asks left e (Err g) (Ok u) there h = absurd h
-        one_added asks left e (Err g) (Err f) there h = inl h.0
+        one_added asks left e (Err g) (Err f) there h = inl (same_fault h.0)
 
         -- there is room for it
         room_there : (d : ChoiceOf Spot) → is_ok (added d rest.choices) ≡ true → choice_asks (map_choice (place_of s) d) || nat_lt others MAX_CHOICES ≡ true
@@ -131,7 +128,7 @@ module _ (s : StoryTree) (p : List Part) (rest : Rest) (ts : ThreadsOf Spot) (te
             by true h = refl
             by false h = absurd (true≢false (sym h))
 
-        one_by : (m : Result (Option (ChoiceOf Spot) × List Value) Fault) → Makes Short m old new (Ok (Some c)) → Grows (added c rest.choices) rest.choices after result → Comes m (moving result)
+        one_by : (m : Result (Option (ChoiceOf Spot) × List Value) Fault) → Makes few m old new (Ok (Some c)) → Grows (added c rest.choices) rest.choices after result → Comes m (moving result)
         one_by (Ok (None, left)) h adds = absurd (let no : Some c ≡ None = h.0 in cc)
         one_by (Ok (Some d, left)) h adds =
             let same : c ≡ d = let both : Some c ≡ Some d = h.0 in cc in
@@ -140,16 +137,16 @@ module _ (s : StoryTree) (p : List Part) (rest : Rest) (ts : ThreadsOf Spot) (te
             (one_added asks left h.1 (added d rest.choices) result (room_there d) (subst (λ x. Grows (added x rest.choices) rest.choices after result) same adds))
         one_by (Err g) h adds = absurd h
 
-        pub offers_one : Makes Short made old new (Ok (Some c)) → Grows (added c rest.choices) rest.choices after result → Performs t asking offers (with new) (moving result)
+        pub offers_one : Makes few made old new (Ok (Some c)) → Grows (added c rest.choices) rest.choices after result → Performs t asking offers (with new) (moving result)
         offers_one h adds = offers_so _ (one_by made h adds)
 
     -- ---- the choices after it
 
     module _ (new : List Value) where
-      pub keeps_none : Makes Short made old new (Ok None) → KeepsChoices s offers rest.choices rest.choices
+      pub keeps_none : Makes few made old new (Ok None) → KeepsChoices s offers rest.choices rest.choices
       keeps_none h = subst (λ e. KeepsChoices s e rest.choices rest.choices) (sym offers_is) (by made h)
         where
-          by : (m : Result (Option (ChoiceOf Spot) × List Value) Fault) → Makes Short m old new (Ok None) → KeepsChoices s (comes_to m) rest.choices rest.choices
+          by : (m : Result (Option (ChoiceOf Spot) × List Value) Fault) → Makes few m old new (Ok None) → KeepsChoices s (comes_to m) rest.choices rest.choices
           by (Ok (None, left)) h = refl
           by (Ok (Some c, left)) h = absurd (let no : None ≡ Some c = h.0 in cc)
           by (Err g) h = absurd h
@@ -161,11 +158,11 @@ module _ (s : StoryTree) (p : List Part) (rest : Rest) (ts : ThreadsOf Spot) (te
         keeps_added f (Err g) (Ok u) h = absurd h
         keeps_added f r (Err g) h = tt
 
-        pub keeps_one : (result : Result (Unit {0}) Fault) → Makes Short made old new (Ok (Some c)) → Grows (added c rest.choices) rest.choices after result
+        pub keeps_one : (result : Result (Unit {0}) Fault) → Makes few made old new (Ok (Some c)) → Grows (added c rest.choices) rest.choices after result
             → OnOk result (KeepsChoices s offers rest.choices after)
         keeps_one result h adds = subst (λ e. OnOk result (KeepsChoices s e rest.choices after)) (sym offers_is) (by made h)
           where
-            by : (m : Result (Option (ChoiceOf Spot) × List Value) Fault) → Makes Short m old new (Ok (Some c)) → OnOk result (KeepsChoices s (comes_to m) rest.choices after)
+            by : (m : Result (Option (ChoiceOf Spot) × List Value) Fault) → Makes few m old new (Ok (Some c)) → OnOk result (KeepsChoices s (comes_to m) rest.choices after)
             by (Ok (None, left)) h = absurd (let no : Some c ≡ None = h.0 in cc)
             by (Ok (Some d, left)) h =
                 let same : c ≡ d = let both : Some c ≡ Some d = h.0 in cc in

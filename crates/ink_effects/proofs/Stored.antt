@@ -9,7 +9,7 @@ use Rattle.ink_model.specs.Variables.Access.{assign, declare, declared, kept, re
 use Rattle.ink_model.specs.declared.scope.Scope.{Scope}
 use Rattle.ink_effects.specs.Performs.{Changes, KeepsThreads, Performs, fields}
 use Rattle.ink_effects.proofs.Effects.{operated, performs_where, short}
-use Rattle.ink_effects.proofs.Bools.{or_first, or_more}
+use Rattle.ink_effects.proofs.Bools.{or_first, or_more, same_fault}
 use Rattle.ink_model.proofs.Maps.{assign_map, declare_map, left_as, read_map, setting_asks_map}
 use Rattle.ink_vars.specs.Outcomes.{Declares, HandsOut, LeadsTo, with_variable, writing_asks}
 use Rattle.ink_vars.specs.declared.places.Variable.{Variable}
@@ -129,7 +129,7 @@ module _ (s : StoryTree) (ts : ThreadsOf Spot) (rest : Rest) (f : Fields) where
         by (Ok w) is k =
             subst (λ x. Performs s declaring_asks declaring (record f { stack = left }) (Err x)) (sym k.0)
             (short s declaring_asks (record f { stack = left }) declaring (asks_to_declare w is (or_first _ _ k.1)))
-        by (Err x) is k = subst (λ e. Performs s declaring_asks e (record f { stack = left }) (Err g)) (sym (declares (Err x) is)) (inl k)
+        by (Err x) is k = subst (λ e. Performs s declaring_asks e (record f { stack = left }) (Err g)) (sym (declares (Err x) is)) (inl (same_fault k))
 
 -- ---- fields
 

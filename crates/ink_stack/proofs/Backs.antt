@@ -180,7 +180,7 @@ grown-kept r old new (Ok u) f is h = absurd (cc)
 
 -- what was done is taken back for want of memory
 pub grown-refused : {S U : Type 0} (r : Result S Fault) (old mid new : S) (x : Result U Fault) (u : U) → x ≡ Ok u → new ≡ old → Grows r old mid x → Grows {U = U} r old new (Err OutOfMemory)
-grown-refused (Ok s) old mid new (Ok v) u is same h = (refl, same)
+grown-refused (Ok s) old mid new (Ok v) u is same h = ((refl, refl), same)
 grown-refused (Err g) old mid new (Ok v) u is same h = absurd h
 grown-refused r old mid new (Err e) u is same h = absurd (cc)
 

@@ -1,7 +1,7 @@
 -- What calls do, by what the rules give.
-use Rattle.std.specs.Prelude.{◌≡◌, Result, Ok, Err}
+use Rattle.std.specs.Prelude.{◌≡◌, Result, Ok, Err, is_ok}
+use Rattle.ink_model.specs.Memory.Refusals.{ByRule, LacksMemory}
 use Rattle.ink_model.specs.declared.fault.Fault.{Fault}
-use Rattle.ink_model.specs.declared.fault.Fault.TheVariants.{OutOfMemory}
 
 -- A call changes what it is made on as the rule says, or gives the rule's fault and changes nothing.
 abbrev pub Changes : {S U : Type 0} → Result S Fault → S → S → Result U Fault → Type 0
@@ -12,7 +12,4 @@ Changes (Err g) old new (Err f) = (f ≡ g) × (new ≡ old)
 
 -- The same of a call that asks for memory: where the rule gives no fault it may be refused, and nothing has changed then.
 abbrev pub Grows : {S U : Type 0} → Result S Fault → S → S → Result U Fault → Type 0
-Grows (Ok s) old new (Ok u) = new ≡ s
-Grows (Ok s) old new (Err f) = (f ≡ OutOfMemory) × (new ≡ old)
-Grows (Err g) old new (Ok u) = ⊥
-Grows (Err g) old new (Err f) = (f ≡ g) × (new ≡ old)
+Grows rule old new result = ByRule (LacksMemory (is_ok rule)) (λ s u. new ≡ s) (λ why. why × (new ≡ old)) rule result

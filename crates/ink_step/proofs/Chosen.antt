@@ -15,20 +15,12 @@ use Rattle.ink_moves.specs.declared.flow.StepEnd.TheVariants as ends
 -- ---- what is taken
 
 module _ {P : Type 0} where
-  takes_first : (r : Option (ChoiceOf P × List (ChoiceOf P))) (old new : List (ChoiceOf P)) (x : ChoiceOf P) → Takes r old new (Ok (Some x)) → option_map (λ r. r.0) r ≡ Some x
-  takes_first None old new x h = absurd h
-  takes_first (Some r) old new x h = ap Some (sym h.0)
-
-  takes_some : (r : Option (ChoiceOf P × List (ChoiceOf P))) (old new : List (ChoiceOf P)) (x : ChoiceOf P) → option_map (λ r. r.0) r ≡ Some x → Takes r old new (Ok None) → ⊥
-  takes_some None old new x h t = absurd (cc)
-  takes_some (Some r) old new x h t = t
-
   -- where there is an n-th visible one, it is taken
   pub takes_visible : (n : ℕ) (cs new : List (ChoiceOf P)) (x y : ChoiceOf P) → Some x ≡ slice_get (visible cs) n → Takes (choice_gone n cs) cs new (Ok (Some y)) → Some y ≡ slice_get (visible cs) n
-  takes_visible n cs new x y h t = sym (takes_first (choice_gone n cs) cs new y t) ∙ taken_visible n cs x (sym h) ∙ h
+  takes_visible n cs new x y h t = t.0 ∙ taken_visible n cs x (sym h) ∙ h
 
   pub takes_any : (n : ℕ) (cs new : List (ChoiceOf P)) (x : ChoiceOf P) → Some x ≡ slice_get (visible cs) n → Takes (choice_gone n cs) cs new (Ok None) → ⊥
-  takes_any n cs new x h = takes_some (choice_gone n cs) cs new x (taken_visible n cs x (sym h))
+  takes_any n cs new x h t = absurd (let no : None ≡ Some x = t.0 ∙ taken_visible n cs x (sym h) in cc)
 
   -- where none is visible, the first is
   first_taken : (cs : List (ChoiceOf P)) → none_visible cs ≡ true → option_map (λ r. r.0) (choice_gone 0 cs) ≡ slice_get cs 0
@@ -50,15 +42,10 @@ module _ {P Q : Type 0} (f : P → Q) where
 
   pub is_default : (cs new : List (ChoiceOf P)) (x : ChoiceOf P) → only_invisible cs ≡ true → Takes (choice_gone 0 cs) cs new (Ok (Some x)) → default_choice (map (map_choice f) cs) ≡ Some (map_choice f x)
   is_default cs new x h t =
-      let first : slice_get cs 0 ≡ Some x = sym (first_taken cs (none_of cs h)) ∙ takes_first (choice_gone 0 cs) cs new x t in
+      let first : slice_get cs 0 ≡ Some x = sym (first_taken cs (none_of cs h)) ∙ sym t.0 in
       ap (λ b. if b then option_map (λ r. r.0) (choice_gone 0 (map (map_choice f) cs)) else None) (only_invisible_map f cs ∙ h)
       ∙ first_taken (map (map_choice f) cs) (none_visible_map f cs ∙ none_of cs h)
       ∙ first_map f cs ∙ ap (option_map (map_choice f)) first
-
--- nothing was taken where memory was refused
-pub takes_none : {P : Type 0} → (o : Option (ChoiceOf P × List (ChoiceOf P))) (cs new : List (ChoiceOf P)) (f : Fault) → Takes o cs new (Err f) → (f ≡ OutOfMemory) × (new ≡ cs)
-takes_none None cs new f h = absurd h
-takes_none (Some r) cs new f h = h
 
 -- ---- where flow stops
 

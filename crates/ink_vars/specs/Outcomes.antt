@@ -1,8 +1,8 @@
 -- What calls on variables do, by what the rules give.
 use Rattle.std.specs.Borrow.{Bor}
-use Rattle.std.specs.Prelude.{◌≡◌, ◌≤◌, ◌⊎◌, ℕ, ℤ, pos, List, Bool, true, false, not, Option, Some, None, is_some, Result, Ok, Err}
+use Rattle.std.specs.Prelude.{◌≡◌, ◌≤◌, ◌⊎◌, ℕ, ℤ, pos, List, Bool, true, false, not, ◌&&◌, Option, Some, None, is_some, Result, Ok, Err, is_ok}
 use Rattle.ink_model.specs.Flow.Frames.{ThreadOf}
-use Rattle.ink_model.specs.Memory.Refusals.{holds_memory}
+use Rattle.ink_model.specs.Memory.Refusals.{ByRule, LacksMemory, holds_memory}
 use Rattle.ink_model.specs.Variables.Store.{Values}
 use Rattle.ink_model.specs.Flow.Threads.{frame_count}
 use Rattle.ink_model.specs.Memory.Variables.{is_pointer, is_there}
@@ -26,12 +26,9 @@ abbrev pub number_of_name : Name → Option ℕ
 number_of_name (Given name number) = number
 number_of_name (Pointed name) = None
 
--- A call hands out what the rule gives, or the rule's fault; where it asks for memory it may be refused that.
+-- A call hands out what the rule gives, or has the rule's fault. Where there is no fault and it asks for memory, it may be refused that.
 abbrev pub HandsOut : {A : Type 0} → Bool → Result A Fault → Result A Fault → Type 0
-HandsOut asks (Ok a) (Ok b) = b ≡ a
-HandsOut asks (Ok a) (Err f) = (f ≡ OutOfMemory) × (asks ≡ true)
-HandsOut asks (Err g) (Ok b) = ⊥
-HandsOut asks (Err g) (Err f) = f ≡ g
+HandsOut asks rule result = ByRule (LacksMemory (is_ok rule && asks)) (λ a b. b ≡ a) (λ why. why) rule result
 
 -- what a variable is read as, without a copy; nothing reads 0
 abbrev pub looked : Result (Option (Bor Value)) Fault → Result Value Fault

@@ -3,7 +3,7 @@ use Rattle.ink_step.proofs.Common.{story_tree, Takes, default_asks, default_choi
 use Rattle.ink_model.specs.Choices.Making.{only_invisible, choice_gone}
 use Rattle.ink_model.specs.Run.Visits.{entering_around, entering_asks}
 use Rattle.ink_step.proofs.Marks.{pressed_choices, pressed_default, pressed_landing}
-use Rattle.ink_step.proofs.Chosen.{follows_default, is_default, no_default, short_of_default, short_pressed, stays_stopped, takes_none}
+use Rattle.ink_step.proofs.Chosen.{follows_default, is_default, no_default, short_of_default, short_pressed, stays_stopped}
 use Rattle.ink_step.proofs.Follows.{or_where}
 use Rattle.ink_step.proofs.machine.Machine.follow_default.Goals as goal
 use Rattle.ink_step.proofs.machine.Machine.follow_default.Goals.{In-Some}
@@ -29,13 +29,13 @@ returns-in_err-choice-clause-ends c =
     let cs = machine.flow.choices.items in
     let left = record machine { flow = record machine.flow { choices = c.take.new.self } } in
     let f = c.in_err-choice.field-0.0 in
-    let kept = takes_none (choice_gone 0 cs) cs c.take.new.self.items f c.in_err-choice.ensures.items in
+    let kept = c.in_err-choice.ensures.items in
     let all = ap only_invisible kept.1 ∙ sym c.only_invisible.ensures ∙ c.if-not-only_invisible.false in
     let pressing = pressed_default s left (ap is_some c.in_err-choice.ensures.stood ∙ c.in_err-choice.ensures.memory) all in
     let is : c.from_residual.result ≡ Err f = search rules in
     let choice = default_choice (config_of s machine).flow.choices in
     subst (λ r. StepEnds (pressed s left || default_asks s choice (config_of s machine)) (stopped_by s choice (config_of s machine)) machine.shared.globals.rows (config_of s left) r) (sym is)
-    (short_pressed s (pressed s left) (config_of s machine) (config_of s left) choice f kept.0 pressing refl)
+    (short_pressed s (pressed s left) (config_of s machine) (config_of s left) choice f kept.0.0 pressing refl)
 
 pub returns-in_err-ready_choices-in-Some-clause-ends : goal.returns-in_err-ready_choices-in-Some-clause-ends
 returns-in_err-ready_choices-in-Some-clause-ends c =
