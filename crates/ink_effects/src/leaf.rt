@@ -163,17 +163,21 @@ pub fn perform_leaf<'a>(
             &flow.threads,
             transfer,
         ),
-        Leaf::Choice { target, flags } => offer(
-            alloc,
-            story,
-            here,
-            *flags,
-            &mut flow.stack,
-            &shared.counts,
-            &flow.threads,
-            &mut flow.choices,
-            target,
-        ),
+        Leaf::Choice { target, flags } => {
+            // The choice keeps a copy of the thread.
+            flow.threads.share_frames();
+            offer(
+                alloc,
+                story,
+                here,
+                *flags,
+                &mut flow.stack,
+                &shared.counts,
+                &flow.threads,
+                &mut flow.choices,
+                target,
+            )
+        }
         Leaf::External { .. } => Ok(()),
     }
 }

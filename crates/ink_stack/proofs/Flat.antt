@@ -1,5 +1,5 @@
 -- Frames by their headers and their temporaries.
-use Rattle.std.proofs.Common.{◌≡◌, ◌≢◌, ◌∙◌, ◌<◌, ◌≤◌, ◌+◌, ◌-◌, ℕ, zero, suc, List, [], ◌∷◌, ◌++◌, ap, arith, get_or, if◌then◌else◌, length, map, refl, reverse, set, subst, sym, replicate, Bool, true, false, nat_lt, Option, Some, None, inl, inr}
+use Rattle.std.proofs.Common.{◌≡◌, ◌∙◌, ◌<◌, ◌≤◌, ◌+◌, ◌-◌, ℕ, zero, suc, List, [], ◌∷◌, ◌++◌, ap, arith, get_or, if◌then◌else◌, length, map, refl, reverse, set, subst, sym, replicate, Bool, true, false, nat_lt, Option, Some, None, inl, inr}
 use Rattle.std.proofs.lemmas.Bool.{cases_lt}
 use Rattle.ink_stack.proofs.Common.{nat_tests, FrameOf, unnumbered_frame, Values, Value, temp_back, temps_back}
 use Rattle.std.proofs.lemmas.List.{get_or-set_same, get_or_default, get_or_past, length-append, length-replicate, length-reverse, reverse-append, set-get_or}
@@ -162,9 +162,6 @@ module _ {P : Type 0} where
   pub room_more : (r : Room) (hs : List (Header P)) (ts : List Values) (f : FrameOf P) → FitsIn r (f ∷ reverse (framed hs ts)) → length hs + 1 ≤ r.frames
   room_more r hs ts f h = omega (arith, h.frames, length-reverse (framed hs ts), framed_length hs ts)
 
-  pub room_with : (r : Room) (hs : List (Header P)) (ts : List Values) (f : FrameOf P) → FitsIn r (f ∷ reverse (framed hs ts)) → is_bare f ≡ false → length hs + 1 ≤ r.temps
-  room_with r hs ts f h some = omega (arith, (rw some at h.temps), length-reverse (framed hs ts), framed_length hs ts)
-
   -- a frame more, where as many temporaries as are missing are none
   pub framed_filled : (hs : List (Header P)) (ts filled : List Values) (n : ℕ) (x : Header P) (rows : Values) → filled ≡ ts ++ replicate n [] → length filled ≡ length hs
       → framed (hs ++ x ∷ []) (filled ++ rows ∷ []) ≡ framed hs ts ++ frame_with x rows ∷ []
@@ -190,16 +187,6 @@ module _ {P : Type 0} where
   put_within hs more ts new n x rows first second is few =
       let missing = replicate {A = Values} (n - length ts) [] in
       omega (arith, ap length first, length-append hs (x ∷ []), ap length second, length-append (ts ++ missing) (rows ∷ []), length-append ts missing, length-replicate {A = Values} (n - length ts) [], is, few)
-
-  -- there are none
-  pub no_frames : (hs : List (Header P)) (ts : List Values) (n : ℕ) → n ≡ 0 → n ≡ length hs → [] ≡ framed hs ts
-  no_frames [] ts n none is = refl
-  no_frames (h ∷ hs) ts n none is = absurd (omega (arith, none, is))
-
-  pub some_frames : (hs : List (Header P)) (ts : List Values) (n : ℕ) → n ≢ 0 → n ≡ length hs → framed hs ts ≢ []
-  some_frames [] ts n some is = absurd (some is)
-  some_frames (h ∷ hs) [] n some is = λ none. absurd (cc)
-  some_frames (h ∷ hs) (t ∷ ts) n some is = λ none. absurd (cc)
 
   -- other temporaries, where none were put behind the last
   pub temps_put : (hs : List (Header P)) (ts filled : List Values) (n i : ℕ) (rows : Values) (d : FrameOf P) → filled ≡ ts ++ replicate n [] → i < length filled → length filled ≤ length hs

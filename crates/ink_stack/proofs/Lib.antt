@@ -20,5 +20,6 @@ pub mod Unmarked
 pub mod Keeping
 pub mod Tops
 pub mod Flat
+pub mod Sharing
 pub mod Lengths
 pub mod Given

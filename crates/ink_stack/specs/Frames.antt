@@ -1,6 +1,6 @@
 -- Frames as they are kept: headers, and the temporaries of the lowest ones. In a list of headers the bottom one is the first, and so
 -- it is in `framed`; in `with_temps` and `FitsIn` the top frame is.
-use Rattle.std.specs.Prelude.{◌≤◌, ℕ, suc, zero, List, [], ◌∷◌, length, Bool, true, false, if◌then◌else◌, None}
+use Rattle.std.specs.Prelude.{◌≤◌, ℕ, suc, zero, List, [], ◌∷◌, length, Bool, true, false, if◌then◌else◌, Option, Some, None, Vec}
 use Rattle.ink_model.specs.Flow.Frames.{FrameOf}
 use Rattle.ink_model.specs.Variables.Store.{Values}
 use Rattle.ink_stack.specs.declared.frame.Header.{Header}
@@ -14,6 +14,11 @@ pub record Room : Type 0 where
 pub record MoreRoom (r s : Room) : Type 0 where
   pub frames : r.frames ≤ s.frames
   pub temps : r.temps ≤ s.temps
+
+-- the items of a list, where there is one
+abbrev pub items_of : {A L : Type 0} → Option (Vec A L) → List A
+items_of None = []
+items_of (Some v) = v.items
 
 -- the frames, and their room
 pub record FramesView (P : Type 0) : Type 0 where

@@ -6,21 +6,27 @@ ghost use Rattle.ink_model.specs.Flow.Frames.{FrameOf, is_function, unnumbered_f
 ghost use Rattle.ink_model.specs.Variables.Rows.{name_order, row};
 ghost use Rattle.ink_model.specs.Flow.Threads.{stale, with_row_in};
 ghost use Rattle.ink_stack.specs.Cells.{temp_back, with_fresh};
-ghost use Rattle.ink_stack.specs.Frames.{FitsIn, MoreRoom, unnumbered};
+ghost use Rattle.ink_stack.specs.Frames.{FitsIn, MoreRoom, frame_with, unnumbered};
 ghost use Rattle.ink_stack.specs.Quiet.{Covers};
 ghost use Rattle.ink_stack.specs.Temps.{text_of};
 
 use crate::frame::{Frame, Header};
+use crate::lowest::Lowest;
 use crate::temps::{TempName, Temps};
 use ink_model::Value;
 use std::alloc::{AllocError, Global};
 use std::marker::Model;
 use std::mem;
 
+/// So many headers a copy may copy; where more are not shared yet, all are shared before the copy is made.
+const FEW: usize = 16;
+
 /// Frames, the bottom one first: their headers, and the temporaries of the lowest ones, up to the last that has any or further. So
-/// frames without temporaries are copied as a whole, and are let go without a look. A contract sees the frames, how many fit without
-/// memory, and how many of these with temporaries.
+/// frames without temporaries are copied as a whole, and are let go without a look. The lowest headers may be shared with copies of
+/// the list; `headers` are the others, and have room for all, so that headers that are shared become the list's own without memory
+/// before one is changed. A contract sees the frames, how many fit without memory, and how many of these with temporaries.
 pub(crate) struct Frames<P> {
+    pub(crate) lowest: Lowest<P>,
     pub(crate) headers: Vec<Header<P>>,
     pub(crate) temps: Vec<Temps>,
     pub(crate) alloc: Global,
@@ -29,6 +35,7 @@ pub(crate) struct Frames<P> {
 impl<P: Drop> Drop for Frames<P> {
     fn drop(self) {
         let Frames {
+            lowest: _,
             headers: _,
             temps: _,
             alloc: _,
@@ -37,14 +44,14 @@ impl<P: Drop> Drop for Frames<P> {
 }
 
 impl<P> Model for Frames<P> {
-    ghost use Rattle.std.specs.Prelude.{◌≤◌, length, vec_capacity};
+    ghost use Rattle.std.specs.Prelude.{◌≤◌, ◌++◌, length, vec_capacity};
     ghost use Rattle.ink_stack.specs.Frames.{FramesView, framed};
 
     ghost Value = { FramesView P };
 
-    ghost view = { λ f. record { items = framed f.headers.items f.temps.items; room = record { frames = vec_capacity f.headers; temps = vec_capacity f.temps } } };
+    ghost view = { λ f. record { items = framed (f.lowest ++ f.headers.items) f.temps.items; room = record { frames = vec_capacity f.headers; temps = vec_capacity f.temps } } };
 
-    ghost invariant = { λ f. length f.temps.items ≤ length f.headers.items };
+    ghost invariant = { λ f. (length f.temps.items ≤ length (f.lowest ++ f.headers.items)) × (length (f.lowest ++ f.headers.items) ≤ vec_capacity f.headers) };
 }
 
 impl<P: Copy> Frames<P> {
@@ -53,6 +60,7 @@ impl<P: Copy> Frames<P> {
         ensures { result.items ≡ [] }
     {
         Frames {
+            lowest: Lowest::new(),
             headers: Vec::new(alloc),
             temps: Vec::new(alloc),
             alloc,
@@ -63,7 +71,7 @@ impl<P: Copy> Frames<P> {
     pub(crate) fn len(&self) -> usize
         ensures { result ≡ length self.now.items }
     {
-        self.headers.len()
+        self.lowest.len() + self.headers.len()
     }
 
     /// Does nothing; by its contract the frames fit in their room.
@@ -84,18 +92,45 @@ impl<P: Copy> Frames<P> {
         ensures copy { IfOk result (λ copy. copy.items ≡ self.now.items) }
         ensures memory { OnErr result (self.now.items ≢ []) }
     {
-        if self.headers.len() == 0 {
+        if self.len() == 0 {
             return Ok(Frames::new(alloc));
         }
         let mut headers = mem::replace(spare, Vec::new(alloc));
         headers.clear();
         headers.extend_from_slice(self.headers.as_slice())?;
+        headers.reserve(self.lowest.len())?;
+        let lowest = self.lowest.share()?;
         let temps = copied(alloc, self.temps.as_slice())?;
         Ok(Frames {
+            lowest,
             headers,
             temps,
             alloc,
         })
+    }
+
+    /// Where many headers are not shared yet, copies share all from now on. It asks for memory only to make copies cheap: where that
+    /// is refused, copies copy.
+    #[inline(always)]
+    pub(crate) fn freeze(&mut self)
+        ensures { self.new ≡ self.old }
+    {
+        if self.headers.len() > FEW {
+            freeze(self.alloc, &mut self.lowest, &mut self.headers);
+        }
+    }
+
+    /// The header of the frame at an index.
+    #[inline(always)]
+    pub(crate) fn header_at(&self, index: usize) -> &Header<P>
+        requires { index < length self.now.items }
+        ensures { (d : FrameOf P) → get_or self.now.items index d ≡ frame_with result.now (get_or self.now.items index d).temps }
+    {
+        let below = self.lowest.len();
+        if index < below {
+            return &self.lowest.as_slice()[index];
+        }
+        &self.headers[index - below]
     }
 
     /// Whether the frame at an index is a function.
@@ -103,7 +138,7 @@ impl<P: Copy> Frames<P> {
         requires { index < length self.now.items }
         ensures { (d : FrameOf P) → result ≡ is_function (get_or self.now.items index d).kind }
     {
-        self.headers[index].is_function()
+        self.header_at(index).is_function()
     }
 
     /// The number of sections that holds with the frame at an index nearest, by the one that holds below it.
@@ -111,7 +146,7 @@ impl<P: Copy> Frames<P> {
         requires { index < length self.now.items }
         ensures { (d : FrameOf P) → Covers quiet (get_or self.now.items index d) result }
     {
-        self.headers[index].quiet_above(quiet)
+        self.header_at(index).quiet_above(quiet)
     }
 
     /// The value of a temporary of the frame at an index, none where it has none of that name. Takes no memory.
@@ -134,7 +169,13 @@ impl<P: Copy> Frames<P> {
         ensures ended { (d : FrameOf P) → OnTrue result (with_fresh true (stale depth (get_or self.old.items index d)) ≡ get_or self.old.items index d) }
         ensures kept { (d : FrameOf P) → OnFalse result (stale depth (get_or self.old.items index d) ≡ get_or self.old.items index d) }
     {
-        self.headers[index].end_one(depth)
+        let mut header = *self.header_at(index);
+        if !header.end_one(depth) {
+            return false;
+        }
+        let own = own_index(&mut self.lowest, &mut self.headers, index);
+        self.headers[own] = header;
+        true
     }
 
     /// The frame at an index is fresh again.
@@ -143,7 +184,8 @@ impl<P: Copy> Frames<P> {
         ensures items { (d : FrameOf P) → self.new.items ≡ set self.old.items index (with_fresh true (get_or self.old.items index d)) }
         ensures room { self.new.room ≡ self.old.room }
     {
-        self.headers[index].fresh = true;
+        let own = own_index(&mut self.lowest, &mut self.headers, index);
+        self.headers[own].fresh = true;
     }
 
     /// The row at an index of the temporaries of a frame holds what it held; where that was nothing it goes. Takes no memory.
@@ -184,10 +226,10 @@ impl<P: Copy> Frames<P> {
         ensures more { MoreRoom self.old.room self.new.room }
         ensures ok { OnOk result (FitsIn self.new.room (frame.now ∷ reverse self.old.items)) }
     {
-        self.headers.reserve(1)?;
+        let count = self.len();
+        self.headers.reserve(self.lowest.len() + 1)?;
         if !frame.is_bare() {
-            let more = self.headers.len() - self.temps.len() + 1;
-            self.temps.reserve(more)?;
+            self.temps.reserve(count - self.temps.len() + 1)?;
         }
         Ok(())
     }
@@ -214,7 +256,7 @@ impl<P: Copy> Frames<P> {
             self.headers.push_reserved(frame.header);
             return;
         }
-        let index = self.headers.len();
+        let index = self.len();
         put_last(self.alloc, &mut self.temps, index, &mut frame.temps);
         self.headers.push_reserved(frame.header);
     }
@@ -224,8 +266,9 @@ impl<P: Copy> Frames<P> {
         ensures items { MatchOption result ((self.old.items ≡ []) × (self.new ≡ self.old)) (λ frame. self.old.items ≡ self.new.items ++ frame ∷ []) }
         ensures room { self.new.room ≡ self.old.room }
     {
-        let header = self.headers.pop()?;
-        let temps = take_last(self.alloc, &mut self.temps, self.headers.len());
+        let header = pop_header(&mut self.lowest, &mut self.headers)?;
+        let index = self.lowest.len() + self.headers.len();
+        let temps = take_last(self.alloc, &mut self.temps, index);
         Some(Frame { header, temps })
     }
 
@@ -236,8 +279,9 @@ impl<P: Copy> Frames<P> {
         ensures items { self.old.items ≡ self.new.items ++ frame.new ∷ [] }
         ensures room { self.new.room ≡ self.old.room }
     {
-        if let Some(header) = self.headers.pop() {
-            take_last_into(&mut self.temps, self.headers.len(), &mut frame.temps);
+        if let Some(header) = pop_header(&mut self.lowest, &mut self.headers) {
+            let index = self.lowest.len() + self.headers.len();
+            take_last_into(&mut self.temps, index, &mut frame.temps);
             frame.header = header;
         }
     }
@@ -246,6 +290,7 @@ impl<P: Copy> Frames<P> {
     #[inline(always)]
     pub(crate) fn give_list(self, spare: &mut Vec<Header<P>>) {
         let Frames {
+            lowest: _,
             headers,
             temps: _,
             alloc: _,
@@ -260,7 +305,49 @@ impl<P: Copy> Frames<P> {
         ensures items { self.new.items ≡ map unnumbered_frame self.old.items }
         ensures room { self.new.room ≡ self.old.room }
     {
+        self.lowest.thaw_numbered(&mut self.headers);
         clear_numbers_of(self.headers.as_mut_slice());
+    }
+}
+
+/// All headers are shared from now on; nothing changes where memory is refused.
+#[cold]
+#[inline(never)]
+fn freeze<P: Copy>(alloc: Global, lowest: &mut Lowest<P>, others: &mut Vec<Header<P>>)
+    ensures all { lowest.new ++ others.new.items ≡ lowest.old ++ others.old.items }
+    ensures room { vec_capacity others.new ≡ vec_capacity others.old }
+{
+    if let Ok(all) = lowest.extended(alloc, others.as_slice()) {
+        *lowest = all;
+        others.clear();
+    }
+}
+
+/// The index of a header among those that are not shared; where it is shared, none is from now on.
+#[inline(always)]
+fn own_index<P: Copy>(lowest: &mut Lowest<P>, headers: &mut Vec<Header<P>>, index: usize) -> usize
+    requires { length (lowest.old ++ headers.old.items) ≤ vec_capacity headers.old }
+    ensures all { lowest.new ++ headers.new.items ≡ lowest.old ++ headers.old.items }
+    ensures index { length lowest.new + result ≡ index }
+    ensures room { vec_capacity headers.new ≡ vec_capacity headers.old }
+{
+    let below = lowest.len();
+    if index < below {
+        lowest.thaw(headers);
+        return index;
+    }
+    index - below
+}
+
+/// Takes the last header out, where there is one.
+#[inline(always)]
+fn pop_header<P: Copy>(lowest: &mut Lowest<P>, headers: &mut Vec<Header<P>>) -> Option<Header<P>>
+    ensures all { MatchOption result ((lowest.old ++ headers.old.items ≡ []) × (lowest.new ++ headers.new.items ≡ [])) (λ header. lowest.old ++ headers.old.items ≡ (lowest.new ++ headers.new.items) ++ header ∷ []) }
+    ensures room { vec_capacity headers.new ≡ vec_capacity headers.old }
+{
+    match headers.pop() {
+        Some(header) => Some(header),
+        None => lowest.pop(),
     }
 }
 

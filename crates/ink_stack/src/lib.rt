@@ -4,6 +4,7 @@
 mod frame;
 mod frames;
 mod listing;
+mod lowest;
 mod running;
 mod saving;
 mod temps;

@@ -167,6 +167,14 @@ impl<P: Copy> Running<P> {
         })
     }
 
+    /// Copies share the frames below the top one from now on, where there are many. It asks for memory only to make copies cheap.
+    #[inline(always)]
+    pub(crate) fn freeze(&mut self)
+        ensures { self.new ≡ self.old }
+    {
+        self.below.freeze();
+    }
+
     /// The thread ends, and its list of frames becomes the spare one where it is the larger.
     #[inline(always)]
     pub(crate) fn give_list(self, spare: &mut Vec<Header<P>>) {

@@ -369,6 +369,7 @@ impl<P: Copy> Threads<P> {
         ensures stood { threads_stood self.new ≡ threads_stood self.old }
         ensures spare { threads_spare self.old ≤ threads_spare self.new + 1 }
     {
+        self.share_frames();
         if self.trail.is_marked() {
             return self.push_thread_marked();
         }
@@ -442,6 +443,15 @@ impl<P: Copy> Threads<P> {
         ensures most { thread_count self.now.threads ≤ MAX_THREADS }
     {
         self.below.is_empty()
+    }
+
+    /// Copies of the top thread share the frames below its top one from now on, where there are many. A contract sees no change: it
+    /// asks for memory only to make copies cheap, and where that is refused, copies copy.
+    #[inline(always)]
+    pub fn share_frames(&mut self)
+        ensures { self.new ≡ self.old }
+    {
+        self.running.freeze();
     }
 
     /// A copy of the top thread. The one error is `OutOfMemory` for a refused request for memory, which a frame alone

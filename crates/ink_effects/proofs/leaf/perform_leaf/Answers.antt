@@ -206,12 +206,13 @@ returns-in-Assign-clause-threads c =
 pub returns-in-Choice-clause-effect : goal.returns-in-Choice-clause-effect
 returns-in-Choice-clause-effect c =
     let w = (goal.at.returns-in-Choice-clause-effect c).Start in
-    does w _ _ _ _ _ c.in-Choice.is (ap (leading c.offer.result) c.requires.on) (c.offer.ensures.effect (rest w) _ _ _ _ (tree w))
+    let same = c.share_frames.ensures in
+    rw same (does w _ _ _ _ _ c.in-Choice.is (ap (leading c.offer.result) c.requires.on) (rw same at (c.offer.ensures.effect (rest w) (old w).evaluating (old w).fresh (old w).page (old w).globals (tree w))))
 
 pub returns-in-Choice-clause-choices : goal.returns-in-Choice-clause-choices
 returns-in-Choice-clause-choices c =
     let w = (goal.at.returns-in-Choice-clause-choices c).Start in
-    offers w _ _ _ _ c.in-Choice.is (c.offer.ensures.choices (rest w) (old w).evaluating (old w).fresh (old w).page (old w).globals)
+    offers w _ _ _ _ c.in-Choice.is (rw c.share_frames.ensures at (c.offer.ensures.choices (rest w) (old w).evaluating (old w).fresh (old w).page (old w).globals))
 
 pub returns-in-Control-clause-choices : goal.returns-in-Control-clause-choices
 returns-in-Control-clause-choices c =
@@ -239,7 +240,7 @@ returns-in-Assign-clause-choices c =
 pub returns-in-Choice-clause-threads : goal.returns-in-Choice-clause-threads
 returns-in-Choice-clause-threads c =
     let w = (goal.at.returns-in-Choice-clause-threads c).Start in
-    keeps w _ _ _ _ c.in-Choice.is (when_ok c.offer.result _ (offer_stores_none (tree w) (before w) (place_of (tree w) c.args.here) (seen_by (tree w) (before w) (rest w)) c.in-Choice.target c.in-Choice.flags (old w)))
+    rw c.share_frames.ensures (keeps w _ _ _ _ c.in-Choice.is (when_ok c.offer.result _ (offer_stores_none (tree w) (before w) (place_of (tree w) c.args.here) (seen_by (tree w) (before w) (rest w)) c.in-Choice.target c.in-Choice.flags (old w))))
 
 pub returns-in-Text-clause-threads : goal.returns-in-Text-clause-threads
 returns-in-Text-clause-threads c = kept_plain (goal.at.returns-in-Text-clause-threads c).Start _ _ c.after_text.result c.in-Text.is tt

@@ -1,34 +1,22 @@
-use Rattle.std.proofs.Common.{◌∙◌, ◌<◌, [], ap, arith, get_or, length, sym, ◌≤◌, length-set, subst}
-use Rattle.ink_stack.proofs.Common.{stale, frame_with}
-use Rattle.ink_stack.proofs.Flat.{framed_at, framed_length, header_changed}
+use Rattle.std.proofs.Common.{◌≡◌, ◌∙◌, ◌<◌, ◌++◌, ap, arith, get_or, length, subst, sym}
+use Rattle.ink_stack.proofs.Common.{stale, frame_with, framed}
+use Rattle.ink_stack.proofs.Sharing.{header_put, inside_all, own_inside, own_set}
 use Rattle.ink_stack.proofs.frames.Frames.end_one.Goals as goal
 
 pub index_mut-requires : goal.index_mut-requires
-index_mut-requires g c = omega (arith, c.requires, ap (λ v. length v.items) c.self.view_is, framed_length c.self.inside.headers.items c.self.inside.temps.items, c.self.inside.headers.ok.0)
+index_mut-requires g c =
+    let hs = c.self.inside.lowest ++ c.self.inside.headers.items in
+    let inside : c.args.index < length hs = inside_all hs c.self.inside.temps.items _ c.args.index (ap (λ v. v.items) c.self.view_is) c.requires in
+    omega (arith, own_inside c.own_index-own.new.lowest c.own_index-own.new.headers.items hs c.args.index c.own_index-own.result c.own_index-own.ensures.all c.own_index-own.ensures.index inside, c.own_index-own.new.headers.ok.0)
 
 pub returns-clause-items : goal.returns-clause-items
 returns-clause-items g c = λ d.
-    let hs = c.self.inside.headers.items in
+    let hs = c.self.inside.lowest ++ c.self.inside.headers.items in
     let ts = c.self.inside.temps.items in
-    let inside : c.args.index < length hs = omega (arith, c.requires, ap (λ v. length v.items) c.self.view_is, framed_length hs ts) in
-    rw (← c.self.view_is) (header_changed (stale c.args.depth) hs ts c.args.index c.end_one.new.self c.index_mut.result.now d inside
-    (λ rows. c.end_one.ensures.frame rows ∙ ap (λ h. stale c.args.depth (frame_with h rows)) c.index_mut.ensures.value))
-
-pub returns-clause-ended : goal.returns-clause-ended
-returns-clause-ended g c = λ d.
-    let hs = c.self.inside.headers.items in
-    let ts = c.self.inside.temps.items in
-    let inside : c.args.index < length hs = omega (arith, c.requires, ap (λ v. length v.items) c.self.view_is, framed_length hs ts) in
-    let is = framed_at hs ts c.args.index d c.index_mut.result.now inside ∙ ap (λ h. frame_with h (get_or ts c.args.index [])) (sym c.index_mut.ensures.value) in
-    rw (← c.self.view_is) (rw is (c.end_one.ensures.ended (get_or ts c.args.index [])))
-
-pub returns-clause-kept : goal.returns-clause-kept
-returns-clause-kept g c = λ d.
-    let hs = c.self.inside.headers.items in
-    let ts = c.self.inside.temps.items in
-    let inside : c.args.index < length hs = omega (arith, c.requires, ap (λ v. length v.items) c.self.view_is, framed_length hs ts) in
-    let is = framed_at hs ts c.args.index d c.index_mut.result.now inside ∙ ap (λ h. frame_with h (get_or ts c.args.index [])) (sym c.index_mut.ensures.value) in
-    rw (← c.self.view_is) (rw is (c.end_one.ensures.kept (get_or ts c.args.index [])))
-
-pub invariant_of-self : goal.invariant_of-self
-invariant_of-self g c = subst (λ n. length c.self.inside.temps.items ≤ n) (sym (length-set c.self.inside.headers.items c.args.index c.end_one.new.self)) c.self.invariant
+    let i = c.args.index in
+    let h = c.header_at.result.now in
+    let inside : i < length hs = inside_all hs ts _ i (ap (λ v. v.items) c.self.view_is) c.requires in
+    let there = subst (λ v. get_or v.items i d ≡ frame_with h (get_or v.items i d).temps) (sym c.self.view_is) (c.header_at.ensures d) in
+    rw (← c.self.view_is)
+    (ap (λ all. framed all ts) (own_set c.own_index-own.new.lowest c.own_index-own.new.headers.items hs i c.own_index-own.result c.end_one.new.self c.own_index-own.ensures.all c.own_index-own.ensures.index)
+    ∙ header_put (stale c.args.depth) hs ts i c.end_one.new.self h d inside c.end_one.ensures.frame there)

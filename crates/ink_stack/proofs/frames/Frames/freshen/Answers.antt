@@ -1,18 +1,28 @@
-use Rattle.std.proofs.Common.{◌<◌, true, ap, arith, length, ◌≤◌, length-set, subst, sym}
-use Rattle.ink_stack.proofs.Common.{with_fresh, frame_with}
-use Rattle.ink_stack.proofs.Flat.{framed_length, header_changed}
+use Rattle.std.proofs.Common.{◌∙◌, ◌<◌, ◌++◌, true, ap, arith, length}
+use Rattle.ink_stack.proofs.Common.{with_fresh, frame_with, framed}
+use Rattle.ink_stack.proofs.Flat.{header_changed}
+use Rattle.ink_stack.proofs.Sharing.{inside_all, own_got, own_inside, own_set}
 use Rattle.ink_stack.proofs.frames.Frames.freshen.Goals as goal
 
 pub index_mut-requires : goal.index_mut-requires
-index_mut-requires g c = omega (arith, c.requires, ap (λ v. length v.items) c.self.view_is, framed_length c.self.inside.headers.items c.self.inside.temps.items, c.self.inside.headers.ok.0)
+index_mut-requires g c =
+    let hs = c.self.inside.lowest ++ c.self.inside.headers.items in
+    let inside : c.args.index < length hs = inside_all hs c.self.inside.temps.items _ c.args.index (ap (λ v. v.items) c.self.view_is) c.requires in
+    omega (arith, own_inside c.own_index-own.new.lowest c.own_index-own.new.headers.items hs c.args.index c.own_index-own.result c.own_index-own.ensures.all c.own_index-own.ensures.index inside, c.own_index-own.new.headers.ok.0)
 
 pub returns-clause-items : goal.returns-clause-items
 returns-clause-items g c = λ d.
-    let hs = c.self.inside.headers.items in
+    let hs = c.self.inside.lowest ++ c.self.inside.headers.items in
     let ts = c.self.inside.temps.items in
-    let inside : c.args.index < length hs = omega (arith, c.requires, ap (λ v. length v.items) c.self.view_is, framed_length hs ts) in
-    rw (← c.self.view_is) (header_changed (with_fresh true) hs ts c.args.index (record c.index_mut.result.now { fresh = true }) c.index_mut.result.now d inside
-    (λ rows. ap (λ h. with_fresh true (frame_with h rows)) c.index_mut.ensures.value))
-
-pub invariant_of-self : goal.invariant_of-self
-invariant_of-self g c = subst (λ n. length c.self.inside.temps.items ≤ n) (sym (length-set c.self.inside.headers.items c.args.index (record c.index_mut.result.now { fresh = true }))) c.self.invariant
+    let i = c.args.index in
+    let ls = c.own_index-own.new.lowest in
+    let own = c.own_index-own.new.headers.items in
+    let k = c.own_index-own.result in
+    let e = c.index_mut.result.now in
+    let all = c.own_index-own.ensures.all in
+    let at = c.own_index-own.ensures.index in
+    let inside : i < length hs = inside_all hs ts _ i (ap (λ v. v.items) c.self.view_is) c.requires in
+    let was = c.index_mut.ensures.value ∙ own_got ls own hs i k e all at in
+    rw (← c.self.view_is)
+    (ap (λ gs. framed gs ts) (own_set ls own hs i k (record e { fresh = true }) all at)
+    ∙ header_changed (with_fresh true) hs ts i (record e { fresh = true }) e d inside (λ rows. ap (λ h. with_fresh true (frame_with h rows)) was))

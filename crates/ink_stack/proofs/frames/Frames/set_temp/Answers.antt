@@ -1,4 +1,4 @@
-use Rattle.std.proofs.Common.{rules, ◌≡◌, ◌∙◌, ◌<◌, ◌+◌, ◌-◌, ap, arith, false, get_or, length, length-set, nat_lt, set, sym, subst, ◌≤◌, vec_capacity}
+use Rattle.std.proofs.Common.{◌++◌, rules, ◌≡◌, ◌∙◌, ◌<◌, ◌+◌, ◌-◌, ap, arith, false, get_or, length, length-set, nat_lt, set, sym, subst, ◌≤◌, vec_capacity}
 use Rattle.ink_stack.proofs.Common.{nat_tests, IfOk-weaker, err_from_is_err_and, on_err_weaker, on_ok_weaker, name_order, row, with_row, framed, text_of}
 use Rattle.std.proofs.lemmas.List.{length-append, length-replicate, set-get_or}
 use Rattle.ink_stack.proofs.Flat.{framed_length, rows_past, temps_at, temps_filled, temps_put, temps_restored, temps_were, filled_past}
@@ -7,12 +7,14 @@ use Rattle.ink_stack.proofs.frames.Frames.set_temp.Goals as goal
 
 pub overflow_add-index : goal.overflow_add-index
 overflow_add-index g c =
-    let inside : c.args.index < length c.self.inside.headers.items = omega (arith, c.requires, ap (λ v. length v.items) c.self.view_is, framed_length c.self.inside.headers.items c.self.inside.temps.items) in
+    let hs = c.self.inside.lowest ++ c.self.inside.headers.items in
+    let inside : c.args.index < length hs = omega (arith, c.requires, ap (λ v. length v.items) c.self.view_is, framed_length hs c.self.inside.temps.items) in
+    let most = c.self.invariant.1 in
     search rules
 
 pub returns-in_err-fill_up-clause-memory : goal.returns-in_err-fill_up-clause-memory
 returns-in_err-fill_up-clause-memory g c = λ d.
-    let hs = c.self.inside.headers.items in
+    let hs = c.self.inside.lowest ++ c.self.inside.headers.items in
     let ts = c.self.inside.temps.items in
     let i = c.args.index in
     let inside : i < length hs = omega (arith, c.requires, ap (λ v. length v.items) c.self.view_is, framed_length hs ts) in
@@ -22,32 +24,32 @@ returns-in_err-fill_up-clause-memory g c = λ d.
 
 pub invariant_of-self-2 : goal.invariant_of-self-2
 invariant_of-self-2 g c =
-    let hs = c.self.inside.headers.items in
+    let hs = c.self.inside.lowest ++ c.self.inside.headers.items in
     let ts = c.self.inside.temps.items in
     let i = c.args.index in
     let inside : i < length hs = omega (arith, c.requires, ap (λ v. length v.items) c.self.view_is, framed_length hs ts) in
     let more : length c.fill_up.new.temps.items ≡ length ts + (i + 1 - length ts) = ap length c.in_ok-fill_up.ensures.ok ∙ length-append ts _ ∙ ap (λ k. length ts + k) (length-replicate (i + 1 - length ts) _) in
-    omega (arith, more, inside, c.self.invariant, length-set c.fill_up.new.temps.items i c.set.new.self)
+    (omega (arith, more, inside, c.self.invariant.0, length-set c.fill_up.new.temps.items i c.set.new.self), c.self.invariant.1)
 
 pub returns-clause-ok : goal.returns-clause-ok
 returns-clause-ok g c = λ d.
-    let hs = c.self.inside.headers.items in
+    let hs = c.self.inside.lowest ++ c.self.inside.headers.items in
     let ts = c.self.inside.temps.items in
     let filled = c.fill_up.new.temps.items in
     let i = c.args.index in
     let n = i + 1 - length ts in
     let inside : i < length hs = omega (arith, c.requires, ap (λ v. length v.items) c.self.view_is, framed_length hs ts) in
     let more : length filled ≡ length ts + n = ap length c.in_ok-fill_up.ensures.ok ∙ length-append ts _ ∙ ap (λ k. length ts + k) (length-replicate n _) in
-    let were = temps_were hs ts filled n i c.index_mut.result.now d c.in_ok-fill_up.ensures.ok (omega arith) (omega (arith, c.self.invariant)) in
+    let were = temps_were hs ts filled n i c.index_mut.result.now d c.in_ok-fill_up.ensures.ok (omega arith) (omega (arith, c.self.invariant.0)) in
     rw (← c.self.view_is)
     (on_ok_weaker c.set.result
-    (λ made. temps_put hs ts filled n i c.set.new.self d c.in_ok-fill_up.ensures.ok (omega arith) (omega (arith, c.self.invariant))
+    (λ made. temps_put hs ts filled n i c.set.new.self d c.in_ok-fill_up.ensures.ok (omega arith) (omega (arith, c.self.invariant.0))
     ∙ ap (λ rows. set (framed hs ts) i (record (get_or (framed hs ts) i d) { temps = rows })) (made ∙ ap (with_row name_order (text_of c.args.name) c.args.value) (c.index_mut.ensures.value ∙ were)))
     c.set.ensures.ok)
 
 pub returns-clause-err : goal.returns-clause-err
 returns-clause-err g c =
-    let hs = c.self.inside.headers.items in
+    let hs = c.self.inside.lowest ++ c.self.inside.headers.items in
     let ts = c.self.inside.temps.items in
     let filled = c.fill_up.new.temps.items in
     let i = c.args.index in
@@ -59,37 +61,40 @@ returns-clause-err g c =
 
 pub returns-clause-memory : goal.returns-clause-memory
 returns-clause-memory g c = λ d.
-    let hs = c.self.inside.headers.items in
+    let hs = c.self.inside.lowest ++ c.self.inside.headers.items in
     let ts = c.self.inside.temps.items in
     let filled = c.fill_up.new.temps.items in
     let i = c.args.index in
     let n = i + 1 - length ts in
     let inside : i < length hs = omega (arith, c.requires, ap (λ v. length v.items) c.self.view_is, framed_length hs ts) in
     let more : length filled ≡ length ts + n = ap length c.in_ok-fill_up.ensures.ok ∙ length-append ts _ ∙ ap (λ k. length ts + k) (length-replicate n _) in
-    let were = temps_were hs ts filled n i c.index_mut.result.now d c.in_ok-fill_up.ensures.ok (omega arith) (omega (arith, c.self.invariant)) in
+    let were = temps_were hs ts filled n i c.index_mut.result.now d c.in_ok-fill_up.ensures.ok (omega arith) (omega (arith, c.self.invariant.0)) in
     rw (← c.self.view_is)
     (on_err_weaker c.set.result (λ absent. ap (row name_order (text_of c.args.name)) (sym (c.index_mut.ensures.value ∙ were)) ∙ absent) c.set.ensures.memory)
 
 pub returns-clause-back : goal.returns-clause-back
 returns-clause-back g c = λ d.
-    let hs = c.self.inside.headers.items in
+    let hs = c.self.inside.lowest ++ c.self.inside.headers.items in
     let ts = c.self.inside.temps.items in
     let filled = c.fill_up.new.temps.items in
     let i = c.args.index in
     let n = i + 1 - length ts in
     let inside : i < length hs = omega (arith, c.requires, ap (λ v. length v.items) c.self.view_is, framed_length hs ts) in
     let more : length filled ≡ length ts + n = ap length c.in_ok-fill_up.ensures.ok ∙ length-append ts _ ∙ ap (λ k. length ts + k) (length-replicate n _) in
-    let were = temps_were hs ts filled n i c.index_mut.result.now d c.in_ok-fill_up.ensures.ok (omega arith) (omega (arith, c.self.invariant)) in
+    let were = temps_were hs ts filled n i c.index_mut.result.now d c.in_ok-fill_up.ensures.ok (omega arith) (omega (arith, c.self.invariant.0)) in
     rw (← c.self.view_is)
     (IfOk-weaker c.set.result _ _
-    (λ was back. temps_restored hs ts filled n i was.0 c.set.new.self was.1 d c.in_ok-fill_up.ensures.ok (omega arith) (omega (arith, c.self.invariant)) (back ∙ c.index_mut.ensures.value ∙ were))
+    (λ was back. temps_restored hs ts filled n i was.0 c.set.new.self was.1 d c.in_ok-fill_up.ensures.ok (omega arith) (omega (arith, c.self.invariant.0)) (back ∙ c.index_mut.ensures.value ∙ were))
     c.set.ensures.back)
 
 pub index_mut-requires : goal.index_mut-requires
 index_mut-requires g c = subst (λ n. c.args.index < n) (sym c.fill_up.new.temps.ok.0) (filled_past c.self.inside.temps.items c.fill_up.new.temps.items c.args.index c.in_ok-fill_up.ensures.ok)
 
 pub invariant_of-self : goal.invariant_of-self
-invariant_of-self g c = subst (λ ts. length ts ≤ length c.self.inside.headers.items) (sym c.in_err-fill_up.ensures.err) c.self.invariant
+invariant_of-self g c = (
+  subst (λ ts. length ts ≤ length (c.self.inside.lowest ++ c.self.inside.headers.items)) (sym c.in_err-fill_up.ensures.err) c.self.invariant.0,
+  c.self.invariant.1,
+)
 
 pub returns-clause-room : goal.returns-clause-room
 returns-clause-room g c = rw (← c.self.view_is) (record { frames = le_refl (vec_capacity c.self.inside.headers); temps = c.fill_up.ensures.room })

@@ -7,7 +7,7 @@ use Rattle.ink_stack.proofs.threads.Threads.push_thread.Goals as goal
 pub returns-then-is_marked : goal.returns-then-is_marked
 returns-then-is_marked g c =
     let e = c.push_thread_marked.ensures in
-    record { threads = e.threads; trail = e.trail; stood = e.stood; spare = e.spare }
+    rw (← c.share_frames.ensures) (record { threads = e.threads; trail = e.trail; stood = e.stood; spare = e.spare })
 
 pub invariant_of-self : goal.invariant_of-self
 invariant_of-self g c =
@@ -27,4 +27,4 @@ returns g c =
     let pushed = c.push_copy.result in
     let threads = c.push_copy.ensures.threads in
     let trail = trails-grown 1 (doubled ts) ts _ pushed c.self.inside.trail (sym c.is_marked.ensures ∙ c.if-is_marked.false) threads in
-    rw (← c.self.view_is) (record { threads = threads; trail = trail; stood = stood-or pushed 1 _ _ trail; spare = spare-or pushed 1 _ _ trail })
+    rw (← c.share_frames.ensures) (rw (← c.self.view_is) (record { threads = threads; trail = trail; stood = stood-or pushed 1 _ _ trail; spare = spare-or pushed 1 _ _ trail }))

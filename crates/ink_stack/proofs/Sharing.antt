@@ -1,0 +1,62 @@
+-- Frames by their headers, of which the lowest are shared.
+use Rattle.std.proofs.Common.{◌≡◌, ◌∙◌, ◌<◌, ◌≤◌, ◌+◌, ◌-◌, ℕ, List, [], ◌∷◌, ◌++◌, ap, append_assoc, arith, get_or, length, refl, set, sym}
+use Rattle.std.proofs.lemmas.List.{get_or-append_right, get_or_append_left, length-append, set-append_right}
+use Rattle.ink_stack.proofs.Common.{FrameOf, Values}
+use Rattle.ink_stack.proofs.Flat.{framed_length, header_set, framed_at, temps_at}
+use Rattle.ink_stack.specs.Frames.{frame_with, framed}
+use Rattle.ink_stack.specs.declared.frame.Header.{Header}
+
+module _ {P : Type 0} where
+  -- how many there are
+  pub counted : (ls own : List (Header P)) (ts : List Values) (m n : ℕ) → m ≡ length ls → n ≡ length own → m + n ≡ length (framed (ls ++ own) ts)
+  counted ls own ts m n first second = omega (arith, first, second, length-append ls own, framed_length (ls ++ own) ts)
+
+  pub all_counted : (ls own : List (Header P)) (ts : List Values) (fs : List (FrameOf P)) (n : ℕ) → framed (ls ++ own) ts ≡ fs → n ≡ length fs → n ≡ length ls + length own
+  all_counted ls own ts fs n is h = omega (arith, h, ap length is, length-append ls own, framed_length (ls ++ own) ts)
+
+  pub inside_all : (hs : List (Header P)) (ts : List Values) (fs : List (FrameOf P)) (i : ℕ) → framed hs ts ≡ fs → i < length fs → i < length hs
+  inside_all hs ts fs i is h = omega (arith, framed_length hs ts, ap length is, h)
+
+  -- the header at an index is that of the frame there
+  pub header_shared : (ls own : List (Header P)) (ts : List Values) (i n : ℕ) (d : FrameOf P) (x : Header P) → n ≡ length ls → i < n → x ≡ get_or ls i x
+      → get_or (framed (ls ++ own) ts) i d ≡ frame_with x (get_or (framed (ls ++ own) ts) i d).temps
+  header_shared ls own ts i n d x is below there =
+      let inside : i < length (ls ++ own) = omega (arith, is, below, length-append ls own) in
+      framed_at (ls ++ own) ts i d x inside ∙ ap (λ h. frame_with h (get_or ts i [])) (get_or_append_left ls own x i (omega (arith, is, below)) ∙ sym there)
+      ∙ ap (λ rows. frame_with x rows) (sym (temps_at (ls ++ own) ts i d inside))
+
+  pub header_own : (ls own : List (Header P)) (ts : List Values) (i n : ℕ) (d : FrameOf P) (x : Header P) → n ≡ length ls → n ≤ i → i < length (ls ++ own) → x ≡ get_or own (i - n) x
+      → get_or (framed (ls ++ own) ts) i d ≡ frame_with x (get_or (framed (ls ++ own) ts) i d).temps
+  header_own ls own ts i n d x is above inside there =
+      framed_at (ls ++ own) ts i d x inside ∙ ap (λ h. frame_with h (get_or ts i [])) (get_or-append_right ls own n i x (sym is) above ∙ sym there)
+      ∙ ap (λ rows. frame_with x rows) (sym (temps_at (ls ++ own) ts i d inside))
+
+  -- the index among those that are not shared
+  pub own_inside : (ls own hs : List (Header P)) (i k : ℕ) → ls ++ own ≡ hs → length ls + k ≡ i → i < length hs → k < length own
+  own_inside ls own hs i k all at inside = omega (arith, ap length all, length-append ls own, at, inside)
+
+  pub own_set : (ls own hs : List (Header P)) (i k : ℕ) (x : Header P) → ls ++ own ≡ hs → length ls + k ≡ i → ls ++ set own k x ≡ set hs i x
+  own_set ls own hs i k x all at =
+      let same : i - length ls ≡ k = omega (arith, at) in
+      ap (λ j. ls ++ set own j x) (sym same) ∙ sym (set-append_right ls own (length ls) i x refl (omega (arith, at))) ∙ ap (λ gs. set gs i x) all
+
+  pub own_got : (ls own hs : List (Header P)) (i k : ℕ) (e : Header P) → ls ++ own ≡ hs → length ls + k ≡ i → get_or own k e ≡ get_or hs i e
+  own_got ls own hs i k e all at =
+      let same : i - length ls ≡ k = omega (arith, at) in
+      ap (λ j. get_or own j e) (sym same) ∙ sym (get_or-append_right ls own (length ls) i e refl (omega (arith, at))) ∙ ap (λ gs. get_or gs i e) all
+
+  -- another header in the place of one
+  pub header_put : (change : FrameOf P → FrameOf P) (hs : List (Header P)) (ts : List Values) (i : ℕ) (x h : Header P) (d : FrameOf P) → i < length hs
+      → ((rows : Values) → frame_with x rows ≡ change (frame_with h rows)) → get_or (framed hs ts) i d ≡ frame_with h (get_or (framed hs ts) i d).temps
+      → framed (set hs i x) ts ≡ set (framed hs ts) i (change (get_or (framed hs ts) i d))
+  header_put change hs ts i x h d inside made is =
+      header_set hs ts i x
+      ∙ ap (λ f. set (framed hs ts) i f) (ap (λ rows. frame_with x rows) (sym (temps_at hs ts i d inside)) ∙ made (get_or (framed hs ts) i d).temps ∙ ap change (sym is))
+
+  -- a copy of both
+  pub both_are : (lowest ls headers own : List (Header P)) → lowest ≡ ls → headers ≡ own → lowest ++ headers ≡ ls ++ own
+  both_are lowest ls headers own first second = ap (λ hs. hs ++ headers) first ∙ ap (λ hs. ls ++ hs) second
+
+  -- one more
+  pub own_more : (ls own new : List (Header P)) (x : Header P) → new ≡ own ++ x ∷ [] → ls ++ new ≡ (ls ++ own) ++ x ∷ []
+  own_more ls own new x is = ap (λ hs. ls ++ hs) is ∙ sym (append_assoc ls own (x ∷ []))
