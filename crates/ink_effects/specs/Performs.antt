@@ -1,14 +1,14 @@
 -- What performing a content does, beside its effect.
-use Rattle.std.specs.Prelude.{◌≡◌, ◌⊎◌, ⊤, ℕ, List, length, map, Bool, true, false, Option, Some, None, is_some, option_map, Result, Ok, Err}
+use Rattle.std.specs.Prelude.{◌≡◌, ⊤, ℕ, List, length, map, Bool, true, false, Option, Some, None, is_some, option_map, Result, Ok, Err}
 use Rattle.ink_model.specs.Run.Configuration.{ChoiceOf, map_choice, with_globals}
 use Rattle.ink_model.specs.Run.Effect.{Fields, Effect, Landing as Goal, Moves, Stores, Offers, Lands, Calls, Returns, Forks, Done, Ends, Fails}
 use Rattle.ink_model.specs.Flow.Frames.{FrameOf, ThreadOf, ThreadsOf, fresh_depth, map_threads, mode_in, on_top}
+use Rattle.ink_model.specs.Memory.Refusals.{ByRule, LacksMemory}
 use Rattle.ink_model.specs.Run.Move.{Outcome, Next, Stop}
 use Rattle.ink_model.specs.Text.Page.{Page}
 use Rattle.ink_model.specs.Variables.Store.{Values, store, stored}
 use Rattle.ink_model.specs.Story.Tree.{StoryTree}
 use Rattle.ink_model.specs.declared.fault.Fault.{Fault}
-use Rattle.ink_model.specs.declared.fault.Fault.TheVariants.{OutOfMemory}
 use Rattle.ink_model.specs.declared.value.Value.{Value}
 use Rattle.ink_model.specs.declared.place.Part.{Part}
 use Rattle.ink_effects.specs.declared.transfer.Landing.{Landing}
@@ -46,24 +46,31 @@ abbrev pub led_back_as : StoryTree → Result (Option Landing) Fault → Result 
 led_back_as s (Ok to) = Ok (option_map (landing_of s) to)
 led_back_as s (Err f) = Err f
 
--- Performing has an effect: it leaves the effect's fields, but for the end of freshness that a text makes, and for a global that
--- is stored last, which asks for memory where it is new; or it is its fault. Where it asks for memory it may be OutOfMemory
--- instead. Temporaries are stored at once (`stored_by`).
+-- an effect, or its fault
+abbrev pub effect_result : Effect → Result Effect Fault
+effect_result (Fails g) = Err g
+effect_result e = Ok e
+
+-- Performing that leaves this transfer has the effect: it leaves the effect's fields, but for the end of freshness that a text
+-- makes, and for a global that is stored last, which asks for memory where it is new. Temporaries are stored at once
+-- (`stored_by`).
+abbrev pub HasEffect : StoryTree → Bool → Fields → Effect → Transfer → Type 0
+HasEffect s asks new (Moves f) transfer.Next = new ≡ f
+HasEffect s asks new (Moves f) transfer.Wrote = f ≡ with_text new
+HasEffect s asks new (Stores t f) transfer.Next = new ≡ f
+HasEffect s asks new (Stores t f) (transfer.Store a) = (f ≡ record new { globals = store (name_of a.name) a.value new.globals }) × (is_some (stored (name_of a.name) new.globals) ≡ false → asks ≡ true)
+HasEffect s asks new (Offers choices f) transfer.Next = new ≡ f
+HasEffect s asks new (Lands l f) (transfer.Land to) = (l ≡ landing_of s to) × (new ≡ f)
+HasEffect s asks new (Calls k l f) (transfer.Call kind to) = (k ≡ frame_kind kind) × (l ≡ landing_of s to) × (new ≡ f)
+HasEffect s asks new (Returns k to f) (transfer.Return kind back) = (k ≡ kind) × (to ≡ option_map (landing_of s) back) × (new ≡ f)
+HasEffect s asks new (Forks f) transfer.Fork = new ≡ f
+HasEffect s asks new (Done f) transfer.Done = new ≡ f
+HasEffect s asks new (Ends f) transfer.End = new ≡ f
+HasEffect s asks new e t = ⊥
+
+-- Performing has an effect, or is its fault. Where it asks for memory it may be OutOfMemory instead.
 abbrev pub Performs : StoryTree → Bool → Effect → Fields → Result Transfer Fault → Type 0
-Performs s asks (Moves f) new (Ok transfer.Next) = new ≡ f
-Performs s asks (Moves f) new (Ok transfer.Wrote) = f ≡ with_text new
-Performs s asks (Stores t f) new (Ok transfer.Next) = new ≡ f
-Performs s asks (Stores t f) new (Ok (transfer.Store a)) = (f ≡ record new { globals = store (name_of a.name) a.value new.globals }) × (is_some (stored (name_of a.name) new.globals) ≡ false → asks ≡ true)
-Performs s asks (Offers choices f) new (Ok transfer.Next) = new ≡ f
-Performs s asks (Lands l f) new (Ok (transfer.Land to)) = (l ≡ landing_of s to) × (new ≡ f)
-Performs s asks (Calls k l f) new (Ok (transfer.Call kind to)) = (k ≡ frame_kind kind) × (l ≡ landing_of s to) × (new ≡ f)
-Performs s asks (Returns k to f) new (Ok (transfer.Return kind back)) = (k ≡ kind) × (to ≡ option_map (landing_of s) back) × (new ≡ f)
-Performs s asks (Forks f) new (Ok transfer.Fork) = new ≡ f
-Performs s asks (Done f) new (Ok transfer.Done) = new ≡ f
-Performs s asks (Ends f) new (Ok transfer.End) = new ≡ f
-Performs s asks (Fails g) new (Err f) = (f ≡ g) ⊎ ((f ≡ OutOfMemory) × (asks ≡ true))
-Performs s asks e new (Err f) = (f ≡ OutOfMemory) × (asks ≡ true)
-Performs s asks e new result = ⊥
+Performs s asks e new result = ByRule (LacksMemory asks) (HasEffect s asks new) (λ why. why) (effect_result e) result
 
 -- the thread that runs, with the temporaries of an effect
 abbrev pub stored_by : Effect → ThreadOf (List Part) → ThreadOf (List Part)

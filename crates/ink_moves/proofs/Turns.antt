@@ -3,11 +3,11 @@ use Rattle.std.proofs.Common.{◌≡◌, ◌∙◌, ap, is_ok, sym, subst, refl,
 use Rattle.ink_model.specs.Flow.Transfers.{Written, Reached, Reaches, Halts, Breaks, depth_of, leave_for, moved_on, on_page, or_breaks, reach, thread_of, void_for}
 use Rattle.ink_model.specs.Flow.Frames.{FrameOf, ThreadOf, ThreadsOf, gone, map_threads}
 use Rattle.ink_model.specs.Memory.Moves.{moved_asks}
+use Rattle.ink_model.specs.Memory.Refusals.{LacksMemory}
 use Rattle.ink_model.specs.Text.Output.{ends_function}
 use Rattle.ink_model.specs.Text.Page.{Page}
 use Rattle.ink_model.specs.Flow.Threads.{frame_popped}
 use Rattle.ink_model.specs.declared.fault.Fault.{Fault}
-use Rattle.ink_model.specs.declared.fault.Fault.TheVariants.{OutOfMemory}
 use Rattle.ink_model.specs.declared.frame.FrameKind.TheVariants.{Function}
 use Rattle.ink_moves.specs.Reaches.{PassesAs, ReachesAs, off_function, left_asks, void_given}
 use Rattle.ink_moves.specs.declared.flow.StepEnd.{StepEnd}
@@ -69,7 +69,7 @@ more_asks few many more (Breaks g) ts w (Err f) (inr h) = inr (h.0, more h.1)
 more_asks few many more m ts w (Err f) h = (h.0, more h.1)
 
 -- memory was refused
-pub refused : {P : Type 0} (asks : Bool) (m : Reached P) (ts : ThreadsOf P) (w : Written) (f : Fault) → (f ≡ OutOfMemory) × (asks ≡ true) → ReachesAs asks m ts w (Err f)
+pub refused : {P : Type 0} (asks : Bool) (m : Reached P) (ts : ThreadsOf P) (w : Written) (f : Fault) → LacksMemory asks f → ReachesAs asks m ts w (Err f)
 refused asks (Breaks g) ts w f h = inr h
 refused asks m ts w f h = h
 

@@ -1,11 +1,11 @@
 -- How flow goes on, beside the definitions: its results, and where memory may be refused on the way.
-use Rattle.std.specs.Prelude.{◌≡◌, ◌⊎◌, Bool, true, false, Result, Ok, Err}
+use Rattle.std.specs.Prelude.{◌≡◌, Bool, true, false, Result, Ok, Err}
 use Rattle.ink_model.specs.Flow.Transfers.{Written, Reached, Reaches, Halts, Breaks, depth_of, enter_for, leave_for, number_for, or_breaks, void_for}
 use Rattle.ink_model.specs.Flow.Frames.{FrameOf, ThreadOf, ThreadsOf}
 use Rattle.ink_model.specs.Memory.Moves.{has_end_room}
+use Rattle.ink_model.specs.Memory.Refusals.{ByRule, LacksMemory}
 use Rattle.ink_model.specs.Flow.Threads.{frame_popped}
 use Rattle.ink_model.specs.declared.fault.Fault.{Fault}
-use Rattle.ink_model.specs.declared.fault.Fault.TheVariants.{OutOfMemory}
 use Rattle.ink_model.specs.declared.frame.FrameKind.{FrameKind}
 use Rattle.ink_model.specs.declared.frame.FrameKind.TheVariants.{Function}
 use Rattle.ink_out.specs.Writing.{Writing}
@@ -22,22 +22,26 @@ abbrev pub went : StepEnd → Bool
 went ends.Went = true
 went end = false
 
+-- where flow is, or the fault that came
+abbrev pub reached_result : {P : Type 0} → Reached P → Result (Reached P) Fault
+reached_result (Breaks g) = Err g
+reached_result r = Ok r
+
+-- flow went on there, or stopped there
+abbrev pub Arrives : {P : Type 0} → ThreadsOf P → Written → Reached P → StepEnd → Type 0
+Arrives threads written (Reaches ts w) ends.Went = (threads ≡ ts) × (written ≡ w)
+Arrives threads written (Halts ts w) ends.Stopped = (threads ≡ ts) × (written ≡ w)
+Arrives threads written r end = ⊥
+
 -- Flow went where the definition says. Where it asks for memory, it may have faulted with OutOfMemory instead.
 abbrev pub ReachesAs : {P : Type 0} → Bool → Reached P → ThreadsOf P → Written → Result StepEnd Fault → Type 0
-ReachesAs asks (Reaches ts w) threads written (Ok ends.Went) = (threads ≡ ts) × (written ≡ w)
-ReachesAs asks (Halts ts w) threads written (Ok ends.Stopped) = (threads ≡ ts) × (written ≡ w)
-ReachesAs asks (Breaks g) threads written (Err f) = (f ≡ g) ⊎ ((f ≡ OutOfMemory) × (asks ≡ true))
-ReachesAs asks r threads written (Err f) = (f ≡ OutOfMemory) × (asks ≡ true)
-ReachesAs asks r threads written result = ⊥
+ReachesAs asks r threads written result = ByRule (LacksMemory asks) (Arrives threads written) (λ why. why) (reached_result r) result
 
 -- ---- frames that are pushed and popped
 
 -- The same of a call that changes threads, and what is written to, on the way.
 abbrev pub PassesAs : {P : Type 0} → Bool → Result (ThreadsOf P × Written) Fault → ThreadsOf P → Written → Result (Unit {0}) Fault → Type 0
-PassesAs asks (Ok r) threads written (Ok u) = (threads ≡ r.0) × (written ≡ r.1)
-PassesAs asks (Ok r) threads written (Err f) = (f ≡ OutOfMemory) × (asks ≡ true)
-PassesAs asks (Err g) threads written (Ok u) = ⊥
-PassesAs asks (Err g) threads written (Err f) = (f ≡ g) ⊎ ((f ≡ OutOfMemory) × (asks ≡ true))
+PassesAs asks rule threads written result = ByRule (LacksMemory asks) (λ r u. (threads ≡ r.0) × (written ≡ r.1)) (λ why. why) rule result
 
 -- a frame that can be popped asks for memory where it is a function's, whose mark has room
 abbrev pub left_asks : {P : Type 0} → FrameKind → Result (ThreadOf P) Fault → FrameOf P → Written → Bool

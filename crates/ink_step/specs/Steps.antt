@@ -4,7 +4,7 @@ use Rattle.ink_model.specs.Choices.Choosing.{chosen}
 use Rattle.ink_model.specs.Run.Configuration.{ChoiceOf, Configuration}
 use Rattle.ink_model.specs.Host.Events.{calls}
 use Rattle.ink_model.specs.Host.Bindings.{Bound, turn_function}
-use Rattle.ink_model.specs.Memory.Refusals.{OpensShort, answered_asks}
+use Rattle.ink_model.specs.Memory.Refusals.{ByRule, LacksMemory, OpensShort, answered_asks}
 use Rattle.ink_model.specs.Run.Move.{Outcome, Next, Stop, Faults}
 use Rattle.ink_model.specs.Run.Opening.{opening}
 use Rattle.ink_model.specs.Run.Moments.{answered}
@@ -23,14 +23,21 @@ use Rattle.ink_effects.specs.External.{made_call}
 use Rattle.ink_moves.specs.declared.flow.StepEnd.{StepEnd}
 use Rattle.ink_moves.specs.declared.flow.StepEnd.TheVariants as ends
 
+-- an outcome, or its fault
+abbrev pub outcome_result : Outcome → Result Outcome Fault
+outcome_result (Faults g) = Err g
+outcome_result outcome = Ok outcome
+
+-- a step that went on, or stopped, leaves the configuration of its outcome
+abbrev pub HasOutcome : Configuration → Outcome → StepEnd → Type 0
+HasOutcome new (Next c) ends.Went = new ≡ c
+HasOutcome new (Stop c) ends.Stopped = new ≡ c
+HasOutcome new outcome end = ⊥
+
 -- A step ends as its outcome says; where it asks for memory, it may end with OutOfMemory instead. A fault leaves the globals
 -- as they were.
 abbrev pub StepEnds : Bool → Outcome → Values → Configuration → Result StepEnd Fault → Type 0
-StepEnds asks (Next c) globals new (Ok ends.Went) = new ≡ c
-StepEnds asks (Stop c) globals new (Ok ends.Stopped) = new ≡ c
-StepEnds asks (Faults g) globals new (Err f) = ((f ≡ g) ⊎ ((f ≡ OutOfMemory) × (asks ≡ true))) × (new.shared.globals ≡ globals)
-StepEnds asks outcome globals new (Err f) = ((f ≡ OutOfMemory) × (asks ≡ true)) × (new.shared.globals ≡ globals)
-StepEnds asks outcome globals new result = ⊥
+StepEnds asks outcome globals new result = ByRule (LacksMemory asks) (HasOutcome new) (λ why. why × (new.shared.globals ≡ globals)) (outcome_result outcome) result
 
 -- a turn function is to be called
 abbrev pub wants : Stepped → Bool

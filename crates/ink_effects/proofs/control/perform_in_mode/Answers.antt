@@ -4,6 +4,33 @@ use Rattle.ink_model.specs.Flow.Frames.{fresh_depth}
 use Rattle.ink_effects.specs.Standing.{rest_in}
 use Rattle.ink_effects.proofs.control.perform_in_mode.Goals as goal
 
+pub returns-in-BeginEval-clause-effect : goal.returns-in-BeginEval-clause-effect
+returns-in-BeginEval-clause-effect c globals = search (rules, c.begin_eval.ensures (fresh_depth c.args.flow.now.threads.threads.thread.frame) c.args.flow.now.stack.items c.args.output.now.page globals (story_tree c.args.story.now), c.requires.on)
+
+pub returns-in-EndEval-clause-effect : goal.returns-in-EndEval-clause-effect
+returns-in-EndEval-clause-effect c globals = search (rules, c.end_eval.ensures (fresh_depth c.args.flow.now.threads.threads.thread.frame) c.args.flow.now.stack.items c.args.output.now.page globals (story_tree c.args.story.now), c.requires.on)
+
+pub returns-in-Out-clause-effect : goal.returns-in-Out-clause-effect
+returns-in-Out-clause-effect c globals = search (rules, c.output_top.ensures.effect c.args.evaluating.now globals (story_tree c.args.story.now), c.requires.on)
+
+pub returns-in-Pop-clause-effect : goal.returns-in-Pop-clause-effect
+returns-in-Pop-clause-effect c globals = search (rules, c.pop.ensures.effect c.args.evaluating.now (fresh_depth c.args.flow.now.threads.threads.thread.frame) c.args.output.now.page globals (story_tree c.args.story.now), c.requires.on)
+
+pub returns-in-Duplicate-clause-effect : goal.returns-in-Duplicate-clause-effect
+returns-in-Duplicate-clause-effect c globals = search (rules, c.duplicate.ensures.effect c.args.evaluating.now (fresh_depth c.args.flow.now.threads.threads.thread.frame) c.args.output.now.page globals (story_tree c.args.story.now), c.requires.on)
+
+pub returns-in-BeginString-clause-effect : goal.returns-in-BeginString-clause-effect
+returns-in-BeginString-clause-effect c globals = search (rules, c.begin_string.ensures.effect (fresh_depth c.args.flow.now.threads.threads.thread.frame) c.args.flow.now.stack.items globals (story_tree c.args.story.now), c.requires.on)
+
+pub returns-in-EndString-clause-effect : goal.returns-in-EndString-clause-effect
+returns-in-EndString-clause-effect c globals = search (rules, c.end_string.ensures.effect (fresh_depth c.args.flow.now.threads.threads.thread.frame) globals (story_tree c.args.story.now), c.requires.on)
+
+pub returns-in-BeginTag-clause-effect : goal.returns-in-BeginTag-clause-effect
+returns-in-BeginTag-clause-effect c globals = search (rules, c.begin_tag.ensures.effect c.args.evaluating.now (fresh_depth c.args.flow.now.threads.threads.thread.frame) globals (story_tree c.args.story.now), c.requires.on)
+
+pub returns-in-EndTag-clause-effect : goal.returns-in-EndTag-clause-effect
+returns-in-EndTag-clause-effect c globals = search (rules, c.end_tag.ensures.effect c.args.evaluating.now (fresh_depth c.args.flow.now.threads.threads.thread.frame) globals (story_tree c.args.story.now), c.requires.on)
+
 pub returns-in-Turn-clause-effect : goal.returns-in-Turn-clause-effect
 returns-in-Turn-clause-effect c globals =
     let s = story_tree c.args.story.now in

@@ -1,7 +1,8 @@
 use Rattle.std.proofs.Common.{◌≡◌, ◌||◌, ◌∙◌, Err, Ok, rules, subst, sym}
 use Rattle.ink_step.proofs.Common.{story_tree, default_asks, default_choice, following, following_asks, stopped_by, move, move_asks, pressed, unstored, StepEnds, config_of}
-use Rattle.ink_step.proofs.Follows.{ends_any, or_assoc}
-use Rattle.ink_step.proofs.Stopping.{broke, stopped_so}
+use Rattle.ink_step.proofs.Follows.{ends_any, never_wants, or_assoc}
+use Rattle.ink_step.proofs.Stopping.{broke, stopped_so, went_on}
+use Rattle.ink_moves.specs.declared.flow.StepEnd.TheVariants as ends
 use Rattle.ink_step.proofs.machine.Machine.go.Goals as goal
 
 pub returns-in_err-follow-clause-ends : goal.returns-in_err-follow-clause-ends
@@ -33,6 +34,27 @@ returns-in-Stopped-clause-ends c asks e performs has offers =
     let went = subst (λ end. StepEnds asking o machine.shared.globals.rows mid (Ok end)) c.in-Stopped.is stops in
     let follows = subst (λ vs. StepEnds (m || default_asks s choice mid) (stopped_by s choice mid) vs new c.follow_default.result) c.follow.ensures.globals c.follow_default.ensures.ends in
     stopped_so s m (asks || move_asks s e old) o machine.shared.globals.rows machine.shared.globals.rows mid new c.follow_default.result went follows
+
+pub returns-in-Went-clause-ends : goal.returns-in-Went-clause-ends
+returns-in-Went-clause-ends c asks e performs has offers =
+    let s = story_tree c.args.story.now in
+    let rows = c.args.self.now.shared.globals.rows in
+    let old = config_of s c.args.self.now in
+    let new = config_of s c.follow.new.self in
+    let o = move s (unstored rows e) old in
+    let asking = pressed s c.follow.new.self || (asks || move_asks s e old) in
+    let went = subst (λ end. StepEnds asking o rows new (Ok end)) c.in-Went.is (c.in_ok-follow.ensures.ends asks e performs has offers) in
+    ends_any _ _ (following s o) rows new ends.Went (went_on s asking o rows new went)
+
+pub returns-in-WantsCall-clause-ends : goal.returns-in-WantsCall-clause-ends
+returns-in-WantsCall-clause-ends c asks e performs has offers =
+    let s = story_tree c.args.story.now in
+    let rows = c.args.self.now.shared.globals.rows in
+    let old = config_of s c.args.self.now in
+    let new = config_of s c.follow.new.self in
+    let o = move s (unstored rows e) old in
+    let asking = pressed s c.follow.new.self || (asks || move_asks s e old) in
+    absurd (never_wants asking o rows new (subst (λ end. StepEnds asking o rows new (Ok end)) c.in-WantsCall.is (c.in_ok-follow.ensures.ends asks e performs has offers)))
 
 pub returns-in-Stopped-clause-mark : goal.returns-in-Stopped-clause-mark
 returns-in-Stopped-clause-mark c = c.follow_default.ensures.mark ∙ c.follow.ensures.mark
