@@ -29,7 +29,7 @@ pub enum Cause {
 }
 
 /// A refused story: why, and the place of what is wrong, which is the root where the whole is.
-#[derive(Drop)]
+#[derive(Debug, Drop, thiserror::Error)]
 pub struct ReadRefusal {
     pub cause: Cause,
     pub place: Place,
@@ -102,7 +102,7 @@ pub enum Refusal {
 }
 
 /// Why a command was not done: it was refused, and nothing has changed; or a fault ended it, with the events up to it.
-#[derive(Drop)]
+#[derive(Debug, Drop, thiserror::Error)]
 pub enum Halt {
     Refused(Refusal),
     Fault { fault: Fault, events: Seq<Event> },

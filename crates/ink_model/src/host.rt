@@ -11,7 +11,7 @@ use crate::value::Value;
 use std::alloc::{AllocError, AllocFailed, Global};
 
 /// What a host object answers, and what a global is given. A function may answer `Void`; a global is given none.
-#[derive(Drop)]
+#[derive(Debug, Drop)]
 pub enum Given {
     Int(i32),
     Bool(bool),
@@ -96,7 +96,7 @@ impl<T: Drop> From<AllocFailed<T>> for HostFault {
 
 /// What happened between a player and the objects of its host: a turn function was called and gave an answer, none where it
 /// refused; or a watcher saw the new value of a global. Stamps number all events of a player, from 0.
-#[derive(Drop)]
+#[derive(Debug, Drop)]
 pub enum Event {
     Call {
         name: Text,
@@ -112,7 +112,7 @@ pub enum Event {
 }
 
 /// A global that has another value than before, with the new one; also one that was not there.
-#[derive(Drop)]
+#[derive(Debug, Drop)]
 pub struct Change {
     pub name: Text,
     pub value: Value,

@@ -6,14 +6,14 @@ use crate::shared::Shared;
 use crate::text::Text;
 
 /// A choice as it is shown.
-#[derive(Drop)]
+#[derive(Debug, Drop)]
 pub struct Shown {
     pub text: Text,
     pub tags: Seq<Shared<Text>>,
 }
 
 /// What a running command shows, in the order of the story.
-#[derive(Drop)]
+#[derive(Debug, Drop)]
 pub struct Passage {
     pub text: Text,
     pub tags: Seq<Shared<Text>>,

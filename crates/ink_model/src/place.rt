@@ -9,7 +9,7 @@ use std::fmt;
 use std::marker::Model;
 
 /// One step down in a story: to the content at an index, or to a container given by key.
-#[derive(Drop)]
+#[derive(Debug, Drop)]
 pub enum Part {
     Index(u32),
     Name(Text),
@@ -45,7 +45,7 @@ impl fmt::Display for Part {
 }
 
 /// A place: the parts that lead to it from the root, which is the empty place. A contract sees the list of parts.
-#[derive(Drop)]
+#[derive(Debug, Drop)]
 pub struct Place {
     parts: Vec<Part>,
 }
@@ -124,7 +124,7 @@ impl fmt::Display for Place {
 }
 
 /// A path as it is written: from the root, or relative to the content that has it.
-#[derive(Drop)]
+#[derive(Debug, Drop)]
 pub struct Path {
     pub relative: bool,
     pub parts: Seq<Part>,

@@ -5,8 +5,8 @@ ghost use Rattle.std.specs.Prelude.{◌≡◌, IfErr, IfOk};
 use crate::text::Text;
 use std::alloc::{AllocError, Global};
 use std::marker::Model;
-use std::mem;
 use std::rc::Rc;
+use std::{fmt, mem};
 
 /// Something that several owners share, so that a copy copies nothing of it. A contract sees the thing itself.
 #[derive(Drop)]
@@ -66,4 +66,39 @@ impl Shared<Text> {
     {
         self.get().as_str()
     }
+}
+
+/// What the thing itself prints as.
+impl<T: fmt::Display> fmt::Display for Shared<T> {
+    ghost output = { T.output };
+
+    ghost styled_output = { T.styled_output };
+
+    fn fmt<W: fmt::Write>(&self, f: &mut fmt::Formatter<W>) -> fmt::Result {
+        fmt::Display::fmt(self.value.as_ref(), f)
+    }
+}
+
+/// As the thing itself.
+impl<T: fmt::Debug> fmt::Debug for Shared<T> {
+    ghost debug_output = { T.debug_output };
+
+    fn fmt<W: fmt::Write>(&self, f: &mut fmt::Formatter<W>) -> fmt::Result {
+        fmt::Debug::fmt(self.value.as_ref(), f)
+    }
+}
+
+/// Equal where the things themselves are.
+impl<T: PartialEq> PartialEq for Shared<T> {
+    ghost eq = { T.eq };
+
+    ghost laws = { T.laws };
+
+    fn eq(&self, other: &Shared<T>) -> bool {
+        self.value.as_ref() == other.value.as_ref()
+    }
+}
+
+impl<T: Eq> Eq for Shared<T> {
+    ghost laws = { T.Eq.laws };
 }

@@ -9,7 +9,7 @@ use std::alloc::{AllocError, Global};
 
 /// A value of a running story. It takes 16 bytes: what does not fit into them is shared, and the number of a pointer stands
 /// before its name.
-#[derive(Drop)]
+#[derive(Debug, Drop)]
 pub enum Value {
     Int(i32),
     Bool(bool),

@@ -6,10 +6,11 @@ ghost use Rattle.ink_player.specs.Printed.{play_fault_text};
 use ink_host::Desk;
 use ink_model::{Fault, ReadRefusal};
 use ink_protocol::RunFault;
+use std::error::Error;
 use std::fmt;
 
 /// Why a story could not be played to its reader's end.
-#[derive(Drop)]
+#[derive(Debug, Drop)]
 pub enum PlayFault {
     /// The story was refused.
     Story(ReadRefusal),
@@ -33,6 +34,8 @@ impl fmt::Display for PlayFault {
     }
 }
 
+impl Error for PlayFault {}
+
 /// A story that was not played to its reader's end: why, and the desk.
 #[derive(Drop)]
 pub struct PlayEnd<P, F, O> {
@@ -48,3 +51,14 @@ impl<P, F, O> fmt::Display for PlayEnd<P, F, O> {
         self.fault.fmt(f)
     }
 }
+
+/// The fault alone, whatever the objects on the desk are.
+impl<P, F, O> fmt::Debug for PlayEnd<P, F, O> {
+    fn fmt<W: fmt::Write>(&self, f: &mut fmt::Formatter<W>) -> fmt::Result {
+        f.debug_struct("PlayEnd")
+            .field("fault", &self.fault)
+            .finish_non_exhaustive()
+    }
+}
+
+impl<P: Drop, F: Drop, O: Drop> Error for PlayEnd<P, F, O> {}

@@ -12,12 +12,12 @@ pub use end::{PlayEnd, PlayFault};
 pub use ink_check::{Story, check};
 pub use ink_host::{
     Bound, Called, Desk, FnKind, HostDesk, Nobody, Observer, OpenCall, PureBox, PureFn, Recorder,
-    Seen, TurnBox, TurnFn, Watcher, WatcherBox, copied_values,
+    Seen, TellFault, TurnBox, TurnFn, Watcher, WatcherBox, copied_values,
 };
 pub use ink_json::{RawStory, read_story};
 pub use ink_model::{
-    Cause, Event, Fault, Given, Halt, HostFault, MAX_STORY, MAX_TEXT, Part, Passage, Path, Place,
-    ReadRefusal, Refusal, Seq, Shared, Shown, Text, Value,
+    Cause, Change, Event, Fault, Given, Halt, HostFault, MAX_STORY, MAX_TEXT, Part, Passage, Path,
+    Place, ReadRefusal, Refusal, Seq, Shared, Shown, Text, Value,
 };
 pub use ink_protocol::{ReadFailed, RunFault, Sink, Source, Watched, WriteFailed, print_values};
 pub use player::{OpenFault, Player};

@@ -41,6 +41,7 @@ use ink_model::{
 use ink_step::{Machine, Unopened};
 use serde_json::Value as Json;
 use std::alloc::{AllocError, Global};
+use std::error::Error;
 use std::fmt;
 use std::marker::Model;
 
@@ -100,6 +101,17 @@ impl<P, F, O> fmt::Display for OpenFault<P, F, O> {
         write!(f, "story fault: {}", self.fault)
     }
 }
+
+/// The fault alone, whatever the objects on the desk are.
+impl<P, F, O> fmt::Debug for OpenFault<P, F, O> {
+    fn fmt<W: fmt::Write>(&self, f: &mut fmt::Formatter<W>) -> fmt::Result {
+        f.debug_struct("OpenFault")
+            .field("fault", &self.fault)
+            .finish_non_exhaustive()
+    }
+}
+
+impl<P: Drop, F: Drop, O: Drop> Error for OpenFault<P, F, O> {}
 
 impl<P: PureFn, F: TurnFn, O: Watcher> Player<P, F, O> {
     ghost use Rattle.ink_check.specs.Standing.{story_tree};
