@@ -1,17 +1,19 @@
 -- What reading, declaring and assigning do, by the variable that is read or written.
-use Rattle.std.proofs.Common.{◌≡◌, ◌∙◌, ℕ, List, Bool, true, false, not, ◌&&◌, ◌||◌, Some, Result, Ok, Err, OnOk, ap, inl, inr, is_ok, refl, subst, sym}
-use Rattle.ink_effects.proofs.Common.{has_room, Fields, Effect, Stores, Leaves, Page, popped, pushed, Values, StoryTree, Fault, OutOfMemory, Value, Rest, seen_by, Transfer, place_of, Spot}
+use Rattle.std.proofs.Common.{◌≡◌, ◌∙◌, ◌≤◌, ℕ, List, Bool, true, false, not, ◌&&◌, ◌||◌, Some, Result, Ok, Err, OnOk, ap, inl, is_ok, refl, subst, sym, is_some}
+use Rattle.ink_effects.proofs.Common.{has_room, Fields, Effect, Fails, Stores, Leaves, Page, popped, pushed, Values, StoryTree, Fault, OutOfMemory, Value, Rest, seen_by, Transfer, place_of, Spot}
 use Rattle.ink_model.specs.Flow.Frames.{ThreadOf, ThreadsOf, fresh_depth, map_thread}
+use Rattle.ink_model.specs.Flow.Threads.{frame_count}
 use Rattle.ink_model.specs.Run.Step.Variables as effects
 use Rattle.ink_model.specs.Run.Step.Variables.{storing}
+use Rattle.ink_model.specs.Memory.Refusals.{ByRule, LacksMemory}
 use Rattle.ink_model.specs.Memory.Variables.{assign_asks, declare_asks, is_pointer, on_popped, setting_asks}
-use Rattle.ink_model.specs.Variables.Access.{assign, declare, declared, kept, read}
+use Rattle.ink_model.specs.Variables.Access.{assign, declare, declared, kept, named, read}
 use Rattle.ink_model.specs.declared.scope.Scope.{Scope}
 use Rattle.ink_effects.specs.Performs.{Changes, KeepsThreads, Performs, fields}
 use Rattle.ink_effects.proofs.Effects.{operated, performs_where, short}
 use Rattle.ink_effects.proofs.Bools.{or_first, or_more, same_fault}
 use Rattle.ink_model.proofs.Maps.{assign_map, declare_map, left_as, read_map, setting_asks_map}
-use Rattle.ink_vars.specs.Outcomes.{Declares, HandsOut, LeadsTo, with_variable, writing_asks}
+use Rattle.ink_vars.specs.Outcomes.{Declares, HandsOut, LeadsTo, Writes, held_by, with_variable, writing_asks}
 use Rattle.ink_vars.specs.declared.places.Variable.{Variable}
 
 -- ---- by cases
@@ -19,6 +21,19 @@ use Rattle.ink_vars.specs.declared.places.Variable.{Variable}
 handed : {A : Type 0} (asks : Bool) (rule : Result A Fault) (a : A) → HandsOut asks rule (Ok a) → rule ≡ Ok a
 handed asks (Ok b) a h = ap Ok (sym h)
 handed asks (Err f) a h = absurd h
+
+-- what a name leads to is there, and is written
+pub led : {P : Type 0} (globals : Values) (thread : ThreadOf P) (follows : Bool) (v : Value) (rule : Result (Values × ThreadOf P) Fault) (x : Variable) → Writes globals thread follows v rule (Ok x)
+    → (x.frame ≤ frame_count thread) × (is_some (held_by globals thread x) ≡ true) × (rule ≡ Ok (with_variable globals thread x v))
+led globals thread follows v (Ok new) x h = (h.0, h.1, ap Ok h.2)
+led globals thread follows v (Err f) x h = absurd h
+
+-- a call that fails by its rule, where its effect faults so or asks for memory
+fails : {A B : Type 0} (s : StoryTree) (gives : A → B → Type 0) (few asks : Bool) (e : Effect) (left : Fields) (rule : Result A Fault) (g : Fault)
+    → ((a : A) → rule ≡ Ok a → few ≡ true → asks ≡ true) → ((f : Fault) → rule ≡ Err f → e ≡ Fails f)
+    → ByRule (LacksMemory (is_ok rule && few)) gives (λ why. why) rule (Err g) → Performs s asks e left (Err g)
+fails s gives few asks e left (Ok a) g asking faults h = subst (λ f. Performs s asks e left (Err f)) (sym h.0) (short s asks left e (asking a refl h.1))
+fails s gives few asks e left (Err f) g asking faults h = subst (λ d. Performs s asks d left (Err g)) (sym (faults f refl)) (inl (same_fault h))
 
 on_ok : {A : Type 0} (r : Result A Fault) (B C : Type 0) → (B → C) → OnOk r B → OnOk r C
 on_ok (Ok a) B C so h = so h
@@ -64,26 +79,24 @@ module _ (s : StoryTree) (ts : ThreadsOf Spot) (rest : Rest) (f : Fields) where
     assigns r is =
         rw pops (ap (λ q. storing q (record f { stack = left })) (assign_map (place_of s) f.globals ts.thread name v ∙ ap (left_as (place_of s) f.globals ts.thread) is))
 
+    abbrev follows : Bool
+    follows = is_pointer (named f.globals ts.thread name)
+
     pub assigns_there : (x : Variable) (result : Result Transfer Fault) → LeadsTo f.globals ts.thread name (Ok x)
         → Performs s (writing_asks f.globals ts.thread x) (wrote left x v) (record f { stack = left }) result
         → Performs s assigning_asks assigning (record f { stack = left }) result
     assigns_there x result leads h =
-        subst (λ e. Performs s assigning_asks e (record f { stack = left }) result) (sym (assigns _ (leads.2 v)))
-        (performs_where s (writing_asks f.globals ts.thread x) assigning_asks (λ is_new. absurd (let no : false ≡ true = rw leads.1 at is_new in cc)) (wrote left x v) _ result h)
+        let there = led f.globals ts.thread follows v _ x (leads v) in
+        subst (λ e. Performs s assigning_asks e (record f { stack = left }) result) (sym (assigns _ there.2))
+        (performs_where s (writing_asks f.globals ts.thread x) assigning_asks (λ is_new. absurd (let no : false ≡ true = rw there.1 at is_new in cc)) (wrote left x v) _ result h)
 
     pub assigns_keeping : (x : Variable) (new : ThreadsOf Spot) (result : Result (Unit {0}) Fault) → LeadsTo f.globals ts.thread name (Ok x)
         → OnOk result (new ≡ record ts { thread = (with_variable f.globals ts.thread x v).1 }) → OnOk result (KeepsThreads s assigning ts new)
-    assigns_keeping x new result leads = on_ok result _ _ (keeps assigning left x v new (assigns _ (leads.2 v)))
+    assigns_keeping x new result leads = on_ok result _ _ (keeps assigning left x v new (assigns _ (led f.globals ts.thread follows v _ x (leads v)).2))
 
     pub assigns_nowhere : (g : Fault) → LeadsTo f.globals ts.thread name (Err g) → Performs s assigning_asks assigning (record f { stack = left }) (Err g)
-    assigns_nowhere g leads = elim leads [
-      | inl faults ↦ subst (λ e. Performs s assigning_asks e (record f { stack = left }) (Err g)) (sym (assigns _ (faults v))) (inl refl)
-      | inr refused ↦
-          let so : assign f.globals (map_thread (place_of s) ts.thread) name v ≡ left_as (place_of s) f.globals ts.thread (Ok (with_variable f.globals ts.thread refused.2.0 v)) =
-          assign_map (place_of s) f.globals ts.thread name v ∙ ap (left_as (place_of s) f.globals ts.thread) (refused.2.1 v) in
-          let asking : assigning_asks ≡ true = rw (pops, so, refused.1) refl in
-          subst (λ x. Performs s assigning_asks assigning (record f { stack = left }) (Err x)) (sym refused.0) (short s assigning_asks (record f { stack = left }) assigning asking)
-    ]
+    assigns_nowhere g leads = fails s _ follows assigning_asks assigning (record f { stack = left }) (assign f.globals ts.thread name v) g
+        (λ w is asking. rw (pops, assign_map (place_of s) f.globals ts.thread name v ∙ ap (left_as (place_of s) f.globals ts.thread) is) asking) (λ x is. assigns (Err x) is) (leads v)
 
   -- ---- declaring
 
@@ -123,13 +136,8 @@ module _ (s : StoryTree) (ts : ThreadsOf Spot) (rest : Rest) (f : Fields) where
     declares_keeping w x new result keeping there = on_ok result _ _ (keeps declaring left x w new (wrote_there w x keeping there))
 
     pub declares_nowhere : (g : Fault) → HandsOut (is_pointer (Some v)) (kept f.globals ts.thread v) (Err g) → Performs s declaring_asks declaring (record f { stack = left }) (Err g)
-    declares_nowhere g h = by (kept f.globals ts.thread v) refl h
-      where
-        by : (rule : Result Value Fault) → kept f.globals ts.thread v ≡ rule → HandsOut (is_pointer (Some v)) rule (Err g) → Performs s declaring_asks declaring (record f { stack = left }) (Err g)
-        by (Ok w) is k =
-            subst (λ x. Performs s declaring_asks declaring (record f { stack = left }) (Err x)) (sym k.0)
-            (short s declaring_asks (record f { stack = left }) declaring (asks_to_declare w is (or_first _ _ k.1)))
-        by (Err x) is k = subst (λ e. Performs s declaring_asks e (record f { stack = left }) (Err g)) (sym (declares (Err x) is)) (inl (same_fault k))
+    declares_nowhere g h = fails s _ (is_pointer (Some v)) declaring_asks declaring (record f { stack = left }) (kept f.globals ts.thread v) g
+        (λ w is asking. asks_to_declare w is (or_first _ _ asking)) (λ x is. declares (Err x) is) h
 
 -- ---- fields
 

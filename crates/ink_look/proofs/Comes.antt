@@ -33,7 +33,7 @@ module _ (s : StoryTree) (b : Bound) (made : List Made) (c begin : Configuration
 
   pub comes_to_fault : (new : Configuration) (f : Fault) → RunFalls s b false false begin made new.shared.globals f → Ran new (Err f)
   comes_to_fault new f h = elim h.why [
-    | inl faults ↦ inl (Broke f h.before.shared.globals, ends_through _ _ faults refl, (refl, h.kept))
+    | inl faults ↦ inl (Broke f h.before.shared.globals, ends_through _ _ faults refl, (inl refl, h.kept))
     | inr short ↦ elim short.1 [
       | inl there ↦ inr (ap Err short.0, subst (FallsShort s b c made) (sym h.kept) (fell h.before there))
       | inr by ↦ elim by [ inl takes ↦ absurd (true≢false (sym takes.1)) | inr pressing ↦ absurd (true≢false (sym pressing.1)) ]
@@ -42,4 +42,4 @@ module _ (s : StoryTree) (b : Bound) (made : List Made) (c begin : Configuration
 
   -- memory was refused for what was said
   pub falls_after : (stop : Configuration) → moment s b begin (answers_of made) MAX_STEPS ≡ Stopped stop [] made → said_asks stop ≡ true → Ran stop (Err OutOfMemory)
-  falls_after stop h asks = inl (Kept stop, ends_through _ (Kept stop) (ap cut_off h) refl, (refl, asks, refl))
+  falls_after stop h asks = inl (Kept stop, ends_through _ (Kept stop) (ap cut_off h) refl, ((refl, asks), refl))

@@ -23,7 +23,7 @@ module _ (s : StoryTree) (b : Bound) (made : List Made) (c start : Configuration
 
   pub falls : (f : Fault) (new : Configuration) → LineFalls s b start made new.shared.globals f → Ran new (line_ends.Fault f)
   falls f new h = elim h.why [
-    | inl faults ↦ inl (Broke f h.kept.shared.globals, (Faulted f h.kept [] made, line_to (Faulted f h.kept [] made) faults, refl), tt, (refl, h.leaves))
+    | inl faults ↦ inl (Broke f h.kept.shared.globals, (Faulted f h.kept [] made, line_to (Faulted f h.kept [] made) faults, refl), tt, (inl refl, h.leaves))
     | inr short ↦ inr (ap line_ends.Fault short.0, record { kept = h.kept; got_there = subst (λ d. LineShort s b d made h.kept) is short.1; leaves = h.leaves })
   ]
 

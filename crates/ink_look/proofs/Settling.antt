@@ -115,7 +115,7 @@ module _ (x : Extent) (s : StoryTree) (b : Bound) (old : Configuration) (made : 
     where
       by : (end : RunEnd) → EndsBy x s b old made end → EndsWith said said_asks end new (Ok w) → Ends (Ok p)
       by (Kept stop) ends left = (Kept stop, ends, (is ∙ ap (λ v. passage_of v new) left.0 ∙ ap (passage_of (said stop)) left.1 ∙ passage_settled stop, left.1))
-      by (Broke f globals) ends left = absurd (let never = left.0 in cc)
+      by (Broke f globals) ends left = absurd left
   passes w p (inr short) is = absurd (let never = short.0 in cc)
 
   -- memory was refused for its choices
@@ -126,17 +126,17 @@ module _ (x : Extent) (s : StoryTree) (b : Bound) (old : Configuration) (made : 
       by (Kept stop) ends left = (
         Kept stop,
         ends,
-        (refl, asks_choices stop (subst (λ c. open_choices c ≢ []) left.1 some), ap (λ c. c.shared.globals) left.1 ∙ globals_settled stop),
+        ((refl, asks_choices stop (subst (λ c. open_choices c ≢ []) left.1 some)), ap (λ c. c.shared.globals) left.1 ∙ globals_settled stop),
       )
-      by (Broke f globals) ends left = absurd (let never = left.0 in cc)
+      by (Broke f globals) ends left = absurd left
   passes_short w (inr short) some = absurd (let never = short.0 in cc)
 
   pub passes_fault : (f : Fault) → Says (Err f) → Passes (Err f)
   passes_fault f (inl ran) = inl (by ran.0 ran.1 ran.2)
     where
       by : (end : RunEnd) → EndsBy x s b old made end → EndsWith said said_asks end new (Err f) → Ends (Err f)
-      by (Kept stop) ends left = (Kept stop, ends, (left.0, asks_said stop left.1, left.2))
-      by (Broke g globals) ends left = (Broke g globals, ends, (ap Err (same_fault f g left.0), left.1))
+      by (Kept stop) ends left = (Kept stop, ends, ((left.0.0, asks_said stop left.0.1), left.1))
+      by (Broke g globals) ends left = (Broke g globals, ends, left)
   passes_fault f (inr short) = inr (ap Err (same_fault f OutOfMemory short.0), short.1)
 
 -- what a line says, by how it ended

@@ -44,9 +44,9 @@ told_unwatched start (e ∷ now) = told_unwatched start now
 choice_taken : (s : StoryTree) (choice : Option (ChoiceOf (List Part))) (c d : Configuration) (r : Result (Unit {0}) Refusal) → Chooses s false choice c d r
     → ChoosesBy s choice c (at_stamp (Ready c) one_flow 0) (reply_of_landing r) (at_stamp (Ready d) one_flow 0)
 choice_taken s None c d (Ok u) h = absurd h
-choice_taken s None c d (Err r) h = (ap Refuses h.0, ap (λ x. at_stamp (Ready x) one_flow 0) h.1)
+choice_taken s None c d (Err r) h = (ap Refuses (elim h.0 [ inl is ↦ is | inr short ↦ absurd (let no = short.1 in cc) ]), ap (λ x. at_stamp (Ready x) one_flow 0) h.1)
 choice_taken s (Some choice) c d (Ok u) h = inl (refl, ap (λ x. at_stamp (Ready x) one_flow 0) h)
-choice_taken s (Some choice) c d (Err r) h = inr (h.1, (ap Refuses h.0, ap (λ x. at_stamp (Ready x) one_flow 0) h.2))
+choice_taken s (Some choice) c d (Err r) h = inr (h.0.1, (ap Refuses h.0.0, ap (λ x. at_stamp (Ready x) one_flow 0) h.1))
 
 -- no mark stands where it is taken
 pub chooses-free : (s : StoryTree) (m n : Machine) → stood_of m ≡ unmarked → stood_of n ≡ unmarked → (choice : Option (ChoiceOf (List Part))) (d : Configuration) (r : Result (Unit {0}) Refusal)

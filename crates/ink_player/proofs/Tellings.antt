@@ -4,6 +4,7 @@ use Rattle.ink_commands.specs.States.{at_stamp, condition_by}
 use Rattle.ink_commands.specs.Visits.{FindsVisits, TellsVisits}
 use Rattle.ink_host.specs.Desk.{DeskView, Grew, Resting, Rows, at, bound_by, each, put, watches, without}
 use Rattle.ink_player.proofs.Common.{Called, Extent, Bindings, value_given, Values, store, stored, StoryTree, Fault, OutOfMemory, Refusal, Change, Event, Given, Machine}
+use Rattle.ink_effects.proofs.Bools.{same_fault}
 use Rattle.ink_host.specs.Telling.{IsRound, Watching, log_of, rests}
 use Rattle.ink_host.proofs.Laws.{bound-same, grew-grew, grew-none, watches-same}
 use Rattle.ink_look.specs.Ends.{EndsWith}
@@ -209,7 +210,7 @@ module _ {P F O : Type 0} (turn_log : F → List Called) (state : O → Watching
       where
         by : (end : run.RunEnd) → EndsBy x tree host.functions before made end → EndsWith passage passage_asks end after (Ok passed) → Stops passed
         by (run.Kept stop) ends left = (stop, ends, left.0, left.1)
-        by (run.Broke f globals) ends left = absurd (let never = left.0 in cc)
+        by (run.Broke f globals) ends left = absurd left
     stops passed (inr short) = absurd (let never = short.0 in cc)
 
     -- and watchers were told
@@ -291,16 +292,13 @@ module _ {P F O : Type 0} (turn_log : F → List Called) (state : O → Watching
       runs-broken : Ran (Err f) → Breaks_it f after.shared.globals → Runs first reply new
       runs-broken (inl ran) broke = by ran.0 ran.1 ran.2
         where
-          same : (g : Fault) → ◌≡◌ {A = Result Passage Fault} (Err f) (Err g) → f ≡ g
-          same g e = cc
-
           by : (end : run.RunEnd) → EndsBy x tree host.functions before made end → EndsWith passage passage_asks end after (Err f) → Runs first reply new
           by (run.Kept stop) ends left = inl (
             run.Kept stop,
             ends,
-            inr (or-left (passage_asks stop) _ left.1, subst (λ vs. Breaks_it OutOfMemory vs) left.2 (subst (λ g. Breaks_it g after.shared.globals) left.0 broke)),
+            inr (or-left (passage_asks stop) _ left.0.1, subst (λ vs. Breaks_it OutOfMemory vs) left.1 (subst (λ g. Breaks_it g after.shared.globals) left.0.0 broke)),
           )
-          by (run.Broke g globals) ends left = inl (run.Broke g globals, ends, subst (λ vs. Breaks_it g vs) left.1 (subst (λ h. Breaks_it h after.shared.globals) (same g left.0) broke))
+          by (run.Broke g globals) ends left = inl (run.Broke g globals, ends, subst (λ vs. Breaks_it g vs) left.1 (subst (λ h. Breaks_it h after.shared.globals) (same_fault left.0) broke))
       runs-broken (inr short) broke = inr (after.shared.globals, short.1, subst (λ h. Breaks_it h after.shared.globals) (let is = short.0 in cc) broke)
 
     -- there was no memory for telling

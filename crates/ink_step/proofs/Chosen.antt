@@ -75,14 +75,14 @@ module _ (s : StoryTree) (lacking : Option (ChoiceOf (List Part)) → Bool) (n :
   open_is = ap (λ b. if b then None else slice_get (visible old.flow.choices) n) stopped
 
   pub chooses_none : slice_get (visible old.flow.choices) n ≡ None → new ≡ old → Chooses s (lacking (open_choice n old)) (open_choice n old) old new (Err refusal.NotAChoice)
-  chooses_none none is = subst (λ o. Chooses s (lacking o) o old new (Err refusal.NotAChoice)) (sym (open_is ∙ none)) (refl, is)
+  chooses_none none is = subst (λ o. Chooses s (lacking o) o old new (Err refusal.NotAChoice)) (sym (open_is ∙ none)) (inl refl, is)
 
   module _ (x : ChoiceOf (List Part)) (some : slice_get (visible old.flow.choices) n ≡ Some x) where
     pub chooses_one : new ≡ entering_around s (chosen x old) → Chooses s (lacking (open_choice n old)) (open_choice n old) old new (Ok (tt {0}))
     chooses_one is = subst (λ o. Chooses s (lacking o) o old new (Ok (tt {0}))) (sym (open_is ∙ some)) is
 
     pub chooses_short : (lacking (Some x) || entering_asks s (chosen x old)) ≡ true → new ≡ old → Chooses s (lacking (open_choice n old)) (open_choice n old) old new (Err refusal.OutOfMemory)
-    chooses_short adds is = subst (λ o. Chooses s (lacking o) o old new (Err refusal.OutOfMemory)) (sym (open_is ∙ some)) (refl, adds, is)
+    chooses_short adds is = subst (λ o. Chooses s (lacking o) o old new (Err refusal.OutOfMemory)) (sym (open_is ∙ some)) ((refl, adds), is)
 
 -- the configuration that a choice took up, after the containers around had been entered in the next turn
 module _ (s : StoryTree) (x : ChoiceOf (List Part)) (old mid : Configuration) (same : mid ≡ old) (counts : CountsOf (List Part)) (turn : ℕ) where

@@ -18,6 +18,7 @@ pub use Rattle.ink_model.specs.Host.Bindings.{Bound}
 pub use Rattle.ink_model.specs.Memory.Asks.{acting_asks, content_asks}
 unfoldable pub use Rattle.ink_model.specs.Memory.Asks.{asks}
 pub use Rattle.ink_model.specs.Memory.Moves.{move_asks, landed_asks}
+pub use Rattle.ink_model.specs.Memory.Refusals.{LacksMemory}
 pub use Rattle.ink_model.specs.Run.Configuration.{Configuration, map_choice, ChoiceOf, can_go_on, current_place}
 pub use Rattle.ink_model.specs.Run.Effect.{Effect, context_of, fields_of, Fields}
 pub use Rattle.ink_model.specs.Run.Entered.{entered_places}

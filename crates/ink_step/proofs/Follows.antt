@@ -1,6 +1,6 @@
 -- Where flow goes after a content, and so how a step ends.
 use Rattle.std.proofs.Common.{◌≡◌, ◌∙◌, ◌||◌, ap, sym, refl, subst, inl, inr, ℕ, List, map, Bool, true, false, Option, Some, None, Result, Ok, Err}
-use Rattle.ink_step.proofs.Common.{following, following_asks, CountsOf, next_place, Bound, Comes, step, step_at, Values, StoryTree, Fault, OutOfMemory, Part, or_first, or_more, ReachesAs, StepEnds, config_of, counts_in, StepEnd, Machine, place_of, Spot}
+use Rattle.ink_step.proofs.Common.{following, following_asks, CountsOf, next_place, Bound, Comes, step, step_at, Values, StoryTree, Fault, OutOfMemory, LacksMemory, Part, or_first, or_more, ReachesAs, StepEnds, config_of, counts_in, StepEnd, Machine, place_of, Spot}
 use Rattle.ink_model.specs.Run.Configuration.{ChoiceOf, Configuration, current_place, ended, map_choice, with_choices, with_threads}
 use Rattle.ink_model.specs.Run.Effect.{Fields, Effect, Moves, Stores, Offers, Lands, Calls, Returns, Forks, Done, Ends, Fails, fields_of, with_fields, with_thread}
 use Rattle.ink_model.specs.Flow.Transfers.{Written, Reached, Reaches, Halts, Breaks, called, depth_of, forked, halt, moved_on, reach, returned}
@@ -50,7 +50,7 @@ never_wants asking (Next c) globals d h = h
 never_wants asking o globals d h = h
 
 -- where memory was refused
-pub ends_short : (asking : Bool) (o : Outcome) (globals : Values) (d : Configuration) (f : Fault) → (f ≡ OutOfMemory) × (asking ≡ true) → d.shared.globals ≡ globals
+pub ends_short : (asking : Bool) (o : Outcome) (globals : Values) (d : Configuration) (f : Fault) → LacksMemory asking f → d.shared.globals ≡ globals
     → StepEnds asking o globals d (Err f)
 ends_short asking (Faults g) globals d f short same = (inr short, same)
 ends_short asking o globals d f short same = (short, same)
@@ -140,7 +140,7 @@ pub ends_unperformed : (s : StoryTree) (asking more : Bool) (e : Effect) (new : 
     → d.shared.globals ≡ globals → StepEnds (asking || more) (move s e c) globals d (Err f)
 ends_unperformed s asking more e new c d globals f h same = by e h
   where
-    short : (o : Outcome) → (f ≡ OutOfMemory) × (asking ≡ true) → StepEnds (asking || more) o globals d (Err f)
+    short : (o : Outcome) → LacksMemory asking f → StepEnds (asking || more) o globals d (Err f)
     short o k = ends_short (asking || more) o globals d f (k.0, or_first asking more k.1) same
 
     by : (e : Effect) → Performs s asking e new (Err f) → StepEnds (asking || more) (move s e c) globals d (Err f)

@@ -8,7 +8,7 @@ use Rattle.ink_model.specs.Flow.Frames.{ThreadOf, ThreadsOf, mode_in, on_top}
 use Rattle.ink_model.specs.Memory.Refusals.{asks, asks_at}
 use Rattle.ink_model.specs.Run.Move.{going, landed_in, landing_outcome, may_enter, move, place_to, with_flow, written_in}
 use Rattle.ink_model.specs.Memory.Moves.{landed_asks, move_asks, moved_asks, returned_asks}
-use Rattle.ink_step.proofs.Common.{content_place, next_place, Bound, Stepped, gone_in, performed, step, step_at, Call, call_at, Values, StoryTree, at, container, leaf, adds_rows, around, entering_around, Fault, OutOfMemory, Part, ReachesAs, StepEnds, StepEnd, or_first, or_more, leaf_in, place_of}
+use Rattle.ink_step.proofs.Common.{content_place, next_place, Bound, Stepped, gone_in, performed, step, step_at, Call, call_at, Values, StoryTree, at, container, leaf, adds_rows, around, entering_around, Fault, OutOfMemory, LacksMemory, Part, ReachesAs, StepEnds, StepEnd, or_first, or_more, leaf_in, place_of}
 use Rattle.ink_model.specs.Flow.Threads.{frame_count, frame_popped, frame_pushed}
 use Rattle.ink_model.specs.declared.frame.FrameKind.{FrameKind}
 use Rattle.ink_model.specs.declared.limits.TheConstants.{MAX_FRAMES}
@@ -164,7 +164,6 @@ module _ (s : StoryTree) (b : Bound) (p : List Part) (old : Configuration) (at_p
       subst (λ o. Ending (asks_at s b o old) (step_at s b o old)) (sym at_p) (more _ _ entering)
 
   -- memory for a container on the way was refused
-  pub ends_outside : (pressed : Bool) (new : Configuration) (f : Fault) → f ≡ OutOfMemory → pressed || going_in_asks s p old ≡ true → new.shared.globals ≡ old.shared.globals
-      → (f ≡ OutOfMemory) × ((pressed || asks s b old) ≡ true) × (new.shared.globals ≡ old.shared.globals)
+  pub ends_outside : (pressed : Bool) (f : Fault) → f ≡ OutOfMemory → pressed || going_in_asks s p old ≡ true → LacksMemory (pressed || asks s b old) f
   unfolding asks
-  ends_outside pressed new f short adds same = (short, subst (λ o. pressed || asks_at s b o old ≡ true) (sym at_p) (or_wider pressed (going_in_asks s p old) _ adds), same)
+  ends_outside pressed f short adds = (short, subst (λ o. pressed || asks_at s b o old ≡ true) (sym at_p) (or_wider pressed (going_in_asks s p old) _ adds))

@@ -1,7 +1,7 @@
 -- Steps that call turn functions.
 use Rattle.std.proofs.Common.{◌≡◌, ◌∙◌, ◌||◌, ap, sym, refl, subst, inl, inr, ℕ, List, [], Bool, true, false, true≢false, if◌then◌else◌, Option, Some, None, option_map, Bor, Result, Ok, Err}
 use Rattle.ink_model.specs.Memory.Asks.{acting_asks, calling_asks}
-use Rattle.ink_step.proofs.Common.{Configuration, current_place, move, Values, StoryTree, container, leaf, at, Leaf, Fault, Event, Given, Part, Value, Performs, StepEnd, Transfer, or_more, leaf_in}
+use Rattle.ink_step.proofs.Common.{Configuration, current_place, move, Values, StoryTree, container, leaf, at, Leaf, Fault, LacksMemory, Event, Given, Part, Value, Performs, StepEnd, Transfer, or_more, leaf_in}
 use Rattle.ink_model.specs.Run.Effect.{Fields, Effect, Fails, Moves, fields_of}
 use Rattle.ink_model.specs.Host.Bindings.{Binding, Bound, fits_given, pure_function, turn_function, value_given}
 use Rattle.ink_model.specs.Memory.Refusals.{given_asks}
@@ -79,7 +79,7 @@ plainly_never asking o globals d r is h = by o (subst (EndsPlainly asking o glob
     by (Wants name arguments f c) k = k
 
 -- where memory was refused, nothing was called
-pub makes_short : (s : StoryTree) (b : Bound) (n : ℕ) (pressed asking : Bool) (o : Stepped) (globals : Values) (d : Configuration) (f : Fault) → (f ≡ OutOfMemory) × ((pressed || asking) ≡ true) → d.shared.globals ≡ globals
+pub makes_short : (s : StoryTree) (b : Bound) (n : ℕ) (pressed asking : Bool) (o : Stepped) (globals : Values) (d : Configuration) (f : Fault) → LacksMemory (pressed || asking) f → d.shared.globals ≡ globals
     → StepMakes s b n pressed asking o [] globals d (Err f)
 makes_short s b n pressed asking (Comes o) globals d f short same = (refl, ends_short (pressed || asking) o globals d f short same)
 makes_short s b n pressed asking (Wants name arguments k c) globals d f short same = inr (refl, ap Err short.0, short.1, same)

@@ -1,7 +1,7 @@
 -- Runs, moment by moment.
 use Rattle.std.proofs.Common.{◌≡◌, ◌∙◌, ◌⊎◌, ◌++◌, ◌∷◌, ◌&&◌, ◌||◌, ℕ, zero, suc, Bool, true, false, List, Option, Some, None, Result, ◌+◌, ◌-◌, ◌≤◌, ◌<◌, ap, sym, refl, subst, inl, inr, [], Ok, Err, arith, append_assoc}
 use Rattle.std.proofs.lemmas.List.{append-nil, map-append}
-use Rattle.ink_step.proofs.Common.{Configuration, Fields, Outcome, Next, Stop, Faults, Stepped, Comes, Wants, step, Values, StoryTree, Fault, Event, Given, MAX_STEPS, Value, takes_first, StepEnds, StepMakes, StepEnd}
+use Rattle.ink_step.proofs.Common.{Configuration, Fields, Outcome, Next, Stop, Faults, Stepped, Comes, Wants, step, Values, StoryTree, Fault, LacksMemory, Event, Given, MAX_STEPS, Value, takes_first, StepEnds, StepMakes, StepEnd}
 use Rattle.ink_model.specs.Host.Events.{calls}
 use Rattle.ink_model.specs.Host.Bindings.{Bound, turn_function}
 use Rattle.ink_model.specs.Memory.Refusals.{GetsTo, answered_asks, asks}
@@ -25,7 +25,7 @@ module _ (left : List (Option Given)) (made : List Made) (asking : Bool) (old ne
 
 -- a fault of the story, or a step that asks for memory and got none
 faulted : (made : List Made) (asking : Bool) (old new : Configuration) (f : Fault) (o : Outcome) → StepEnds asking o old.shared.globals new (Err f)
-    → (((left : List (Option Given)) → moment_after old o left made ≡ Faulted f old left made) ⊎ ((f ≡ OutOfMemory) × (asking ≡ true)))
+    → (((left : List (Option Given)) → moment_after old o left made ≡ Faulted f old left made) ⊎ LacksMemory asking f)
 faulted made asking old new f (Faults g) h = elim h.0 [
   | inl same ↦ inl (λ left. ap (λ x. Faulted x old left made) (sym same))
   | inr short ↦ inr short

@@ -75,10 +75,18 @@ EndsPlainly asks (Wants name arguments f d) globals new result = ⊥
 abbrev pub FailsToOpen : StoryTree → Fault → Values → Type 0
 FailsToOpen s f globals = (opening s ≡ Err (record { fault = f; globals = globals })) ⊎ ((f ≡ OutOfMemory) × ((short : OpensShort s) × (globals ≡ short.reached.shared.globals)))
 
--- A choice is taken, with the containers that its landing enters; or there is none, or memory is refused for a first visit, and
--- nothing has changed; where a mark stands, also for the copy of the choice and for notes (Marks.antt).
+-- how flow stands where a choice was taken, with the containers that its landing enters
+abbrev pub choosing : StoryTree → Option (ChoiceOf (List Part)) → Configuration → Result Configuration Refusal
+choosing s None c = Err refusal.NotAChoice
+choosing s (Some choice) c = Ok (entering_around s (chosen choice c))
+
+-- taking it asks for memory: for a first visit, or where that is lacked for something else
+abbrev pub choosing_asks : StoryTree → Bool → Option (ChoiceOf (List Part)) → Configuration → Bool
+choosing_asks s lacks None c = false
+choosing_asks s lacks (Some choice) c = lacks || entering_asks s (chosen choice c)
+
+-- A choice is taken; or there is none, or memory is refused for a first visit, and nothing has changed; where a mark stands, also for
+-- the copy of the choice and for notes (Marks.antt).
 abbrev pub Chooses : StoryTree → Bool → Option (ChoiceOf (List Part)) → Configuration → Configuration → Result (Unit {0}) Refusal → Type 0
-Chooses s lacks None old new (Ok u) = ⊥
-Chooses s lacks None old new (Err r) = (r ≡ refusal.NotAChoice) × (new ≡ old)
-Chooses s lacks (Some choice) old new (Ok u) = new ≡ entering_around s (chosen choice old)
-Chooses s lacks (Some choice) old new (Err r) = (r ≡ refusal.OutOfMemory) × ((lacks || entering_asks s (chosen choice old)) ≡ true) × (new ≡ old)
+Chooses s lacks choice old new result =
+    ByRule (λ r. (r ≡ refusal.OutOfMemory) × (choosing_asks s lacks choice old ≡ true)) (λ c u. new ≡ c) (λ why. why × (new ≡ old)) (choosing s choice old) result

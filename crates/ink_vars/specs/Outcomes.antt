@@ -1,6 +1,6 @@
 -- What calls on variables do, by what the rules give.
 use Rattle.std.specs.Borrow.{Bor}
-use Rattle.std.specs.Prelude.{◌≡◌, ◌≤◌, ◌⊎◌, ℕ, ℤ, pos, List, Bool, true, false, not, ◌&&◌, Option, Some, None, is_some, Result, Ok, Err, is_ok}
+use Rattle.std.specs.Prelude.{◌≡◌, ◌≤◌, ℕ, ℤ, pos, List, Bool, true, false, not, ◌&&◌, Option, Some, None, is_some, Result, Ok, Err, is_ok}
 use Rattle.ink_model.specs.Flow.Frames.{ThreadOf}
 use Rattle.ink_model.specs.Memory.Refusals.{ByRule, LacksMemory, holds_memory}
 use Rattle.ink_model.specs.Variables.Store.{Values}
@@ -8,7 +8,6 @@ use Rattle.ink_model.specs.Flow.Threads.{frame_count}
 use Rattle.ink_model.specs.Memory.Variables.{is_pointer, is_there}
 use Rattle.ink_model.specs.Variables.Access.{assign, assign_at, chain_end, held, named, on_pointer, with_declared, with_held}
 use Rattle.ink_model.specs.declared.fault.Fault.{Fault}
-use Rattle.ink_model.specs.declared.fault.Fault.TheVariants.{OutOfMemory}
 use Rattle.ink_model.specs.declared.scope.Scope.{Scope}
 use Rattle.ink_model.specs.declared.value.Value.{Value}
 use Rattle.ink_model.specs.declared.value.Value.TheVariants.{Int}
@@ -72,23 +71,19 @@ module _ {P : Type 0} (globals : Values) (thread : ThreadOf P) where
   abbrev pub writing_asks : Variable → Bool
   writing_asks x = not (is_some (held_by x))
 
-  -- Assigning to a name writes this variable, which is there, or is a fault. The name of what a pointer leads to gets one more
-  -- owner, which may be refused.
-  abbrev pub LeadsTo : List ℕ → Result Variable Fault → Type 0
-  LeadsTo name (Ok x) =
-      (x.frame ≤ frame_count thread) × (is_some (held_by x) ≡ true) × ((v : Value) → assign globals thread name v ≡ Ok (with_variable x v))
-  LeadsTo name (Err f) =
-      ((v : Value) → assign globals thread name v ≡ Err f)
-      ⊎ ((f ≡ OutOfMemory) × (is_pointer (named globals thread name) ≡ true)
-      × ((x : Variable) × ((v : Value) → assign globals thread name v ≡ Ok (with_variable x v))))
+  -- A call tells the variable that a rule writes with a value, which is there, or has the rule's fault. Where a pointer is followed,
+  -- the name that it leads to gets one more owner, which may be refused.
+  abbrev pub Writes : Bool → Value → Result (Values × ThreadOf P) Fault → Result Variable Fault → Type 0
+  Writes follows v rule result = ByRule (LacksMemory (is_ok rule && follows))
+      (λ new x. (x.frame ≤ frame_count thread) × (is_some (held_by x) ≡ true) × (new ≡ with_variable x v)) (λ why. why) rule result
 
-  -- The same of a pointer, by the end of its chain.
+  -- assigning to a name writes it
+  abbrev pub LeadsTo : List ℕ → Result Variable Fault → Type 0
+  LeadsTo name result = (v : Value) → Writes (is_pointer (named globals thread name)) v (assign globals thread name v) result
+
+  -- assigning to a pointer does, by the end of its chain
   abbrev pub LeadsInto : Option (ℤ × List ℕ) → Result Variable Fault → Type 0
-  LeadsInto end (Ok x) =
-      (x.frame ≤ frame_count thread) × (is_some (held_by x) ≡ true) × ((v : Value) → assign_at globals thread v end ≡ Ok (with_variable x v))
-  LeadsInto end (Err f) =
-      ((v : Value) → assign_at globals thread v end ≡ Err f)
-      ⊎ ((f ≡ OutOfMemory) × ((x : Variable) × ((v : Value) → assign_at globals thread v end ≡ Ok (with_variable x v))))
+  LeadsInto end result = (v : Value) → Writes true v (assign_at globals thread v end) result
 
   -- Declaring a name in a scope writes this variable.
   abbrev pub Declares : Scope → List ℕ → Variable → Type 0

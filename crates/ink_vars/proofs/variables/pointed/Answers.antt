@@ -1,8 +1,8 @@
-use Rattle.std.proofs.Common.{◌≡◌, Some, inr, pos, refl, rules, to_z-of_z}
+use Rattle.std.proofs.Common.{◌≡◌, Some, pos, rules, to_z-of_z}
 use Rattle.ink_model.specs.Variables.Access.{chain_end, held}
 use Rattle.ink_vars.specs.declared.places.Name.TheVariants.{Pointed}
 use Rattle.ink_vars.specs.declared.places.Variable.{Variable}
-use Rattle.ink_vars.proofs.Chains.{leads_into}
+use Rattle.ink_vars.proofs.Chains.{leads_into, leads_short}
 use Rattle.ink_vars.proofs.variables.pointed.Goals as goal
 
 pub returns-in-Err-clause-leads : goal.returns-in-Err-clause-leads
@@ -14,8 +14,7 @@ returns-in-Err-clause-leads g c =
     let end : chain_end globals thread c.args.frame c.args.name.now ≡ Some (pos frame, name) = search (rules, to_z-of_z) in
     let there : held globals thread (pos frame) name ≡ Some c.in-Some-value.field-0.now = search (rules, to_z-of_z) in
     let x : Variable = record { frame = frame; name = Pointed name } in
-    let leads = leads_into globals thread x (chain_end globals thread c.args.frame c.args.name.now) c.in-Some-value.field-0.now end there in
-    inr (refl, (x, leads.2))
+    leads_short globals thread x (chain_end globals thread c.args.frame c.args.name.now) c.in-Some-value.field-0.now end there
 
 pub returns-in-Ok-share-clause-leads : goal.returns-in-Ok-share-clause-leads
 returns-in-Ok-share-clause-leads g c =

@@ -62,12 +62,12 @@ returns-in_err-here-clause-step g c =
     let short = c.in_err-here.ensures in
     let lacks = subst (λ t. counts_lack 2 left || going_in_asks t (place_of t place) (config_of t machine) ≡ true) c.tree.ensures.tree short.memory in
     let adds = or_where (counts_lack 2 left) (presses s machine left) _ (λ h. or_more _ (pressed s left) (pressed_counts s left h)) lacks in
-    let refused = ends_outside s b (place_of s place) before (ap (option_map (place_of s)) c.requires.at) (presses s machine left) new c.in_err-here.field-0.0 short.fault adds short.globals in
+    let refused = ends_outside s b (place_of s place) before (ap (option_map (place_of s)) c.requires.at) (presses s machine left) c.in_err-here.field-0.0 short.fault adds in
     let is : c.from_residual.result ≡ Err c.in_err-here.field-0.0 = search rules in (
       [],
       grew-none g.T.TurnFn.log (log_of g.W.Watcher.state) desk,
       subst (λ r. StepMakes s b desk.next (presses s machine left) (asks s b before) (step s b before) [] before.shared.globals new r) (sym is)
-          (makes_short s b desk.next (presses s machine left) (asks s b before) (step s b before) before.shared.globals new c.in_err-here.field-0.0 (refused.0, refused.1) refused.2),
+          (makes_short s b desk.next (presses s machine left) (asks s b before) (step s b before) before.shared.globals new c.in_err-here.field-0.0 refused short.globals),
     )
 
 pub returns-in-Some-clause-step : goal.returns-in-Some-clause-step
