@@ -20,10 +20,10 @@ value_past zero v (r ∷ rs) h = absurd (omega arith)
 value_past (suc i) v (r ∷ rs) h = ap (λ qs. r ∷ qs) (value_past i v rs (omega arith))
 
 -- what it held undoes it
-pub value_back : (i : ℕ) (v w : Value) (rs : Values) (d : List ℕ × Value) → i < length rs → w ≡ (get_or rs i d).1 → value_at i w (set rs i ((get_or rs i d).0, v)) ≡ rs
-value_back i v w [] d h is = absurd (omega arith)
-value_back zero v w (r ∷ rs) d h is = ap (λ x. (r.0, x) ∷ rs) is
-value_back (suc i) v w (r ∷ rs) d h is = ap (λ qs. r ∷ qs) (value_back i v w rs d (omega arith) is)
+pub value_back : (i : ℕ) (v w : Value) (rs : Values) → ((d : List ℕ × Value) → w ≡ (get_or rs i d).1) → value_at i w (value_at i v rs) ≡ rs
+value_back i v w [] is = refl
+value_back zero v w (r ∷ rs) is = ap (λ x. (r.0, x) ∷ rs) (is r)
+value_back (suc i) v w (r ∷ rs) is = ap (λ qs. r ∷ qs) (value_back i v w rs is)
 
 value_before : (k : List ℕ) (i : ℕ) (v : Value) (rs : Values) → is_before name_order k (value_at i v rs) ≡ is_before name_order k rs
 value_before k i v [] = refl

@@ -18,7 +18,7 @@ pub use Rattle.ink_stack.specs.Calls.{frame_kind}
 pub use Rattle.ink_stack.specs.Cells.{unpopped, temp_back, temps_back, with_frame, with_fresh}
 pub use Rattle.ink_stack.specs.Frames.{frame_with, framed}
 pub use Rattle.ink_stack.specs.Outcomes.{Changes, Grows}
-pub use Rattle.ink_stack.specs.Quiet.{Covers, IsQuiet, is_unnumbered}
+pub use Rattle.ink_stack.specs.Quiet.{Covers, IsQuiet, Settled}
 pub use Rattle.ink_stack.specs.Rows.{FindsName}
 pub use Rattle.ink_stack.specs.Running.{RunningView, threads_in}
 pub use Rattle.ink_stack.specs.Temps.{text_of}

@@ -1,12 +1,9 @@
 -- What a thread keeps in mind of the frames below its top one, as frames come and go. In a list the nearest is the last.
-use Rattle.std.proofs.Common.{◌≡◌, ◌∙◌, ◌<◌, ◌≤◌, ℕ, List, [], ◌∷◌, ◌++◌, Bool, true, false, not, ◌&&◌, Option, Some, None, IfSome, IsSomeAnd, ap, arith, is_some, length, reverse, subst, sym}
-use Rattle.ink_stack.proofs.Common.{length-append, reverse-append, BaseFirst, FrameOf, is_function, FrameKind, MAX_FRAMES, Covers, IsQuiet, is_unnumbered}
+use Rattle.std.proofs.Common.{◌≡◌, ◌∙◌, ◌<◌, ◌≤◌, ℕ, List, [], ◌∷◌, ◌++◌, true, Option, Some, None, IfSome, IsSomeAnd, ap, arith, length, reverse, subst, sym}
+use Rattle.ink_stack.proofs.Common.{length-append, reverse-append, BaseFirst, FrameOf, is_function, FrameKind, MAX_FRAMES, Covers, IsQuiet, Settled}
 use Rattle.ink_stack.proofs.Bases.{base_popped, base_same}
 use Rattle.ink_stack.proofs.Quietness.{quiet_weaker}
-
-second : (a b : Bool) → (not a && b) ≡ true → b ≡ true
-second false b h = h
-second true b h = absurd (cc)
+use Rattle.ink_stack.proofs.Settling.{settled_fewer}
 
 module _ {P : Type 0} where
   -- ---- a frame more
@@ -19,11 +16,6 @@ module _ {P : Type 0} where
       by : (old : Option ℕ) → IfSome old (λ m. IsQuiet m (reverse items)) → IsSomeAnd old (λ m. m ≤ n) → IsQuiet n (reverse items)
       by None quiet least = absurd least
       by (Some m) quiet least = quiet_weaker m n (reverse items) least quiet
-
-  pub unnumbered_more : (f : FrameOf P) (items : List (FrameOf P)) (n : Bool) → (n ≡ false → is_unnumbered (reverse items) ≡ true) → (n ≡ false) × (is_some f.enter ≡ false)
-      → is_unnumbered (reverse (items ++ f ∷ [])) ≡ true
-  unnumbered_more f items n h k =
-      ap is_unnumbered (reverse-append items (f ∷ [])) ∙ ap (λ b. not b && is_unnumbered (reverse items)) k.1 ∙ h k.0
 
   pub base_more : (j k : FrameKind) (f g : FrameOf P) (items : List (FrameOf P)) → j ≡ k → f ≡ g → BaseFirst k (g ∷ reverse items) → BaseFirst j (reverse (items ++ f ∷ []))
   base_more j k f g items kind same h =
@@ -41,28 +33,19 @@ module _ {P : Type 0} where
       let all : IsQuiet n (reverse items) = subst (λ q. IfSome q (λ m. IsQuiet m (reverse items))) k.1 h in
       (subst (λ fs. IsQuiet n fs) (whole f rest items is) all k.0).1
 
-  unnumbered_fewer : (f : FrameOf P) (rest items : List (FrameOf P)) (n : Bool) → items ≡ rest ++ f ∷ [] → (n ≡ false → is_unnumbered (reverse items) ≡ true)
-      → n ≡ false → is_unnumbered (reverse rest) ≡ true
-  unnumbered_fewer f rest items n is h e =
-      second (is_some f.enter) (is_unnumbered (reverse rest)) (sym (ap is_unnumbered (whole f rest items is)) ∙ h e)
-
   base_fewer : (j k : FrameKind) (f : FrameOf P) (rest items : List (FrameOf P)) → j ≡ f.kind → items ≡ rest ++ f ∷ [] → BaseFirst k (reverse items) → BaseFirst j (reverse rest)
   base_fewer j k f rest items kind is h = base_same f.kind j (reverse rest) kind (base_popped k rest f (subst (λ fs. BaseFirst k (reverse fs)) is h))
 
   -- what is kept in mind of frames below one of a kind
-  abbrev Kept : Option ℕ → FrameKind → Bool → List (FrameOf P) → Type 0
-  Kept quiet kind numbered items =
-      (length items < MAX_FRAMES) × IfSome quiet (λ n. IsQuiet n (reverse items)) × BaseFirst kind (reverse items) × (numbered ≡ false → is_unnumbered (reverse items) ≡ true)
+  abbrev Kept : Option ℕ → FrameKind → ℕ → List (FrameOf P) → Type 0
+  Kept quiet kind settled items =
+      (length items < MAX_FRAMES) × IfSome quiet (λ n. IsQuiet n (reverse items)) × BaseFirst kind (reverse items) × Settled settled items
 
-  pub kept_fewer : (j k : FrameKind) (f : FrameOf P) (rest items : List (FrameOf P)) (old new : Option ℕ) (n : Bool) → j ≡ f.kind → items ≡ rest ++ f ∷ []
-      → IfSome new (λ m. (is_function f.kind ≡ true) × (old ≡ Some m)) → Kept old k n items → Kept new j n rest
-  kept_fewer j k f rest items old new n kind is quiet h = (
+  pub kept_fewer : (j k : FrameKind) (f : FrameOf P) (rest items : List (FrameOf P)) (old new : Option ℕ) (m n : ℕ) → j ≡ f.kind → items ≡ rest ++ f ∷ []
+      → IfSome new (λ d. (is_function f.kind ≡ true) × (old ≡ Some d)) → m ≤ n → m ≤ length rest → Kept old k n items → Kept new j m rest
+  kept_fewer j k f rest items old new m n kind is quiet few inside h = (
     omega (arith, ap length is ∙ length-append rest (f ∷ []), h.0),
     quiet_fewer f rest items old new is h.1 quiet,
     base_fewer j k f rest items kind is h.2,
-    unnumbered_fewer f rest items n is h.3,
+    settled_fewer m n rest (f ∷ []) few inside (subst (Settled n) is h.3),
   )
-
--- what is true is not false
-pub true_false : {X : Type 0} (b : Bool) → b ≡ true → b ≡ false → X
-true_false b first second = absurd (let h : true ≡ false = sym first ∙ second in cc)

@@ -6,7 +6,7 @@ pub mod Quietness
 pub mod Rows
 pub mod Rises
 pub mod Numbers
-pub mod Unnumbered
+pub mod Settling
 pub mod Bases
 pub mod Rising
 pub mod Searching

@@ -1,5 +1,5 @@
 -- A list whose items are changed one by one, from the front.
-use Rattle.std.proofs.Common.{◌≡◌, ◌∙◌, ◌≤◌, ℕ, ◌+◌, ◌<◌, List, [], ◌∷◌, ◌++◌, ap, length, get_or, set, take, drop, map, refl, append_assoc, arith, sym}
+use Rattle.std.proofs.Common.{◌≡◌, ◌∙◌, ◌≤◌, ℕ, ◌+◌, ◌-◌, ◌<◌, List, [], ◌∷◌, ◌++◌, ap, length, get_or, set, take, drop, length-drop, map, refl, append_assoc, arith, sym}
 use Rattle.std.proofs.lemmas.List.{append-nil, drop_all, take_more_set, drop-set-lt, drop_more, take_all, take_more}
 
 pub map_step : {X : Type 0} (f : X → X) (xs : List X) (i : ℕ) (d y : X) → i < length xs → y ≡ f (get_or xs i d)
@@ -10,6 +10,12 @@ map_step f xs i d y h made =
 -- all are changed
 pub map_done : {X : Type 0} (f : X → X) (xs ys : List X) (i : ℕ) → length xs ≤ i → take i xs ++ map f (drop i xs) ≡ ys → xs ≡ ys
 map_done f xs ys i all h = sym (append-nil xs) ∙ ap (λ zs. zs ++ []) (sym (take_all i xs all)) ∙ ap (λ zs. take i xs ++ map f zs) (sym (drop_all i xs all)) ∙ h
+
+-- those from an index on are changed
+pub map_end : {X : Type 0} (f : X → X) (xs new : List X) (i : ℕ) → i ≤ length xs → new ≡ map f (take (length xs - i) (drop i xs)) → take i xs ++ (new ++ drop (length xs - i) (drop i xs)) ≡ take i xs ++ map f (drop i xs)
+map_end f xs new i inside is =
+    let left : length (drop i xs) ≤ length xs - i = omega (arith, length-drop i xs) in
+    ap (λ zs. take i xs ++ zs) (ap (λ zs. new ++ zs) (drop_all (length xs - i) (drop i xs) left) ∙ append-nil new ∙ is ∙ ap (map f) (take_all (length xs - i) (drop i xs) left))
 
 pub map_id : {X : Type 0} (xs : List X) → map (λ x. x) xs ≡ xs
 map_id [] = refl

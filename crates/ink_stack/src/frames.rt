@@ -1,13 +1,13 @@
 //! The frames below the top one of a thread.
 
-ghost use Rattle.std.specs.Prelude.{◌≡◌, ◌≢◌, [], ◌∷◌, ◌++◌, ◌<◌, ◌≤◌, ◌+◌, ◌-◌, None, true, get_or, length, map, option_map, replicate, reverse, set, vec_capacity, IfOk, OnOk, OnErr, MatchOption};
+ghost use Rattle.std.specs.Prelude.{◌≡◌, ◌≢◌, [], ◌∷◌, ◌++◌, ◌<◌, ◌≤◌, ◌+◌, ◌-◌, None, true, drop, get_or, length, map, option_map, replicate, reverse, set, take, vec_capacity, IfOk, OnOk, OnErr, MatchOption};
 ghost use Rattle.std.specs.Bool.{OnTrue, OnFalse};
 ghost use Rattle.ink_model.specs.Flow.Frames.{FrameOf, is_function, unnumbered_frame};
 ghost use Rattle.ink_model.specs.Variables.Rows.{name_order, row};
 ghost use Rattle.ink_model.specs.Flow.Threads.{stale, with_row_in};
 ghost use Rattle.ink_stack.specs.Cells.{temp_back, with_fresh};
 ghost use Rattle.ink_stack.specs.Frames.{FitsIn, MoreRoom, frame_with, unnumbered};
-ghost use Rattle.ink_stack.specs.Quiet.{Covers};
+ghost use Rattle.ink_stack.specs.Quiet.{Covers, Settled};
 ghost use Rattle.ink_stack.specs.Temps.{text_of};
 
 use crate::frame::{Frame, Header};
@@ -300,13 +300,19 @@ impl<P: Copy> Frames<P> {
         }
     }
 
-    /// No frame has the number of its Enter any more.
-    pub(crate) fn clear_numbers(&mut self)
+    /// No frame has the number of its Enter any more, of which so many, the lowest ones, do not have it.
+    pub(crate) fn clear_numbers(&mut self, settled: usize)
+        requires { Settled settled self.old.items }
         ensures items { self.new.items ≡ map unnumbered_frame self.old.items }
         ensures room { self.new.room ≡ self.old.room }
     {
-        self.lowest.thaw_numbered(&mut self.headers);
-        clear_numbers_of(self.headers.as_mut_slice());
+        let shared = self.lowest.len();
+        if settled < shared {
+            self.lowest.thaw_numbered(&mut self.headers);
+            clear_numbers_of(self.headers.as_mut_slice());
+        } else {
+            clear_numbers_from(self.headers.as_mut_slice(), settled - shared);
+        }
     }
 }
 
@@ -349,6 +355,14 @@ fn pop_header<P: Copy>(lowest: &mut Lowest<P>, headers: &mut Vec<Header<P>>) -> 
         Some(header) => Some(header),
         None => lowest.pop(),
     }
+}
+
+/// Of the headers from an index on none has the number of its Enter any more.
+fn clear_numbers_from<P: Copy>(headers: &mut [Header<P>], from: usize)
+    requires { from ≤ length headers.old }
+    ensures { headers.new ≡ take from headers.old ++ map unnumbered (drop from headers.old) }
+{
+    clear_numbers_of(&mut headers[from..]);
 }
 
 /// No header has the number of its Enter any more.

@@ -7,6 +7,7 @@ mod listing;
 mod lowest;
 mod running;
 mod saving;
+mod temp_rows;
 mod temps;
 mod thread;
 mod threads;

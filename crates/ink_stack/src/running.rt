@@ -1,15 +1,15 @@
 //! The thread that runs.
 
-ghost use Rattle.std.specs.Prelude.{◌≡◌, ◌≢◌, ◌⊎◌, [], ◌∷◌, ◌<◌, ◌≤◌, Err, None, Some, true, length, option_map, reverse, IfErr, IfOk, IfSome, OnOk, OnErr};
+ghost use Rattle.std.specs.Prelude.{◌≡◌, ◌≢◌, ◌⊎◌, ℕ, List, [], ◌∷◌, ◌++◌, ◌<◌, ◌≤◌, Err, None, Some, true, length, option_map, reverse, IfErr, IfOk, IfSome, OnOk, OnErr};
 ghost use Rattle.std.specs.Bool.{OnTrue, OnFalse};
 ghost use Rattle.ink_model.specs.Flow.Bases.{BaseFirst};
-ghost use Rattle.ink_model.specs.Flow.Frames.{base_frame, fresh_depth, frame_numbered, gone, is_function, mode_in, put_in, unnumbered_thread};
+ghost use Rattle.ink_model.specs.Flow.Frames.{FrameOf, base_frame, fresh_depth, frame_numbered, gone, is_function, mode_in, put_in, unnumbered_thread};
 ghost use Rattle.ink_model.specs.declared.limits.TheConstants.{MAX_FRAMES};
 ghost use Rattle.ink_model.specs.Flow.Threads.{frame_count, number_in, frame_popped, frame_pushed, same_kind, stale, stale_run, staled, temp_in, with_temp};
 ghost use Rattle.ink_stack.specs.Calls.{frame_kind};
 ghost use Rattle.ink_stack.specs.Cells.{Within, holds_of, number_back, temp_back, ungone, unpopped, unpushed, with_frame, with_fresh};
 ghost use Rattle.ink_stack.specs.Frames.{MoreRoom};
-ghost use Rattle.ink_stack.specs.Quiet.{IsQuiet};
+ghost use Rattle.ink_stack.specs.Quiet.{IsQuiet, Settled};
 ghost use Rattle.ink_stack.specs.Temps.{text_of};
 ghost use Rattle.ink_stack.specs.Outcomes.{Changes, Grows};
 
@@ -26,14 +26,14 @@ use std::mem;
 /// for such frames without memory.
 ///
 /// Of the function frames that are nearest below the top one each fresh one was pushed where fewer than `quiet` sections were open,
-/// so that a text where so many are open, or more, need not look at them; none where that is not known. `numbered` says whether a
-/// frame below the top one may have the number of its Enter, so that the end of a line need not look at them where none has one.
+/// so that a text where so many are open, or more, need not look at them; none where that is not known. `settled` says how many of the
+/// lowest frames do not have the number of their Enter, so that the end of a line looks only at those above them.
 pub struct Running<P> {
     pub(crate) frame: Frame<P>,
     pub(crate) below: Frames<P>,
     pub(crate) previous: Option<P>,
     pub(crate) quiet: Option<usize>,
-    pub(crate) numbered: bool,
+    pub(crate) settled: usize,
     pub(crate) alloc: Global,
 }
 
@@ -44,17 +44,17 @@ impl<P: Drop> Drop for Running<P> {
             below: _,
             previous: _,
             quiet: _,
-            numbered: _,
+            settled: _,
             alloc: _,
         } = self;
     }
 }
 
 impl<P> Model for Running<P> {
-    ghost use Rattle.std.specs.Prelude.{◌≡◌, reverse, ◌<◌, length, false, true, IfSome};
+    ghost use Rattle.std.specs.Prelude.{reverse, ◌<◌, length, IfSome};
     ghost use Rattle.ink_model.specs.Flow.Bases.{BaseFirst};
     ghost use Rattle.ink_model.specs.declared.limits.TheConstants.{MAX_FRAMES};
-    ghost use Rattle.ink_stack.specs.Quiet.{IsQuiet, is_unnumbered};
+    ghost use Rattle.ink_stack.specs.Quiet.{IsQuiet, Settled};
     ghost use Rattle.ink_stack.specs.Running.{RunningView};
 
     ghost Value = { RunningView P };
@@ -65,7 +65,7 @@ impl<P> Model for Running<P> {
     } };
 
     ghost invariant = { λ t. (length t.below.items < MAX_FRAMES) × IfSome t.quiet (λ n. IsQuiet n (reverse t.below.items))
-        × BaseFirst t.frame.kind (reverse t.below.items) × (t.numbered ≡ false → is_unnumbered (reverse t.below.items) ≡ true) };
+        × BaseFirst t.frame.kind (reverse t.below.items) × Settled t.settled t.below.items };
 }
 
 impl<P: Copy> Running<P> {
@@ -78,7 +78,7 @@ impl<P: Copy> Running<P> {
             below: Frames::new(alloc),
             previous: None,
             quiet: Some(0),
-            numbered: false,
+            settled: 0,
             alloc,
         }
     }
@@ -162,7 +162,7 @@ impl<P: Copy> Running<P> {
             below,
             previous: self.previous,
             quiet: self.quiet,
-            numbered: self.numbered,
+            settled: self.settled,
             alloc,
         })
     }
@@ -183,7 +183,7 @@ impl<P: Copy> Running<P> {
             below,
             previous: _,
             quiet: _,
-            numbered: _,
+            settled: _,
             alloc: _,
         } = self;
         below.give_list(spare);
@@ -218,9 +218,9 @@ impl<P: Copy> Running<P> {
         ensures { self.new ≡ record self.old { thread = unnumbered_thread self.old.thread } }
     {
         self.frame.set_number(None);
-        if self.numbered {
-            self.below.clear_numbers();
-            self.numbered = false;
+        if self.settled < self.below.len() {
+            self.below.clear_numbers(self.settled);
+            self.settled = self.below.len();
         }
     }
 
@@ -245,7 +245,7 @@ impl<P: Copy> Running<P> {
             return Err(Fault::OutOfMemory);
         };
         self.quiet = self.frame.quiet_above(self.quiet);
-        self.numbered = self.numbered || self.frame.number().is_some();
+        self.settled = settled_above(&self.frame, self.below.len(), self.settled);
         self.below.push_from(&mut self.frame);
         self.frame.begin(kind.frame_kind(), depth);
         Ok(())
@@ -279,6 +279,7 @@ impl<P: Copy> Running<P> {
         match self.below.pop() {
             Some(caller) => {
                 self.quiet = quiet_below(&caller, self.quiet);
+                self.settled = self.settled.min(self.below.len());
                 Ok(mem::replace(&mut self.frame, caller))
             }
             None => Err(Fault::BadPop),
@@ -293,6 +294,7 @@ impl<P: Copy> Running<P> {
         self.check_pop(kind, depth)?;
         self.below.pop_into(&mut self.frame);
         self.quiet = quiet_below(&self.frame, self.quiet);
+        self.settled = self.settled.min(self.below.len());
         Ok(())
     }
 
@@ -428,6 +430,7 @@ impl<P: Copy> Running<P> {
     {
         if let Some(under) = self.below.pop() {
             self.quiet = quiet_below(&under, self.quiet);
+            self.settled = self.settled.min(self.below.len());
             self.frame = under;
         }
     }
@@ -439,7 +442,7 @@ impl<P: Copy> Running<P> {
     {
         let under = mem::replace(&mut self.frame, frame);
         self.quiet = under.quiet_above(self.quiet);
-        self.numbered = self.numbered || under.number().is_some();
+        self.settled = settled_above(&under, self.below.len(), self.settled);
         self.below.push_reserved(under);
     }
 }
@@ -450,6 +453,7 @@ impl<P: Copy> Running<P> {
 fn end_freshness_of<P: Copy>(frames: &mut Frames<P>, depth: usize) -> Option<usize>
     ensures run { reverse frames.new.items ≡ stale_run depth (reverse frames.old.items) }
     ensures quiet { IfSome result (λ n. IsQuiet n (reverse frames.new.items)) }
+    ensures settled { (n : ℕ) → Settled n frames.old.items → Settled n frames.new.items }
     ensures room { frames.new.room ≡ frames.old.room }
 {
     let mut quiet = Some(0);
@@ -473,4 +477,17 @@ fn quiet_below<P: Copy>(nearest: &Frame<P>, quiet: Option<usize>) -> Option<usiz
         return quiet;
     }
     None
+}
+
+/// How many of the lowest frames do not have the number of their Enter where a frame stands above so many, of which `settled` do not
+/// have it.
+#[inline(always)]
+fn settled_above<P: Copy>(frame: &Frame<P>, count: usize, settled: usize) -> usize
+    requires { count < MAX_FRAMES }
+    ensures { (fs : List (FrameOf P)) → length fs ≡ count → Settled settled fs → Settled result (fs ++ frame.now ∷ []) }
+{
+    if settled == count && frame.number().is_none() {
+        return count + 1;
+    }
+    settled
 }

@@ -10,6 +10,7 @@ ghost use Rattle.ink_stack.specs.Undo.{threads_stood};
 use crate::frame::{Frame, Header};
 use crate::frames::Frames;
 use crate::running::Running;
+use crate::temp_rows::Rows;
 use crate::temps::Temps;
 use crate::thread::Thread;
 use crate::threads::Threads;
@@ -62,7 +63,10 @@ impl Temps {
         ensures { result ≡ (if rows_rise name_order rows.items then Some rows.items else None) }
     {
         if rise(rows.as_slice()) {
-            Some(Temps { rows, alloc })
+            Some(Temps {
+                rows: Rows::Many(rows),
+                alloc,
+            })
         } else {
             None
         }
@@ -117,7 +121,7 @@ impl<P: Copy> Thread<P> {
             below,
             previous,
             quiet: None,
-            numbered: true,
+            settled: 0,
             alloc,
         };
         Ok(Some(Thread { running }))

@@ -7,11 +7,11 @@ ghost use Rattle.ink_stack.specs.Cells.{temps_back, value_at};
 ghost use Rattle.ink_stack.specs.Rows.{FindsName};
 ghost use Rattle.ink_stack.specs.Temps.{text_of};
 
+use crate::temp_rows::{FEW, Rows};
 use ink_model::{Shared, Text, Value};
 use std::alloc::{AllocError, Global};
 use std::cmp::Ordering;
 use std::marker::Model;
-use std::mem;
 
 /// The name of a temporary that is set: one to be copied where it is new, or one that can be shared.
 #[derive(Clone, Copy)]
@@ -43,12 +43,12 @@ impl TempName<'_> {
 
 /// Values by name, in the order of the names. The copies of a frame share the names. A contract sees the rows.
 pub(crate) struct Temps {
-    pub(crate) rows: Vec<(Shared<Text>, Value)>,
+    pub(crate) rows: Rows,
     pub(crate) alloc: Global,
 }
 
 impl Drop for Temps {
-    #[inline(never)]
+    #[inline(always)]
     fn drop(self) {
         let Temps { rows: _, alloc: _ } = self;
     }
@@ -58,12 +58,13 @@ impl Model for Temps {
     ghost use Rattle.std.specs.Prelude.{◌≡◌, true};
     ghost use Rattle.ink_model.specs.Variables.Rows.{name_order, rows_rise};
     ghost use Rattle.ink_model.specs.Variables.Store.{Values};
+    ghost use Rattle.ink_stack.specs.Temps.{rows_of};
 
     ghost Value = { Values };
 
-    ghost view = { λ t. t.rows.items };
+    ghost view = { λ t. rows_of t.rows };
 
-    ghost invariant = { λ t. rows_rise name_order t.rows.items ≡ true };
+    ghost invariant = { λ t. rows_rise name_order (rows_of t.rows) ≡ true };
 }
 
 impl Temps {
@@ -72,7 +73,7 @@ impl Temps {
         ensures { result ≡ [] }
     {
         Temps {
-            rows: Vec::new(alloc),
+            rows: Rows::Empty,
             alloc,
         }
     }
@@ -86,24 +87,13 @@ impl Temps {
         self.rows.is_empty()
     }
 
-    /// No temporaries any more. Few rows keep their memory, for those that come next.
+    /// No temporaries any more. A list of few keeps its memory, for those that come next.
     #[inline(always)]
     pub(crate) fn clear(&mut self)
         ensures { self.new ≡ [] }
     {
         if !self.rows.is_empty() {
-            self.clear_rows();
-        }
-    }
-
-    #[inline(never)]
-    fn clear_rows(&mut self)
-        ensures { self.new ≡ [] }
-    {
-        if self.rows.capacity() <= FEW {
             self.rows.clear();
-        } else {
-            self.rows = Vec::new(self.alloc);
         }
     }
 
@@ -116,22 +106,10 @@ impl Temps {
         if self.rows.is_empty() {
             return Ok(Temps::new(alloc));
         }
-        self.copied(alloc)
-    }
-
-    // A copy of each row.
-    #[inline(never)]
-    fn copied(&self, alloc: Global) -> Result<Temps, AllocError>
-        ensures copy { IfOk result (λ copy. copy ≡ self.now) }
-        ensures memory { OnErr result (self.now ≢ []) }
-    {
-        let mut rows = Vec::with_capacity(alloc, self.rows.len())?;
-        for row in &self.rows {
-            let name = row.0.share()?;
-            let value = row.1.clone_in(alloc)?;
-            rows.push((name, value))?;
-        }
-        Ok(Temps { rows, alloc })
+        Ok(Temps {
+            rows: self.rows.clone_in(alloc)?,
+            alloc,
+        })
     }
 
     /// The value of a name, none where there is no such temporary. Takes no memory.
@@ -163,12 +141,12 @@ impl Temps {
     {
         match find(self.rows.as_slice(), name.as_str()) {
             Ok(index) => {
-                let was = mem::replace(&mut self.rows[index].1, value);
+                let was = self.rows.replace(index, value);
                 Ok((index, Some(was)))
             }
             Err(index) => {
                 let name = name.kept(self.alloc)?;
-                self.rows.insert(index, (name, value))?;
+                self.rows.insert(self.alloc, index, (name, value))?;
                 Ok((index, None))
             }
         }
@@ -183,7 +161,7 @@ impl Temps {
                 let _now = self.swap(index, value);
             }
             None => {
-                let _new = self.take(index);
+                self.rows.remove(index);
             }
         }
     }
@@ -192,25 +170,12 @@ impl Temps {
     fn swap(&mut self, index: usize, value: Value) -> Value
         ensures { self.new ≡ value_at index value self.old }
     {
-        if index >= self.rows.len() {
+        if index >= self.rows.as_slice().len() {
             return value;
         }
-        mem::replace(&mut self.rows[index].1, value)
-    }
-
-    // Takes the row at an index out, where there is one.
-    fn take(&mut self, index: usize) -> Option<(Shared<Text>, Value)>
-        ensures { self.new ≡ remove self.old index }
-    {
-        if index >= self.rows.len() {
-            return None;
-        }
-        Some(self.rows.remove(index))
+        self.rows.replace(index, value)
     }
 }
-
-/// So many rows, or fewer, are looked at one by one, which is faster then.
-const FEW: usize = 8;
 
 /// Where a name stands among rows that rise by name, or where it would stand.
 #[inline(always)]

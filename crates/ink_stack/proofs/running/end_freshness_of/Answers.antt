@@ -5,6 +5,7 @@ use Rattle.ink_stack.proofs.Bases.{stale_kind}
 use Rattle.ink_stack.proofs.Numbers.{some_frame}
 use Rattle.ink_stack.proofs.Quietness.{quiet_end, quiet_step, quiet_stop}
 use Rattle.ink_stack.proofs.Runs.{run_at, run_end, run_start, run_step, run_stop}
+use Rattle.ink_stack.proofs.Settling.{settled_set, stale_number}
 use Rattle.ink_stack.proofs.running.end_freshness_of.Goals as goal
 
 pub loop-count-init : goal.loop-count-init
@@ -14,6 +15,7 @@ loop-count-init g c =
       within = omega arith;
       run = ap (λ n. run_at c.args.depth n fs) c.len-count.ensures ∙ run_start c.args.depth fs;
       quiet = λ m more within quiet. subst (λ gs. IsQuiet m (reverse gs ++ more)) (sym (drop_all c.len-count.result fs (omega arith))) quiet;
+      settled = λ n h. h;
       room = refl;
     }
 
@@ -69,6 +71,7 @@ loop-count-preserved g c =
       within = rw items (rw length-set (omega arith));
       run = ap (λ gs. run_at depth (n - 1) gs) items ∙ run_step depth fs (n - 1) n d g count inside function refl ∙ c.loop-count.invariant.run;
       quiet = rw items (quiet_step fs (n - 1) n g c.loop-count.quiet c.quiet_above-quiet.result count inside kept covers c.loop-count.invariant.quiet);
+      settled = λ m h. rw items (settled_set m fs (n - 1) d g (stale_number depth (get_or fs (n - 1) d)) (c.loop-count.invariant.settled m h));
       room = c.end_one-was.ensures.room ∙ c.loop-count.invariant.room;
     }
 

@@ -1,11 +1,13 @@
-use Rattle.std.proofs.Common.{◌≡◌, ◌∙◌, ◌++◌, ap, length, map, vec_len, sym}
-use Rattle.std.proofs.lemmas.List.{map-append, with_items_is}
-use Rattle.ink_stack.specs.Frames.{framed, unnumbered}
-use Rattle.ink_stack.proofs.Flat.{unnumbered_all}
+use Rattle.std.proofs.Common.{◌≡◌, ◌∙◌, ◌++◌, ◌-◌, ap, arith, drop, length, map, sym, take, vec_len}
+use Rattle.std.proofs.lemmas.List.{length-append, map-append, with_items_is}
+use Rattle.ink_stack.proofs.Common.{framed, Settled}
+use Rattle.ink_stack.specs.Frames.{unnumbered}
+use Rattle.ink_stack.proofs.Flat.{framed_length, unnumbered_all}
+use Rattle.ink_stack.proofs.Settling.{settled_within, unnumbered_own}
 use Rattle.ink_stack.proofs.frames.Frames.clear_numbers.Goals as goal
 
-pub returns-clause-items : goal.returns-clause-items
-returns-clause-items g c =
+pub returns-then-settled-shared-clause-items : goal.returns-then-settled-shared-clause-items
+returns-then-settled-shared-clause-items g c =
     let hs = c.self.inside.lowest ++ c.self.inside.headers.items in
     let ts = c.self.inside.temps.items in
     let ls = c.thaw_numbered.new.self in
@@ -14,3 +16,25 @@ returns-clause-items g c =
     let kept : length c.clear_numbers_of.new.headers ≡ vec_len own = c.clear_numbers_of.auto.headers ∙ c.as_mut_slice.ensures.len in
     let all = ap (λ xs. ls ++ xs) items ∙ ap (λ xs. xs ++ map unnumbered own.items) (sym c.thaw_numbered.ensures.none) ∙ sym (map-append unnumbered ls own.items) ∙ ap (map unnumbered) c.thaw_numbered.ensures.all in
     rw (← c.self.view_is) (rw (with_items_is own c.clear_numbers_of.new.headers kept) (ap (λ xs. framed xs ts) all ∙ unnumbered_all hs ts))
+
+pub returns-else-settled-shared-clause-items : goal.returns-else-settled-shared-clause-items
+returns-else-settled-shared-clause-items g c =
+    let ls = c.self.inside.lowest in
+    let own = c.self.inside.headers in
+    let ts = c.self.inside.temps.items in
+    let n = c.args.settled in
+    let new = c.clear_numbers_from.new.headers in
+    let settled : Settled n (framed (ls ++ own.items) ts) = rw (← c.self.view_is) at c.requires in
+    let items = c.clear_numbers_from.ensures ∙ ap (λ xs. take (n - c.len-shared.result) xs ++ map unnumbered (drop (n - c.len-shared.result) xs)) c.as_mut_slice-else-settled-shared.ensures.value in
+    let kept : length new ≡ vec_len own = c.clear_numbers_from.auto.headers ∙ c.as_mut_slice-else-settled-shared.ensures.len in
+    let all : ls ++ new ≡ map unnumbered (ls ++ own.items) =
+    ap (λ xs. ls ++ xs) items ∙ ap (λ m. ls ++ (take (n - m) own.items ++ map unnumbered (drop (n - m) own.items))) c.len-shared.ensures ∙ unnumbered_own ls own.items ts n (omega (arith, c.len-shared.ensures)) settled in
+    rw (← c.self.view_is) (rw (with_items_is own new kept) (ap (λ xs. framed xs ts) all ∙ unnumbered_all (ls ++ own.items) ts))
+
+pub clear_numbers_from-requires : goal.clear_numbers_from-requires
+clear_numbers_from-requires g c =
+    let ls = c.self.inside.lowest in
+    let own = c.self.inside.headers.items in
+    let ts = c.self.inside.temps.items in
+    let settled : Settled c.args.settled (framed (ls ++ own) ts) = rw (← c.self.view_is) at c.requires in
+    omega (arith, settled_within c.args.settled (framed (ls ++ own) ts) settled, framed_length (ls ++ own) ts, length-append ls own, c.len-shared.ensures, ap length c.as_mut_slice-else-settled-shared.ensures.value)

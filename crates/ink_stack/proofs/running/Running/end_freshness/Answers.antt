@@ -1,9 +1,8 @@
 use Rattle.std.proofs.Common.{◌≡◌, ◌∙◌, ap, arith, length, refl, reverse, subst, sym}
-use Rattle.ink_stack.proofs.Common.{OnTrue_at, length-reverse, BaseFirst, stale_run, is_unnumbered}
+use Rattle.ink_stack.proofs.Common.{OnTrue_at, length-reverse, BaseFirst, stale_run}
 use Rattle.ink_stack.proofs.Bases.{base_same, base_stale, stale_kind}
 use Rattle.ink_stack.proofs.Quietness.{quiet_run}
 use Rattle.ink_stack.proofs.Runs.{length-run}
-use Rattle.ink_stack.proofs.Unnumbered.{unnumbered_run}
 use Rattle.ink_stack.proofs.running.Running.end_freshness.Goals as goal
 
 pub returns-then-not-quiet : goal.returns-then-not-quiet
@@ -28,5 +27,5 @@ invariant_of-self g c =
       c.end_freshness_of-self-inside.ensures.quiet,
       subst (λ fs. BaseFirst top.kind fs) (sym run)
           (base_same c.self.inside.frame.kind top.kind (stale_run depth (reverse old)) kind (base_stale depth c.self.inside.frame.kind (reverse old) c.self.invariant.2)),
-      λ none. ap is_unnumbered run ∙ unnumbered_run depth (reverse old) ∙ c.self.invariant.3 none,
+      c.end_freshness_of-self-inside.ensures.settled c.self.inside.settled c.self.invariant.3,
     )

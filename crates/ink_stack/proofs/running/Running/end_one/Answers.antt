@@ -4,7 +4,7 @@ use Rattle.std.proofs.lemmas.List.{length-reverse, set-get_or}
 use Rattle.ink_stack.proofs.Common.{stale, with_fresh, ThreadOf}
 use Rattle.ink_stack.proofs.Bases.{stale_kind, base_same}
 use Rattle.ink_stack.proofs.Framing.{base_set, framed_below, unframed_below, framed_top}
-use Rattle.ink_stack.proofs.Unnumbered.{number_stale, unnumbered_set}
+use Rattle.ink_stack.proofs.Settling.{settled_set, stale_number}
 use Rattle.ink_stack.proofs.running.Running.end_one.Goals as goal
 
 pub invariant_of-self-2 : goal.invariant_of-self-2
@@ -18,7 +18,7 @@ invariant_of-self-2 g c =
       rw length-set c.self.invariant.0,
       tt,
       base_set c.self.inside.frame.kind items c.args.number d now c.requires.from within (stale_kind c.args.depth was) c.self.invariant.2,
-      λ none. rw (unnumbered_set items c.args.number d now c.requires.from within (number_stale c.args.depth was now refl)) (c.self.invariant.3 none),
+      settled_set c.self.inside.settled items (c.args.number - 1) d now (stale_number c.args.depth was) c.self.invariant.3,
     )
 
 pub returns-clause-running : goal.returns-clause-running

@@ -1,7 +1,7 @@
 use Rattle.std.proofs.Common.{◌≡◌, ◌+◌, ◌≤◌, true, ◌-◌, ap, arith, get_or, length, length-set, refl}
 use Rattle.ink_stack.proofs.Common.{length-reverse, frame_count, with_fresh}
 use Rattle.ink_stack.proofs.Framing.{base_set, framed_below, framed_none}
-use Rattle.ink_stack.proofs.Unnumbered.{unnumbered_set}
+use Rattle.ink_stack.proofs.Settling.{settled_set}
 use Rattle.ink_stack.proofs.running.Running.freshen.Goals.{else-number-gt0-via-then-number-gt0+else-number-len-2, else-number-gt0-via-else-number-gt0}
 use Rattle.ink_stack.proofs.running.Running.freshen.Goals as goal
 
@@ -15,7 +15,7 @@ invariant_of-self-then-number-len-2 g c =
       rw length-set c.self.invariant.0,
       tt,
       base_set c.self.inside.frame.kind items c.args.number d now (omega arith) within refl c.self.invariant.2,
-      λ none. rw (unnumbered_set items c.args.number d now (omega arith) within refl) (c.self.invariant.3 none),
+      settled_set c.self.inside.settled items (c.args.number - 1) d now refl c.self.invariant.3,
     )
 
 pub returns-then-number-len-2 : goal.returns-then-number-len-2

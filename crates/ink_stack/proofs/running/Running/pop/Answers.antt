@@ -6,8 +6,8 @@ use Rattle.ink_stack.proofs.running.Running.pop.Goals as goal
 
 pub invariant_of-self : goal.invariant_of-self
 invariant_of-self g c =
-    kept_fewer c.replace.new.dest.kind c.self.inside.frame.kind c.in-Some.caller c.pop.new.self.items c.self.inside.below.items c.self.inside.quiet c.quiet_below-self-inside.result c.self.inside.numbered
-    (ap (λ h. h.kind) c.replace.ensures.after) c.in-Some.ensures.items c.quiet_below-self-inside.ensures c.self.invariant
+    kept_fewer c.replace.new.dest.kind c.self.inside.frame.kind c.in-Some.caller c.pop.new.self.items c.self.inside.below.items c.self.inside.quiet c.quiet_below-self-inside.result c.min-self-inside.result c.self.inside.settled
+    (ap (λ h. h.kind) c.replace.ensures.after) c.in-Some.ensures.items c.quiet_below-self-inside.ensures (omega arith) (omega (arith, c.len.ensures)) c.self.invariant
 
 pub returns-in-Some-clause-thread : goal.returns-in-Some-clause-thread
 returns-in-Some-clause-thread g c =

@@ -1,4 +1,4 @@
-use Rattle.std.proofs.Common.{◌≡◌, ◌∙◌, [], ◌∷◌, true, ap, refl, reverse}
+use Rattle.std.proofs.Common.{◌≡◌, ◌∙◌, [], ◌∷◌, true, ap, arith, refl, reverse}
 use Rattle.ink_stack.proofs.Common.{reverse-append, ThreadOf, same_kind}
 use Rattle.ink_stack.proofs.Keeping.{kept_fewer}
 use Rattle.ink_stack.proofs.Tops.{popped_made}
@@ -6,8 +6,8 @@ use Rattle.ink_stack.proofs.running.Running.pop_away.Goals as goal
 
 pub invariant_of-self : goal.invariant_of-self
 invariant_of-self g c =
-    kept_fewer c.pop_into.new.frame.kind c.self.inside.frame.kind c.pop_into.new.frame c.pop_into.new.self.items c.self.inside.below.items c.self.inside.quiet c.quiet_below-self-inside.result c.self.inside.numbered
-    refl c.pop_into.ensures.items c.quiet_below-self-inside.ensures c.self.invariant
+    kept_fewer c.pop_into.new.frame.kind c.self.inside.frame.kind c.pop_into.new.frame c.pop_into.new.self.items c.self.inside.below.items c.self.inside.quiet c.quiet_below-self-inside.result c.min-self-inside.result c.self.inside.settled
+    refl c.pop_into.ensures.items c.quiet_below-self-inside.ensures (omega arith) (omega (arith, c.len.ensures)) c.self.invariant
 
 pub returns-clause-thread : goal.returns-clause-thread
 returns-clause-thread g c =

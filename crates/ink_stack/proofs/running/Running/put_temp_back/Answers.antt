@@ -2,7 +2,7 @@ use Rattle.std.proofs.Common.{◌≡◌, ◌+◌, ◌≤◌, ◌-◌, ap, arith,
 use Rattle.ink_stack.proofs.Common.{length-reverse, frame_count, temp_back}
 use Rattle.ink_stack.proofs.Framing.{base_set, framed_below, framed_none}
 use Rattle.ink_stack.proofs.Numbers.{quiet_set}
-use Rattle.ink_stack.proofs.Unnumbered.{unnumbered_set}
+use Rattle.ink_stack.proofs.Settling.{settled_set}
 use Rattle.ink_stack.proofs.running.Running.put_temp_back.Goals.{else-number-gt0-via-then-number-gt0+else-number-len-2, else-number-gt0-via-else-number-gt0}
 use Rattle.ink_stack.proofs.running.Running.put_temp_back.Goals as goal
 
@@ -16,7 +16,7 @@ invariant_of-self-then-number-len-2 g c =
       rw length-set c.self.invariant.0,
       quiet_set items c.args.number d now c.self.inside.quiet (omega arith) within refl refl refl c.self.invariant.1,
       base_set c.self.inside.frame.kind items c.args.number d now (omega arith) within refl c.self.invariant.2,
-      λ none. rw (unnumbered_set items c.args.number d now (omega arith) within refl) (c.self.invariant.3 none),
+      settled_set c.self.inside.settled items (c.args.number - 1) d now refl c.self.invariant.3,
     )
 
 pub returns-then-number-len-2 : goal.returns-then-number-len-2

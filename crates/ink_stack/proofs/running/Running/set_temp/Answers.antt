@@ -1,9 +1,9 @@
 use Rattle.std.proofs.Common.{◌≡◌, ◌∙◌, ◌<◌, ◌≤◌, ◌-◌, IfOk, IfSome, OnOk, ap, arith, get_or, length, length-set, refl, reverse, subst, sym}
-use Rattle.ink_stack.proofs.Common.{length-reverse, IfOk-weaker, temp_back, with_frame, text_of, ThreadOf, BaseFirst, IsQuiet, is_unnumbered}
+use Rattle.ink_stack.proofs.Common.{length-reverse, IfOk-weaker, temp_back, with_frame, text_of, ThreadOf, BaseFirst, IsQuiet, Settled}
 use Rattle.ink_stack.proofs.Bases.{base_same, same_along}
 use Rattle.ink_stack.proofs.Framing.{base_set, unframed_below}
 use Rattle.ink_stack.proofs.Numbers.{memory_along, quiet_set, row_kept, row_made, set_either, temp_along, number_below, some_number}
-use Rattle.ink_stack.proofs.Unnumbered.{unnumbered_set}
+use Rattle.ink_stack.proofs.Settling.{settled_set}
 use Rattle.ink_stack.proofs.Tops.{back_top, memory_top, temp_top}
 use Rattle.ink_model.specs.Flow.Threads.{frame_count, with_row_in, with_temp}
 use Rattle.ink_stack.proofs.running.Running.set_temp.Goals as goal
@@ -29,7 +29,7 @@ invariant_of-self-2 g c =
       omega (arith, ap length is ∙ length-set items i f, c.self.invariant.0),
       subst (λ fs. IfSome c.self.inside.quiet (λ n. IsQuiet n (reverse fs))) (sym is) (quiet_set items c.args.number d f c.self.inside.quiet c.requires.from within kind fresh depth c.self.invariant.1),
       subst (λ fs. BaseFirst d.kind (reverse fs)) (sym is) (base_set d.kind items c.args.number d f c.requires.from within kind c.self.invariant.2),
-      λ none. ap (λ fs. is_unnumbered (reverse fs)) is ∙ unnumbered_set items c.args.number d f c.requires.from within number ∙ c.self.invariant.3 none,
+      subst (Settled c.self.inside.settled) (sym is) (settled_set c.self.inside.settled items i d f number c.self.invariant.3),
     )
 
 pub returns-clause-ok : goal.returns-clause-ok

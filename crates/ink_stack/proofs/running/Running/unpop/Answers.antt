@@ -1,8 +1,7 @@
-use Rattle.std.proofs.Common.{◌≡◌, ◌∙◌, [], ◌∷◌, false, ap, arith, is_some, length, refl, reverse, sym}
+use Rattle.std.proofs.Common.{◌∙◌, [], ◌∷◌, ap, arith, length, refl, reverse}
 use Rattle.ink_stack.proofs.Common.{length-append, length-reverse, reverse-append, ThreadOf, unpopped}
-use Rattle.ink_stack.proofs.Keeping.{base_more, quiet_more, unnumbered_more, true_false}
+use Rattle.ink_stack.proofs.Keeping.{base_more, quiet_more}
 use Rattle.ink_stack.proofs.Staling.{running_is}
-use Rattle.ink_stack.proofs.running.Running.unpop.Goals.{then-self, else-self}
 use Rattle.ink_stack.proofs.running.Running.unpop.Goals as goal
 
 pub invariant_of-self : goal.invariant_of-self
@@ -10,16 +9,11 @@ invariant_of-self g c =
     let items = c.self.inside.below.items in
     let f = c.replace-under.result in
     let within = rw (← c.self.view_is) at c.requires.base in
-    let numbered : c.if-self.self ≡ false → (c.self.inside.numbered ≡ false) × (is_some f.enter ≡ false) =
-    elim c.if-self.branch [
-      | then-self w ↦ λ is. true_false c.self.inside.numbered w.if-self.true (sym w.self-is ∙ is)
-      | else-self w ↦ λ is. (w.if-self.false, ap is_some (sym w.number.ensures) ∙ sym w.is_some-self-inside.ensures ∙ sym w.self-is ∙ is)
-    ] in
     rw c.push_reserved.ensures.items (
       omega (arith, c.requires.few, ap (λ v. length v.thread.below) c.self.view_is, length-reverse items, length-append items (f ∷ [])),
       quiet_more f items c.self.inside.quiet c.quiet_above-self-inside.result c.self.invariant.1 c.quiet_above-self-inside.ensures,
       base_more c.replace-under.new.dest.kind c.args.frame.kind f c.self.inside.frame items (ap (λ h. h.kind) c.replace-under.ensures.after) c.replace-under.ensures.value within,
-      λ is. unnumbered_more f items c.self.inside.numbered c.self.invariant.3 (numbered is),
+      c.settled_above-self-inside.ensures items (omega (arith, c.len.ensures)) c.self.invariant.3,
     )
 
 pub returns : goal.returns

@@ -10,7 +10,7 @@ invariant_of-running g c =
     let frame = c.in-Some.frame in
     let whole : c.args.frames.items ≡ rest ++ frame ∷ [] = c.in-Some.ensures.items in
     let few : length rest < MAX_FRAMES = omega (arith, ap length whole ∙ length-append rest (frame ∷ []), c.requires.few) in
-    rw c.in_ok-below.ensures.frames (few, tt, bottom_base rest frame c.args.frames.items whole c.requires.base, λ none. cc)
+    rw c.in_ok-below.ensures.frames (few, tt, bottom_base rest frame c.args.frames.items whole c.requires.base, tt)
 
 pub returns-in_err-below-clause-memory : goal.returns-in_err-below-clause-memory
 returns-in_err-below-clause-memory g c =
