@@ -14,16 +14,16 @@ use ink_model::Refusal;
 use ink_step::Machine;
 use std::alloc::Global;
 
-/// A machine at the start of a story that was opened before, with the globals that it declares. Refused with `OutOfMemory` alone,
-/// where the declarations run to a step that asks for memory.
-pub fn reopened(alloc: Global, story: &Story) -> Result<Machine, Refusal>
+/// A machine at the start of a story that was opened before, with the globals that it declares. Room is made at once for so many
+/// globals, where memory allows. Refused with `OutOfMemory` alone, where the declarations run to a step that asks for memory.
+pub fn reopened(alloc: Global, story: &Story, room: usize) -> Result<Machine, Refusal>
     requires opens { is_ok (opening (story_tree story.now)) ≡ true }
     ensures ok { let s = story_tree story.now in IfOk result (λ m. opening s ≡ Ok (config_of s m)) }
     ensures aside { IfOk result (λ m. aside_in m ≡ one_flow) }
     ensures mark { IfOk result (λ m. stood_of m ≡ unmarked) }
     ensures err { IfErr result (λ r. (r ≡ refusal.OutOfMemory) × OpensShort (story_tree story.now)) }
 {
-    match Machine::open(alloc, story) {
+    match Machine::open_with_room(alloc, story, room) {
         Ok(machine) => Ok(machine),
         Err(_) => Err(Refusal::OutOfMemory),
     }

@@ -3,11 +3,11 @@ use Rattle.std.specs.Prelude.{◌≡◌, ◌⊎◌, ℕ, List, [], ◌∷◌, Bo
 use Rattle.std.specs.List.{list_all}
 use Rattle.ink_model.specs.Run.Effect.{Fields}
 use Rattle.ink_model.specs.Host.Events.{Made, calls}
-use Rattle.ink_model.specs.Memory.Refusals.{given_asks}
+use Rattle.ink_model.specs.Memory.Refusals.{IsRefusedMemory, given_asks}
 use Rattle.ink_model.specs.Run.Step.Host.{Acts, Suspends, Call, CallEffect, answering, arguments_on, is_argument}
 use Rattle.ink_model.specs.Story.Tree.{StoryTree}
 use Rattle.ink_model.specs.declared.fault.Fault.{Fault}
-use Rattle.ink_model.specs.declared.fault.Fault.TheVariants.{BadOperands, OutOfMemory, StackEmpty}
+use Rattle.ink_model.specs.declared.fault.Fault.TheVariants.{BadOperands, StackEmpty}
 use Rattle.ink_model.specs.declared.host.Event.{Event}
 use Rattle.ink_model.specs.declared.host.Given.{Given}
 use Rattle.ink_model.specs.declared.value.Value.{Value}
@@ -45,5 +45,5 @@ is_asking (Acts e) = false
 abbrev pub PerformsCall : StoryTree → ℕ → Bool → CallEffect → List Event → Fields → Result Transfer Fault → Type 0
 PerformsCall s n asks (Suspends name arguments left) es new result =
     ((gave : Option Given) × (es ≡ calls n (made_call name arguments gave ∷ [])) × Performs s (given_asks arguments left gave) (answering gave left) new result)
-    ⊎ ((es ≡ []) × (result ≡ Err OutOfMemory) × (asks ≡ true))
+    ⊎ ((es ≡ []) × IsRefusedMemory asks result)
 PerformsCall s n asks (Acts e) es new result = (es ≡ []) × Performs s asks e new result

@@ -13,6 +13,9 @@ use std::marker::Model;
 /// without a division.
 const FEWEST: usize = 512;
 
+/// For so many names room is made beforehand; for more the slots double.
+const MOST: usize = 0x8000_0000;
+
 /// A slot is chosen by a few bytes of a name. It holds one more than the number of the first name that came there, or 0. A name whose slot
 /// holds 0 is not there; the name that any other slot leads to is looked at, and where it is another, the name is among the others,
 /// which are found by order, however names are chosen. There are at least twice as many slots as names.
@@ -37,6 +40,14 @@ impl Hints {
         Hints {
             slots: Vec::new(alloc),
         }
+    }
+
+    /// Free slots for so many names. The one error is a refused request for memory.
+    pub(crate) fn with_room(alloc: Global, names: usize) -> Result<Hints, AllocError> {
+        let count = names.min(MOST).saturating_mul(2).next_power_of_two();
+        Ok(Hints {
+            slots: Vec::from_elem(alloc, 0, count.max(FEWEST))?,
+        })
     }
 
     /// Makes slots for one name more than these, where there are too few, and notes them again: twice as many as before, and 512 at

@@ -1,6 +1,6 @@
 //! Names with their numbers.
 
-ghost use Rattle.std.specs.Prelude.{◌≡◌, [], ◌∷◌, ◌++◌, None, Some, length, option_map, slice_get, IfSome, OnOk, OnErr};
+ghost use Rattle.std.specs.Prelude.{◌≡◌, [], ◌∷◌, ◌++◌, None, Some, length, option_map, slice_get, IfOk, IfSome, OnOk, OnErr};
 ghost use Rattle.ink_names.specs.Names.{Differ, number_of, without_last};
 
 use crate::hints::Hints;
@@ -40,6 +40,17 @@ impl Names {
             others: BTreeMap::new(alloc),
             hints: Hints::new(alloc),
         }
+    }
+
+    /// No names, with room for so many. The one error is a refused request for memory.
+    pub fn with_room(alloc: Global, count: usize) -> Result<Names, AllocError>
+        ensures { IfOk result (λ names. names ≡ []) }
+    {
+        Ok(Names {
+            list: Vec::with_capacity(alloc, count)?,
+            others: BTreeMap::new(alloc),
+            hints: Hints::with_room(alloc, count)?,
+        })
     }
 
     /// How many there are; no two are the same.

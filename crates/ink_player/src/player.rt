@@ -452,7 +452,7 @@ impl<P: PureFn, F: TurnFn, O: Watcher> Player<P, F, O> {
         ensures rest { Resting (rests O.state) (desk_of self.old).watchers → Resting (rests O.state) (desk_of self.new).watchers }
         ensures story { story_of self.new ≡ story_of self.old }
     {
-        match reopened(self.alloc, &self.story) {
+        match reopened(self.alloc, &self.story, self.machine.globals().len()) {
             Ok(machine) => self.begin_anew(machine),
             Err(reason) => Err(Halt::Refused(reason)),
         }

@@ -9,7 +9,7 @@ use Rattle.std.proofs.KnownBytes.{Consumes-nil, Consumes-trans}
 use Rattle.ink_model.specs.Text.Bytes.{has_newline, is_newline}
 use Rattle.ink_protocol.specs.Buffered.{Buffered}
 use Rattle.ink_protocol.specs.Input.{Takes, CutsOff, Extends, IsNewlineAt}
-use Rattle.ink_protocol.specs.Lines.{TakesLine, LacksMemory, GivesLine}
+use Rattle.ink_protocol.specs.Lines.{TakesLine, LineLacksMemory, GivesLine}
 use Rattle.ink_protocol.specs.Spelled.{HasRoom}
 use Rattle.ink_protocol.specs.declared.fault.RunFault.{RunFault}
 use Rattle.ink_protocol.specs.declared.fault.RunFault.TheVariants as fault
@@ -103,7 +103,7 @@ room_first limit most (c ∷ cs) unread some plain in_line in_input = record {
   in_input = in_input;
 }
 
-pub has_room : (a b : Option (List ℕ)) (o n : Buffered) (limit : ℕ) → length o.unread ≤ limit → (m : LacksMemory a b o n limit) → HasRoom limit o.spare (m.part ++ n.unread) (m.part ++ n.unread)
+pub has_room : (a b : Option (List ℕ)) (o n : Buffered) (limit : ℕ) → length o.unread ≤ limit → (m : LineLacksMemory a b o n limit) → HasRoom limit o.spare (m.part ++ n.unread) (m.part ++ n.unread)
 has_room a b o n limit few m =
     room_first limit o.spare m.part n.unread m.some m.takes.plain (omega (arith, m.takes.room, length-append m.part n.unread))
     (omega (arith, m.takes.takes.count, m.within, length-append m.part n.unread))

@@ -21,7 +21,7 @@ pub record TakesPart (left left' : Option (List ℕ)) (old new : Buffered) (most
   pub takes : TakesLine left left' old new most part part
 
 -- Memory was refused for a byte of a line: what was read tells neither that the line is too long nor that the input is.
-pub record LacksMemory (left left' : Option (List ℕ)) (old new : Buffered) (limit : ℕ) : Type 0 where
+pub record LineLacksMemory (left left' : Option (List ℕ)) (old new : Buffered) (limit : ℕ) : Type 0 where
   pub part : List ℕ
   pub takes : TakesLine left left' old new limit part part
   pub some : 0 < length part
@@ -38,7 +38,7 @@ GivesLine left left' old new limit (Ok (a.Last v)) = TakesLine left left' old ne
 GivesLine left left' old new limit (Err fault.Read) = (p : TakesPart left left' old new (limit + 1)) × (length p.part ≤ limit) × (new.unread ≡ [])
 GivesLine left left' old new limit (Err fault.Write) = ⊥
 GivesLine left left' old new limit (Err fault.TooLong) = (p : TakesPart left left' old new (limit + 1)) × IsTooLong limit new p.part
-GivesLine left left' old new limit (Err fault.OutOfMemory) = LacksMemory left left' old new limit
+GivesLine left left' old new limit (Err fault.OutOfMemory) = LineLacksMemory left left' old new limit
 
 -- whether it is what stands before the source's end
 abbrev pub is_last : Result Line RunFault → Bool

@@ -1,9 +1,9 @@
 -- Frames by their headers, of which the lowest are shared.
-use Rattle.std.proofs.Common.{◌≡◌, ◌∙◌, ◌<◌, ◌≤◌, ◌+◌, ◌-◌, ℕ, List, [], ◌∷◌, ◌++◌, ap, append_assoc, arith, get_or, length, refl, set, sym}
-use Rattle.std.proofs.lemmas.List.{get_or-append_right, get_or_append_left, length-append, set-append_right}
+use Rattle.std.proofs.Common.{◌≡◌, ◌∙◌, ◌<◌, ◌≤◌, ◌+◌, ◌-◌, ℕ, zero, suc, List, [], ◌∷◌, ◌++◌, Bool, true, false, ap, append_assoc, arith, get_or, length, map, refl, set, sym, take}
+use Rattle.std.proofs.lemmas.List.{get_or-append_right, get_or_append_left, length-append, length-map, set-append_right, take_all}
 use Rattle.ink_stack.proofs.Common.{FrameOf, Values}
 use Rattle.ink_stack.proofs.Flat.{framed_length, header_set, framed_at, temps_at}
-use Rattle.ink_stack.specs.Frames.{frame_with, framed}
+use Rattle.ink_stack.specs.Frames.{as_seen, frame_with, framed, unnumbered}
 use Rattle.ink_stack.specs.declared.frame.Header.{Header}
 
 module _ {P : Type 0} where
@@ -60,3 +60,29 @@ module _ {P : Type 0} where
   -- one more
   pub own_more : (ls own new : List (Header P)) (x : Header P) → new ≡ own ++ x ∷ [] → ls ++ new ≡ (ls ++ own) ++ x ∷ []
   own_more ls own new x is = ap (λ hs. ls ++ hs) is ∙ sym (append_assoc ls own (x ∷ []))
+
+-- headers as they are seen
+module _ {P : Type 0} where
+  pub unnumbered_seen : (b : Bool) (hs : List (Header P)) → map (as_seen true) hs ≡ map unnumbered (map (as_seen b) hs)
+  unnumbered_seen b [] = refl
+  unnumbered_seen true (h ∷ hs) = ap (λ xs. unnumbered h ∷ xs) (unnumbered_seen true hs)
+  unnumbered_seen false (h ∷ hs) = ap (λ xs. unnumbered h ∷ xs) (unnumbered_seen false hs)
+
+  all_seen : (hs : List (Header P)) → map (as_seen false) hs ≡ hs
+  all_seen [] = refl
+  all_seen (h ∷ hs) = ap (λ xs. h ∷ xs) (all_seen hs)
+
+  -- the last one
+  pub last_seen : (f : Header P → Header P) (hs : List (Header P)) (i : ℕ) (x : Header P) → i < length hs → x ≡ get_or (map f (take (suc i) hs)) i x
+      → map f (take (suc i) hs) ≡ map f (take i hs) ++ x ∷ []
+  last_seen f [] i x inside is = absurd (omega arith)
+  last_seen f (h ∷ hs) zero x inside is = ap (λ y. y ∷ []) (sym is)
+  last_seen f (h ∷ hs) (suc i) x inside is = ap (λ xs. f h ∷ xs) (last_seen f hs i x (omega arith) is)
+
+  -- they and more, put into one list of which all are seen
+  pub more_seen : (b : Bool) (hs more all : List (Header P)) (n : ℕ) → all ≡ map (as_seen b) hs ++ map (as_seen false) more → n ≡ length hs + length more
+      → map (as_seen false) (take n all) ≡ map (as_seen b) hs ++ more
+  more_seen b hs more all n is many =
+      let whole : all ≡ map (as_seen b) hs ++ more = is ∙ ap (λ xs. map (as_seen b) hs ++ xs) (all_seen more) in
+      let few : length all ≤ n = omega (arith, ap length whole, length-append (map (as_seen b) hs) more, length-map hs (as_seen b), many) in
+      all_seen (take n all) ∙ take_all n all few ∙ whole

@@ -34,6 +34,11 @@ module _ {P : Type 0} where
   abbrev pub unnumbered : Header P → Header P
   unnumbered h = record h { enter = None }
 
+  -- as it is seen: without the number of its Enter where that counts no more
+  abbrev pub as_seen : Bool → Header P → Header P
+  as_seen true h = unnumbered h
+  as_seen false h = h
+
   -- frames of these headers; those behind the temporaries have none
   abbrev pub framed : List (Header P) → List Values → List (FrameOf P)
   framed [] ts = []

@@ -122,15 +122,15 @@ impl<P: Copy> Frames<P> {
 
     /// The header of the frame at an index.
     #[inline(always)]
-    pub(crate) fn header_at(&self, index: usize) -> &Header<P>
+    pub(crate) fn header_at(&self, index: usize) -> Header<P>
         requires { index < length self.now.items }
-        ensures { (d : FrameOf P) → get_or self.now.items index d ≡ frame_with result.now (get_or self.now.items index d).temps }
+        ensures { (d : FrameOf P) → get_or self.now.items index d ≡ frame_with result (get_or self.now.items index d).temps }
     {
         let below = self.lowest.len();
         if index < below {
-            return &self.lowest.as_slice()[index];
+            return self.lowest.header(index);
         }
-        &self.headers[index - below]
+        self.headers[index - below]
     }
 
     /// Whether the frame at an index is a function.
@@ -169,7 +169,7 @@ impl<P: Copy> Frames<P> {
         ensures ended { (d : FrameOf P) → OnTrue result (with_fresh true (stale depth (get_or self.old.items index d)) ≡ get_or self.old.items index d) }
         ensures kept { (d : FrameOf P) → OnFalse result (stale depth (get_or self.old.items index d) ≡ get_or self.old.items index d) }
     {
-        let mut header = *self.header_at(index);
+        let mut header = self.header_at(index);
         if !header.end_one(depth) {
             return false;
         }
@@ -308,7 +308,7 @@ impl<P: Copy> Frames<P> {
     {
         let shared = self.lowest.len();
         if settled < shared {
-            self.lowest.thaw_numbered(&mut self.headers);
+            self.lowest.clear_numbers();
             clear_numbers_of(self.headers.as_mut_slice());
         } else {
             clear_numbers_from(self.headers.as_mut_slice(), settled - shared);

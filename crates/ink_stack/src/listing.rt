@@ -41,7 +41,7 @@ impl<P: Copy> Frames<P> {
     {
         let temps = temps_at(alloc, self.temps.as_slice(), index)?;
         Ok(Frame {
-            header: *self.header_at(index),
+            header: self.header_at(index),
             temps,
         })
     }

@@ -1,8 +1,8 @@
 //! Headers that several lists of frames share.
 
-ghost use Rattle.std.specs.Prelude.{◌≡◌, [], ◌∷◌, ◌++◌, ◌<◌, ◌≤◌, ◌+◌, length, map, vec_capacity, IfOk, MatchOption};
-ghost use Rattle.std.specs.Bool.{OnFalse};
-ghost use Rattle.ink_stack.specs.Frames.{unnumbered};
+ghost use Rattle.std.specs.Prelude.{◌≡◌, [], ◌∷◌, ◌++◌, ◌<◌, ◌≤◌, ◌+◌, get_or, length, map, take, vec_capacity, IfOk, MatchOption};
+ghost use Rattle.ink_stack.specs.Frames.{as_seen, items_of, unnumbered};
+ghost use Rattle.ink_stack.specs.declared.frame.Header.{Header};
 
 use crate::frame::Header;
 use ink_model::Shared;
@@ -10,21 +10,23 @@ use std::alloc::{AllocError, Global};
 use std::marker::Model;
 
 /// The lowest headers of a list of frames, which its copies share: the first ones, so many as are counted, of some that no list
-/// changes. A contract sees these.
+/// changes. `unnumbered` says that the numbers of their Enters count no more in this list, so that the end of a line need not copy
+/// the headers. A contract sees these as they count.
 #[derive(Drop)]
 pub(crate) struct Lowest<P> {
     shared: Option<Shared<Vec<Header<P>>>>,
     count: usize,
+    unnumbered: bool,
 }
 
 impl<P> Model for Lowest<P> {
-    ghost use Rattle.std.specs.Prelude.{◌≤◌, List, length, take};
-    ghost use Rattle.ink_stack.specs.Frames.{items_of};
+    ghost use Rattle.std.specs.Prelude.{◌≤◌, List, length, map, take};
+    ghost use Rattle.ink_stack.specs.Frames.{items_of, as_seen};
     ghost use Rattle.ink_stack.specs.declared.frame.Header.{Header};
 
     ghost Value = { List (Header P) };
 
-    ghost view = { λ l. take l.count (items_of l.shared) };
+    ghost view = { λ l. map (as_seen l.unnumbered) (take l.count (items_of l.shared)) };
 
     ghost invariant = { λ l. l.count ≤ length (items_of l.shared) };
 }
@@ -37,6 +39,7 @@ impl<P: Copy> Lowest<P> {
         Lowest {
             shared: None,
             count: 0,
+            unnumbered: false,
         }
     }
 
@@ -48,14 +51,13 @@ impl<P: Copy> Lowest<P> {
         self.count
     }
 
-    /// The headers.
-    pub(crate) fn as_slice(&self) -> &[Header<P>]
-        ensures { result.now ≡ self.now }
+    /// The header at an index.
+    #[inline(always)]
+    pub(crate) fn header(&self, index: usize) -> Header<P>
+        requires { index < length self.now }
+        ensures { (d : Header P) → result ≡ get_or self.now index d }
     {
-        match &self.shared {
-            Some(shared) => &shared.get().as_slice()[..self.count],
-            None => &[],
-        }
+        seen(&first(&self.shared, self.count)[index], self.unnumbered)
     }
 
     /// One more owner. It asks for no memory; the one error is a count of owners that is full.
@@ -67,6 +69,7 @@ impl<P: Copy> Lowest<P> {
             Some(shared) => Ok(Lowest {
                 shared: Some(shared.share()?),
                 count: self.count,
+                unnumbered: self.unnumbered,
             }),
             None => Ok(Lowest::new()),
         }
@@ -84,11 +87,12 @@ impl<P: Copy> Lowest<P> {
             return Err(AllocError);
         };
         let mut all = Vec::with_capacity(alloc, count)?;
-        push_all(&mut all, self.as_slice());
-        push_all(&mut all, more);
+        push_all(&mut all, first(&self.shared, self.count), self.unnumbered);
+        push_all(&mut all, more, false);
         Ok(Lowest {
             shared: Some(Shared::new(alloc, all)?),
             count,
+            unnumbered: false,
         })
     }
 
@@ -101,7 +105,7 @@ impl<P: Copy> Lowest<P> {
         if self.count == 0 {
             return None;
         }
-        let last = self.as_slice()[self.count - 1];
+        let last = self.header(self.count - 1);
         self.count -= 1;
         Some(last)
     }
@@ -116,44 +120,51 @@ impl<P: Copy> Lowest<P> {
         ensures room { vec_capacity headers.new ≡ vec_capacity headers.old }
     {
         let own = headers.len();
-        push_all(headers, self.as_slice());
+        push_all(headers, first(&self.shared, self.count), self.unnumbered);
         headers.rotate_left(own);
         *self = Lowest::new();
     }
 
-    /// They go like that where one has the number of its Enter, so that none here has one.
-    pub(crate) fn thaw_numbered(&mut self, headers: &mut Vec<Header<P>>)
-        requires { length (self.old ++ headers.old.items) ≤ vec_capacity headers.old }
-        ensures none { map unnumbered self.new ≡ self.new }
-        ensures all { self.new ++ headers.new.items ≡ self.old ++ headers.old.items }
-        ensures room { vec_capacity headers.new ≡ vec_capacity headers.old }
+    /// None has the number of its Enter any more; for other owners it stays.
+    pub(crate) fn clear_numbers(&mut self)
+        ensures { self.new ≡ map unnumbered self.old }
     {
-        if self.has_numbers() {
-            self.thaw(headers);
-        }
-    }
-
-    // Whether one has the number of its Enter.
-    fn has_numbers(&self) -> bool
-        ensures { OnFalse result (map unnumbered self.now ≡ self.now) }
-    {
-        for header in self.as_slice() {
-            if header.enter.is_some() {
-                return true;
-            }
-        }
-        false
+        self.unnumbered = true;
     }
 }
 
-/// Puts copies of headers behind others, where there is room for them.
+/// The first ones, so many, of headers that are shared.
+#[inline(always)]
+fn first<P: Copy>(shared: &Option<Shared<Vec<Header<P>>>>, count: usize) -> &[Header<P>]
+    requires { count ≤ length (items_of shared.now) }
+    ensures { result.now ≡ take count (items_of shared.now) }
+{
+    match shared {
+        Some(shared) => &shared.get().as_slice()[..count],
+        None => &[],
+    }
+}
+
+/// A header, without the number of its Enter where that counts no more.
+#[inline(always)]
+fn seen<P: Copy>(header: &Header<P>, unnumbered: bool) -> Header<P>
+    ensures { result ≡ as_seen unnumbered header.now }
+{
+    let mut seen = *header;
+    if unnumbered {
+        seen.enter = None;
+    }
+    seen
+}
+
+/// Puts copies of headers behind others, where there is room for them, without the numbers of their Enters where these count no more.
 #[inline(never)]
-fn push_all<P: Copy>(headers: &mut Vec<Header<P>>, more: &[Header<P>])
+fn push_all<P: Copy>(headers: &mut Vec<Header<P>>, more: &[Header<P>], unnumbered: bool)
     requires { length headers.old.items + length more.now ≤ vec_capacity headers.old }
-    ensures items { headers.new.items ≡ headers.old.items ++ more.now }
+    ensures items { headers.new.items ≡ headers.old.items ++ map (as_seen unnumbered) more.now }
     ensures room { vec_capacity headers.new ≡ vec_capacity headers.old }
 {
     for header in more {
-        headers.push_reserved(*header);
+        headers.push_reserved(seen(header, unnumbered));
     }
 }

@@ -4,7 +4,7 @@ use Rattle.ink_model.specs.Choices.Choosing.{chosen}
 use Rattle.ink_model.specs.Run.Configuration.{ChoiceOf, Configuration}
 use Rattle.ink_model.specs.Host.Events.{calls}
 use Rattle.ink_model.specs.Host.Bindings.{Bound, turn_function}
-use Rattle.ink_model.specs.Memory.Refusals.{ByRule, LacksMemory, OpensShort, answered_asks}
+use Rattle.ink_model.specs.Memory.Refusals.{ByRule, IsRefusedMemory, LacksMemory, OpensShort, answered_asks}
 use Rattle.ink_model.specs.Run.Move.{Outcome, Next, Stop, Faults}
 use Rattle.ink_model.specs.Run.Opening.{opening}
 use Rattle.ink_model.specs.Run.Moments.{answered}
@@ -57,7 +57,7 @@ step_end (Err f) = Err f
 abbrev pub StepMakes : StoryTree → Bound → ℕ → Bool → Bool → Stepped → List Event → Values → Configuration → Result StepEnd Fault → Type 0
 StepMakes s b n pressed asks (Wants name arguments f d) es globals new result =
     ((gave : Option Given) × (b name ≡ Some turn_function) × (es ≡ calls n (made_call name arguments gave ∷ [])) × StepEnds (pressed || answered_asks s arguments f d gave) (answered s f d gave) globals new result)
-    ⊎ ((es ≡ []) × (result ≡ Err OutOfMemory) × ((pressed || asks) ≡ true) × (new.shared.globals ≡ globals))
+    ⊎ ((es ≡ []) × (new.shared.globals ≡ globals) × IsRefusedMemory (pressed || asks) result)
 StepMakes s b n pressed asks (Comes outcome) es globals new result = (es ≡ []) × StepEnds (pressed || asks) outcome globals new result
 
 -- A quiet step calls none: where it wants one, it says so and has changed nothing.

@@ -43,10 +43,20 @@ impl Machine {
         ensures mark { IfOk result (λ m. stood_of m ≡ unmarked) }
         ensures err { IfErr result (λ e. FailsToOpen (story_tree story.now) e.fault e.globals.rows) }
     {
+        Machine::open_with_room(alloc, story, 0)
+    }
+
+    /// The same, with room made at once for so many globals, where memory allows. Memory that is refused to that room is no fault.
+    pub fn open_with_room(alloc: Global, story: &Story, room: usize) -> Result<Machine, Unopened>
+        ensures ok { let s = story_tree story.now in IfOk result (λ m. opening s ≡ Ok (config_of s m)) }
+        ensures aside { IfOk result (λ m. aside_in m ≡ one_flow) }
+        ensures mark { IfOk result (λ m. stood_of m ≡ unmarked) }
+        ensures err { IfErr result (λ e. FailsToOpen (story_tree story.now) e.fault e.globals.rows) }
+    {
         let Some(place) = first_declaration(story) else {
             return Ok(Machine::at_start(alloc, story, Globals::new(alloc)));
         };
-        let mut machine = Machine::fresh(alloc, place, Globals::new(alloc));
+        let mut machine = Machine::fresh(alloc, place, undeclared(alloc, room));
         let outcome = machine.run_alone(alloc, story);
         let globals = machine.into_globals();
         match outcome {
@@ -101,6 +111,19 @@ impl Machine {
             trail: Trail::new(alloc),
             alloc,
         }
+    }
+}
+
+// No globals yet, with room for so many where memory allows. No room takes no memory.
+fn undeclared(alloc: Global, room: usize) -> Globals
+    ensures { result.rows ≡ [] }
+{
+    if room == 0 {
+        return Globals::new(alloc);
+    }
+    match Globals::with_room(alloc, room) {
+        Ok(globals) => globals,
+        Err(_) => Globals::new(alloc),
     }
 }
 

@@ -55,6 +55,17 @@ impl Changes {
         }
     }
 
+    /// Nothing was assigned, with room for the notes of so many. The one error is a refused request for memory.
+    pub(crate) fn with_room(alloc: Global, count: usize) -> Result<Changes, AllocError>
+        ensures { IfOk result (λ changes. changes.noted ≡ []) }
+    {
+        Ok(Changes {
+            noted: Vec::with_capacity(alloc, count)?,
+            marked: Vec::with_capacity(alloc, count)?,
+            alloc,
+        })
+    }
+
     /// Forgets all: from now on, changes are those since this moment. Takes no memory.
     pub(crate) fn start(&mut self)
         ensures none { self.new.noted ≡ [] }

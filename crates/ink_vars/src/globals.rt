@@ -66,6 +66,18 @@ impl Globals {
         }
     }
 
+    /// No globals, with room for so many. The one error is a refused request for memory.
+    pub fn with_room(alloc: Global, count: usize) -> Result<Globals, AllocError>
+        ensures rows { IfOk result (λ globals. globals.rows ≡ []) }
+        ensures stood { IfOk result (λ globals. globals_stood globals ≡ None) }
+    {
+        Ok(Globals {
+            table: Table::with_room(alloc, count)?,
+            changes: Changes::with_room(alloc, count)?,
+            trail: Trail::new(alloc),
+        })
+    }
+
     /// The moment is this one from now on. No mark may stand, since going back leaves the moment where it is. Takes no memory.
     pub fn begin(&mut self)
         requires unmarked { globals_stood self.old ≡ None }

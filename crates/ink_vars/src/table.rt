@@ -1,6 +1,6 @@
 //! Values by name, in order, found by name and by number.
 
-ghost use Rattle.std.specs.Prelude.{◌≡◌, ◌<◌, ◌≤◌, ◌+◌, [], false, true, is_some, is_ok, length, max, option_map, slice_get, IfErr, IfSome, OnOk, OnErr, Some};
+ghost use Rattle.std.specs.Prelude.{◌≡◌, ◌<◌, ◌≤◌, ◌+◌, [], false, true, is_some, is_ok, length, max, option_map, slice_get, IfErr, IfOk, IfSome, OnOk, OnErr, Some};
 ghost use Rattle.ink_model.specs.Variables.Store.{stored, store};
 ghost use Rattle.ink_trail.specs.Undo.{but_last};
 ghost use Rattle.ink_vars.specs.Changes.{number_of};
@@ -50,6 +50,18 @@ impl Table {
             slots: Vec::new(alloc),
             alloc,
         }
+    }
+
+    /// No globals, with room for so many. The one error is a refused request for memory.
+    pub(crate) fn with_room(alloc: Global, count: usize) -> Result<Table, AllocError>
+        ensures { IfOk result (λ table. table ≡ []) }
+    {
+        Ok(Table {
+            names: Names::with_room(alloc, count)?,
+            values: Vec::with_capacity(alloc, count)?,
+            slots: Vec::with_capacity(alloc, count)?,
+            alloc,
+        })
     }
 
     /// The value of a global, none where there is no such global.

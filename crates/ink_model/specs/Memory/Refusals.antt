@@ -26,6 +26,10 @@ use Rattle.ink_model.specs.declared.value.Value.TheVariants as value
 abbrev pub LacksMemory : Bool → Fault → Type 0
 LacksMemory asks f = (f ≡ OutOfMemory) × (asks ≡ true)
 
+-- A call was refused memory, where it may be.
+abbrev pub IsRefusedMemory : {A : Type 0} → Bool → Result A Fault → Type 0
+IsRefusedMemory asks result = (result ≡ Err OutOfMemory) × (asks ≡ true)
+
 -- What a call comes to by its rule. Where the rule gives something, the call gives what goes with it, or memory was refused; where
 -- the rule has a fault, that is the call's, or memory was refused before it was found. `keeps` says of the cause of a failed call
 -- what that call leaves.
@@ -38,7 +42,7 @@ ByRule lacks gives keeps (Err g) (Err f) = keeps ((f ≡ g) ⊎ lacks f)
 -- A call's result is that of the rule; or it is refused memory, where the rule asks for it.
 abbrev pub Gives : {A : Type 0} → Result A Fault → Result A Fault → Type 0
 Gives (Ok a) rule = rule ≡ Ok a
-Gives (Err f) rule = ((f ≡ OutOfMemory) × (asks_for rule ≡ true)) ⊎ (rule ≡ Err f)
+Gives (Err f) rule = LacksMemory (asks_for rule) f ⊎ (rule ≡ Err f)
 
 -- what a call leaves, where it did not fail
 abbrev pub leaving : {A S : Type 0} → S → Result A Fault → Result S Fault

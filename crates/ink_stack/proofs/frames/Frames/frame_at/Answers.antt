@@ -11,4 +11,4 @@ returns g c = λ d.
     let inside = inside_all hs ts _ c.args.index (ap (λ v. v.items) c.self.view_is) c.requires in
     let rows : c.in_ok-temps.temps ≡ (get_or c.args.self.now.items c.args.index d).temps =
     c.in_ok-temps.ensures ∙ ap (λ own. get_or own c.args.index []) c.as_slice.ensures.value ∙ rw (← c.self.view_is) (sym (temps_at hs ts c.args.index d inside)) in
-    ap (λ own. frame_with c.header_at.result.now own) rows ∙ sym (c.header_at.ensures d)
+    ap (λ own. frame_with c.header_at.result own) rows ∙ sym (c.header_at.ensures d)

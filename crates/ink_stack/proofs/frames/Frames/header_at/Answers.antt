@@ -1,4 +1,4 @@
-use Rattle.std.proofs.Common.{◌<◌, ◌++◌, ◌∙◌, ap, arith, get_or, length}
+use Rattle.std.proofs.Common.{◌<◌, ◌++◌, ap, arith, length}
 use Rattle.std.proofs.lemmas.List.{length-append}
 use Rattle.ink_stack.proofs.Sharing.{header_own, header_shared, inside_all}
 use Rattle.ink_stack.proofs.frames.Frames.header_at.Goals as goal
@@ -6,8 +6,8 @@ use Rattle.ink_stack.proofs.frames.Frames.header_at.Goals as goal
 pub returns-then-index-below : goal.returns-then-index-below
 returns-then-index-below g c = λ d.
     rw (← c.self.view_is)
-    (header_shared c.self.inside.lowest c.self.inside.headers.items c.self.inside.temps.items c.args.index c.len-below.result d c.index-as_slice-index.result
-    c.len-below.ensures c.if-index-below.true (c.index-as_slice-index.is ∙ ap (λ hs. get_or hs c.args.index c.index-as_slice-index.result) c.as_slice.ensures))
+    (header_shared c.self.inside.lowest c.self.inside.headers.items c.self.inside.temps.items c.args.index c.len-below.result d c.header.result
+    c.len-below.ensures c.if-index-below.true (c.header.ensures c.header.result))
 
 pub index-requires : goal.index-requires
 index-requires g c =
