@@ -7,8 +7,10 @@
 The shapes stand in hostile.py. Each is one run of the program. Its row has the bytes that are read, the processor time, how often
 that is what plain ones take (a plain story of as many bytes, a plain loop of as many steps, as many plain lines, plain text of as
 many bytes written), the peak of memory, how often that is the bytes, and how the run ended. A row that takes more than 3 times a
-plain one, or more than 26 times its bytes and 16 MiB at the peak, is marked. A run is ended at the limits of time and of address
-space; its times are then the least that it takes. The status is 0 only where no row is marked.
+plain one, or more than 26 times its bytes and 16 MiB at the peak, is marked. A machine's pace changes from minute to minute, so a
+row that takes more than 3 times a plain one, and not many times as long, is played again beside plain runs that are measured anew,
+twice at most, and the least counts. A run is ended at the limits of time and of address space; its times are then the least that it
+takes. The status is 0 only where no row is marked.
 """
 import argparse
 import os
@@ -20,6 +22,7 @@ import toolchain
 from hostile import LINES, LOADED, MIB, MOST_STEPS, READING, RUNNING, THROUGH, flat, knots, named
 
 MOST_TIMES, MOST_BYTES, KEPT = 3, 26, 16 * MIB
+FAR_TIMES, TRIES = 12, 3
 ENDINGS = ("OutOfMemory", "TooDeep", "OutOfSteps", "NotJson", "BadPath", "Unsupported", "BadSave", "BadPointer", "StackEmpty", "Limit", "Shape", "NoSuchPath", "NoSuchVariable", "BadValue")
 
 
@@ -52,9 +55,27 @@ def ending(ran):
     return said[:30] if ran.status else "served"
 
 
-def tell(name, text, steps, ran, plain):
+class Measure:
+    """Runs shapes beside plain runs, which are measured anew where a shape's time is near its limit."""
+
+    def __init__(self, run):
+        self.run, self.plain = run, Plain(run)
+
+    def played(self, text, steps, words):
+        """A run of a shape, and how often it takes what plain runs take: the least of the tries."""
+        tried = []
+        for _ in range(TRIES):
+            ran = self.run(text, words)
+            times = ran.seconds / self.plain.takes(text, steps, len(ran.output))
+            tried.append((ran, times))
+            if not MOST_TIMES < times < FAR_TIMES:
+                break
+            self.plain = Plain(self.run)
+        return min(tried, key=lambda one: one[1])
+
+
+def tell(name, text, ran, times, plain):
     """Prints a row, and answers whether it is marked."""
-    times = ran.seconds / plain.takes(text, steps, len(ran.output))
     more = max(0, ran.peak - plain.peak)
     marks = ["time"] * (times > MOST_TIMES) + ["memory"] * (more > MOST_BYTES * len(text) + KEPT)
     print("%-50s %10d %8.2f %7.1f %8.0f %7.1f  %-18s %s" % (name, len(text), ran.seconds, times, ran.peak / MIB, more / len(text), ending(ran), " ".join(marks)), flush=True)
@@ -90,13 +111,15 @@ def main():
         def run(text, program_words=()):
             return launcher.run([os.path.realpath(words.prog), *program_words], text.encode(errors="surrogateescape"), words.seconds, int(words.space * 1024) * MIB)
 
-        plain = Plain(run)
+        measure = Measure(run)
+        plain = measure.plain
         print("plain: start %.1f ms, %.1f ns a byte read, %.1f ns a step, %.0f ns a line, %.1f ns a byte written"
               % (plain.start * 1e3, plain.byte * 1e9, plain.step * 1e9, plain.line * 1e9, plain.written * 1e9))
         print("%-50s %10s %8s %7s %8s %7s  %s" % ("", "bytes", "s", "/ plain", "MiB", "/ bytes", "ends"))
         for name, text, steps, program_words in shapes(words.names, int(words.size * MIB)):
             tried += 1
-            marked += tell(name, text, steps, run(text, program_words), plain)
+            ran, times = measure.played(text, steps, program_words)
+            marked += tell(name, text, ran, times, plain)
     print("%d shapes, %d marked" % (tried, marked))
     return 1 if marked or not tried else 0
 
