@@ -182,7 +182,7 @@ module _ (s : StoryTree) (n : ℕ) (name : List ℕ) (k : ℕ) (f : Fields) wher
       made_turn gave es new t is h = subst (λ e. PerformsCall s n (binding_asks (Some turn_function) k f) e es new t) (sym asked) (inl (gave, is, h))
 
       short_turn : (es : List Event) (new : Fields) → es ≡ [] → Turned es new (Err OutOfMemory)
-      short_turn es new is = subst (λ e. PerformsCall s n (binding_asks (Some turn_function) k f) e es new (Err OutOfMemory)) (sym asked) (inr (is, refl, asks_memory))
+      short_turn es new is = subst (λ e. PerformsCall s n (binding_asks (Some turn_function) k f) e es new (Err OutOfMemory)) (sym asked) (inr (is, (refl, asks_memory)))
 
 -- a pure function gave an answer
 pub pure_gave : (s : StoryTree) (k : ℕ) (f new : Fields) (vs : List Value) (lends : Ok vs ≡ lent_arguments k f.stack) (so : List Value → Option Given) (given : Given) (t : Result Transfer Fault) → so vs ≡ Some given

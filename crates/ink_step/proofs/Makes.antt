@@ -25,7 +25,7 @@ module _ (s : StoryTree) (b : Bound) (n : ℕ) (pressed : Bool) (es : List Event
   pub makes_more : (r : Result StepEnd Fault) (more asking : Bool) (o : Stepped) → StepMakes s b n pressed asking o es globals d r → StepMakes s b n pressed (more || asking) o es globals d r
   makes_more r more asking (Wants name arguments f c) h = elim h [
     | inl made ↦ inl made
-    | inr short ↦ inr (short.0, short.1, short.2, or_between pressed more asking short.3)
+    | inr short ↦ inr (short.0, short.1, (short.2.0, or_between pressed more asking short.2.1))
   ]
   makes_more r more asking (Comes o) h = (h.0, ends_where _ _ (or_between pressed more asking) o globals d r h.1)
 
@@ -33,7 +33,7 @@ module _ (s : StoryTree) (b : Bound) (n : ℕ) (pressed : Bool) (es : List Event
   pub makes_said : (asking : Bool) (o : Stepped) → StepMakes s b n pressed asking o es globals d (Ok ends.WantsCall) → ⊥
   makes_said asking (Wants name arguments f c) h = elim h [
     | inl made ↦ never_wants _ (answered s f c made.0) globals d made.3
-    | inr short ↦ absurd (cc)
+    | inr short ↦ let refused = short.2.0 in absurd (cc)
   ]
   makes_said asking (Comes o) h = never_wants (pressed || asking) o globals d h.1
 
@@ -48,7 +48,7 @@ pub makes_where : (s : StoryTree) (b : Bound) (n : ℕ) (es : List Event) (globa
     → StepMakes s b n pressed asking o es globals d r → StepMakes s b n more asking o es globals d r
 makes_where s b n es globals d r pressed more allows asking (Wants name arguments f c) h = elim h [
   | inl made ↦ inl (made.0, made.1, made.2, ends_where _ _ (or_where pressed more _ allows) (answered s f c made.0) globals d r made.3)
-  | inr short ↦ inr (short.0, short.1, short.2, or_where pressed more asking allows short.3)
+  | inr short ↦ inr (short.0, short.1, (short.2.0, or_where pressed more asking allows short.2.1))
 ]
 makes_where s b n es globals d r pressed more allows asking (Comes o) h = (h.0, ends_where _ _ (or_where pressed more asking allows) o globals d r h.1)
 
@@ -82,7 +82,7 @@ plainly_never asking o globals d r is h = by o (subst (EndsPlainly asking o glob
 pub makes_short : (s : StoryTree) (b : Bound) (n : ℕ) (pressed asking : Bool) (o : Stepped) (globals : Values) (d : Configuration) (f : Fault) → LacksMemory (pressed || asking) f → d.shared.globals ≡ globals
     → StepMakes s b n pressed asking o [] globals d (Err f)
 makes_short s b n pressed asking (Comes o) globals d f short same = (refl, ends_short (pressed || asking) o globals d f short same)
-makes_short s b n pressed asking (Wants name arguments k c) globals d f short same = inr (refl, same, ap Err short.0, short.1)
+makes_short s b n pressed asking (Wants name arguments k c) globals d f short same = inr (refl, same, (ap Err short.0, short.1))
 
 -- ---- effects of calls
 
@@ -127,7 +127,7 @@ module _ (s : StoryTree) (b : Bound) (n : ℕ) (pressed asking : Bool) (c d : Co
     pub makes : (k : CallEffect) (es : List Event) → IsCall b k → PerformsCall s n asking k es new transfer → StepMakes s b n pressed (calling_asks s asking k c) (call_made s k c) es globals d r
     makes (Suspends name arguments left) es is h = elim h [
       | inl made ↦ inl (made.0, is, made.1, goes (given_asks arguments left made.0) (answering made.0 left) (answering_plain made.0 left) made.2)
-      | inr short ↦ inr (short.0, (failed short.1).1, (failed short.1).0, or_more pressed asking short.2)
+      | inr short ↦ inr (short.0, (failed short.1.0).1, ((failed short.1.0).0, or_more pressed asking short.1.1))
     ]
     makes (Acts e) es is h = (h.0, goes asking e is h.1)
 
