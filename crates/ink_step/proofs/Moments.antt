@@ -149,7 +149,7 @@ module _ (s : StoryTree) (b : Bound) (marked pressed : Bool) (made : List Made) 
         ⊎ ((es ≡ []) × (result ≡ Err OutOfMemory) × ((by_mark || asks s b old) ≡ true) × (new.shared.globals ≡ old.shared.globals)) → Did s b marked pressed made n es old new result
     did_calling result h = elim h [
       | inl called ↦ record { more = call called.0 ∷ []; events = called.2; bound = (called.1, tt); ends = ends_calling called.0 result called.3 }
-      | inr short ↦ subst (Did s b marked pressed made n es old new) (sym short.2.0) (record { more = []; events = short.0; bound = tt; ends = (short.1, inr (refl, short_plainly short.2.1)) })
+      | inr short ↦ subst (Did s b marked pressed made n es old new) (sym short.2) (record { more = []; events = short.0; bound = tt; ends = (short.1, inr (refl, short_plainly short.3)) })
     ]
 
   -- ---- a step in a run
