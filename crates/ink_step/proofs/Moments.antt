@@ -4,7 +4,7 @@ use Rattle.std.proofs.lemmas.List.{append-nil, map-append}
 use Rattle.ink_step.proofs.Common.{Configuration, Fields, Outcome, Next, Stop, Faults, Stepped, Comes, Wants, step, Values, StoryTree, Fault, LacksMemory, Event, Given, MAX_STEPS, Value, takes_first, StepEnds, StepMakes, StepEnd}
 use Rattle.ink_model.specs.Host.Events.{calls}
 use Rattle.ink_model.specs.Host.Bindings.{Bound, turn_function}
-use Rattle.ink_model.specs.Memory.Refusals.{GetsTo, answered_asks, asks}
+use Rattle.ink_model.specs.Memory.Refusals.{GetsTo, IsRefusedMemory, answered_asks, asks}
 use Rattle.ink_model.specs.Run.Moments.{Made, Moment, At, Stopped, Faulted, answered, answers_of, came, cut_off, moment, moment_after, next, run}
 use Rattle.ink_model.specs.declared.fault.Fault.TheVariants.{OutOfMemory, OutOfSteps}
 use Rattle.ink_step.specs.Runs.{AreBound, RunFalls, StepCalls, TakesAt}
@@ -146,10 +146,10 @@ module _ (s : StoryTree) (b : Bound) (marked pressed : Bool) (made : List Made) 
           by (Some given) at h = (name, arguments, given, f, d, is, ap (λ o. call o ∷ []) at, h)
 
     did_calling : (result : Result StepEnd Fault) → ((gave : Option Given) × (b name ≡ Some turn_function) × (es ≡ calls n (call gave ∷ [])) × StepEnds (by_mark || answered_asks s arguments f d gave) (answered s f d gave) old.shared.globals new result)
-        ⊎ ((es ≡ []) × (result ≡ Err OutOfMemory) × ((by_mark || asks s b old) ≡ true) × (new.shared.globals ≡ old.shared.globals)) → Did s b marked pressed made n es old new result
+        ⊎ ((es ≡ []) × (new.shared.globals ≡ old.shared.globals) × IsRefusedMemory (by_mark || asks s b old) result) → Did s b marked pressed made n es old new result
     did_calling result h = elim h [
       | inl called ↦ record { more = call called.0 ∷ []; events = called.2; bound = (called.1, tt); ends = ends_calling called.0 result called.3 }
-      | inr short ↦ subst (Did s b marked pressed made n es old new) (sym short.2) (record { more = []; events = short.0; bound = tt; ends = (short.1, inr (refl, short_plainly short.3)) })
+      | inr short ↦ subst (Did s b marked pressed made n es old new) (sym short.2.0) (record { more = []; events = short.0; bound = tt; ends = (short.1, inr (refl, short_plainly short.2.1)) })
     ]
 
   -- ---- a step in a run
