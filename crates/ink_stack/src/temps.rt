@@ -12,6 +12,7 @@ use ink_model::{Shared, Text, Value};
 use std::alloc::{AllocError, Global};
 use std::cmp::Ordering;
 use std::marker::Model;
+use std::slice;
 
 /// The name of a temporary that is set: one to be copied where it is new, or one that can be shared.
 #[derive(Clone, Copy)]
@@ -116,13 +117,10 @@ impl Temps {
     pub(crate) fn get(&self, name: &str) -> Option<&Value>
         ensures { option_map (λ value. value.now) result ≡ row name_order name.now self.now }
     {
-        let rows = self.rows.as_slice();
-        if rows.len() <= FEW {
-            return value_of(rows, name);
-        }
-        match find_by_halves(rows, name) {
-            Ok(index) => Some(&rows[index].1),
-            Err(_) => None,
+        match &self.rows {
+            Rows::Empty => None,
+            Rows::One(row) => value_of(slice::from_ref(row), name),
+            Rows::Many(rows) => value_among(rows, name),
         }
     }
 
@@ -189,7 +187,23 @@ fn find(rows: &[(Shared<Text>, Value)], name: &str) -> Result<usize, usize>
     find_by_halves(rows, name)
 }
 
+// The value of a name among rows that may be many. It is a call of its own, so that one row is looked at without what many want.
+#[inline(never)]
+fn value_among<'a>(rows: &'a [(Shared<Text>, Value)], name: &str) -> Option<&'a Value>
+    requires { rows_rise name_order rows.now ≡ true }
+    ensures { option_map (λ value. value.now) result ≡ row name_order name.now rows.now }
+{
+    if rows.len() <= FEW {
+        return value_of(rows, name);
+    }
+    match find_by_halves(rows, name) {
+        Ok(index) => Some(&rows[index].1),
+        Err(_) => None,
+    }
+}
+
 // The value of a name among rows that are looked at one by one: whether two names are the same is soon seen.
+#[inline(always)]
 fn value_of<'a>(rows: &'a [(Shared<Text>, Value)], name: &str) -> Option<&'a Value>
     requires { rows_rise name_order rows.now ≡ true }
     ensures { option_map (λ value. value.now) result ≡ row name_order name.now rows.now }

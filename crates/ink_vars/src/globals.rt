@@ -6,9 +6,11 @@ ghost use Rattle.ink_model.specs.Variables.Store.{Values, stored, store};
 ghost use Rattle.ink_trail.specs.Undo.{KeepsTrail, TrailsOrKeeps};
 ghost use Rattle.ink_vars.specs.Changes.{AnswersAs, changed_numbers, number_of};
 ghost use Rattle.ink_vars.specs.Globals.{DifferInName};
+ghost use Rattle.ink_vars.specs.Outcomes.{name_of};
 ghost use Rattle.ink_vars.specs.Undo.{global_back, globals_spare, globals_stood};
 
 use crate::changes::{Changes, changed};
+use crate::places::Name;
 use crate::table::Table;
 use crate::undo::{GlobalPair, put_noted};
 use ink_model::Value;
@@ -115,6 +117,14 @@ impl Globals {
         self.table.found(name, number)
     }
 
+    /// The value of a global with its index, none where there is no such global.
+    #[inline(always)]
+    pub(crate) fn find(&self, name: &str) -> Option<(usize, &Value)>
+        ensures { option_map (λ f. f.1.now) result ≡ stored name.now self.now.rows }
+    {
+        self.table.find(name)
+    }
+
     /// Whether there is such a global.
     pub fn contains(&self, name: &str) -> bool
         ensures { result ≡ is_some (stored name.now self.now.rows) }
@@ -174,6 +184,56 @@ impl Globals {
             return self.put_marked(name, number, value);
         }
         self.changes.put(&mut self.table, name, number, value)
+    }
+
+    /// The same by the name of a variable. Where a pointer led to it, the global is looked for first where it was found then.
+    #[inline(always)]
+    pub fn put_named(&mut self, name: &Name<'_>, value: Value) -> Result<(), AllocError>
+        ensures ok { OnOk result (self.new.rows ≡ store (name_of name.now) value self.old.rows) }
+        ensures err { OnErr result (self.new.rows ≡ self.old.rows) }
+        ensures start { self.new.start ≡ self.old.start }
+        ensures memory { OnErr result ((is_some (stored (name_of name.now) self.old.rows) ≡ false) ⊎ (is_some (globals_stood self.old) ≡ true)) }
+        ensures asks { OnErr result ((stored (name_of name.now) self.old.start ≡ stored (name_of name.now) self.old.rows) ⊎ (globals_spare self.old < 1)) }
+        ensures trail { TrailsOrKeeps global_back 1 self.old.rows self.old.trail self.new.rows self.new.trail result }
+        ensures stood { globals_stood self.new ≡ globals_stood self.old }
+        ensures spare { globals_spare self.old ≤ globals_spare self.new + 1 }
+    {
+        match name {
+            Name::Given(name, number) => self.put(name.as_str(), *number, value),
+            Name::Pointed(name, place) => self.put_pointed(name.as_str(), *place, value),
+        }
+    }
+
+    // As `put`, of a global that is looked for at an index first.
+    #[inline(never)]
+    fn put_pointed(
+        &mut self,
+        name: &str,
+        place: Option<usize>,
+        value: Value,
+    ) -> Result<(), AllocError>
+        ensures ok { OnOk result (self.new.rows ≡ store name.now value self.old.rows) }
+        ensures err { OnErr result (self.new.rows ≡ self.old.rows) }
+        ensures start { self.new.start ≡ self.old.start }
+        ensures memory { OnErr result ((is_some (stored name.now self.old.rows) ≡ false) ⊎ (is_some (globals_stood self.old) ≡ true)) }
+        ensures asks { OnErr result ((stored name.now self.old.start ≡ stored name.now self.old.rows) ⊎ (globals_spare self.old < 1)) }
+        ensures trail { TrailsOrKeeps global_back 1 self.old.rows self.old.trail self.new.rows self.new.trail result }
+        ensures stood { globals_stood self.new ≡ globals_stood self.old }
+        ensures spare { globals_spare self.old ≤ globals_spare self.new + 1 }
+    {
+        match self.index_at(name, place) {
+            Some(index) => self.put_there(name, index, value),
+            None => self.put(name, None, value),
+        }
+    }
+
+    // The index, where the global that stands there has that name.
+    #[inline(always)]
+    fn index_at(&self, name: &str, place: Option<usize>) -> Option<usize>
+        ensures { IfSome result (λ index. (index ≡ number_of name.now self.now.rows) × (is_some (stored name.now self.now.rows) ≡ true)) }
+    {
+        let (index, _) = self.table.found_at(name, place?)?;
+        Some(index)
     }
 
     /// The same of a global that is there, whose number in order of declaration is given, while no mark stands. Takes no memory.

@@ -23,19 +23,42 @@ pub(crate) fn named<'a, P: Copy>(
     }
 }
 
+/// What a frame has by a name: its value, and the index of the global, where it is one.
+#[derive(Clone, Copy)]
+pub(crate) struct Found<'a> {
+    pub value: Option<&'a Value>,
+    pub place: Option<usize>,
+}
+
 /// The value of a name in the frame of a number, which is 0 for the globals.
+#[inline(always)]
 pub(crate) fn held<'a, P: Copy>(
     globals: &'a Globals,
     threads: &'a Threads<P>,
     frame: i32,
     name: &str,
-) -> Option<&'a Value>
-    ensures { option_map (λ value. value.now) result ≡ rules.held globals.now.rows threads.now.threads.thread frame name.now }
+) -> Found<'a>
+    ensures { option_map (λ value. value.now) result.value ≡ rules.held globals.now.rows threads.now.threads.thread frame name.now }
 {
     match usize::try_from(frame) {
-        Ok(0) => globals.get(name),
-        Ok(number) => threads.temp(number, name),
-        Err(_) => None,
+        Ok(0) => match globals.find(name) {
+            Some((index, value)) => Found {
+                value: Some(value),
+                place: Some(index),
+            },
+            None => Found {
+                value: None,
+                place: None,
+            },
+        },
+        Ok(number) => Found {
+            value: threads.temp(number, name),
+            place: None,
+        },
+        Err(_) => Found {
+            value: None,
+            place: None,
+        },
     }
 }
 
@@ -55,12 +78,12 @@ pub(crate) fn stands<P: Copy>(
     }
 }
 
-/// The last pointer of a chain: the number of a frame and a name, and the value that the frame has by it, where it has one.
+/// The last pointer of a chain: the number of a frame and a name, and what the frame has by it.
 #[derive(Clone, Copy)]
 pub(crate) struct ChainEnd<'a> {
     pub frame: i32,
     pub name: &'a Shared<Text>,
-    pub value: Option<&'a Value>,
+    pub found: Found<'a>,
 }
 
 /// The last pointer of the chain that begins with this one; none where it has more pointers than there are frames, and one
@@ -73,20 +96,20 @@ pub(crate) fn chain_end<'a, P: Copy>(
     name: &'a Shared<Text>,
 ) -> Option<ChainEnd<'a>>
     ensures end { option_map (λ e. (e.frame, e.name.now)) result ≡ rules.chain_end globals.now.rows threads.now.threads.thread frame name.now }
-    ensures value { IfSome result (λ e. option_map (λ value. value.now) e.value ≡ rules.held globals.now.rows threads.now.threads.thread e.frame e.name.now) }
+    ensures value { IfSome result (λ e. option_map (λ value. value.now) e.found.value ≡ rules.held globals.now.rows threads.now.threads.thread e.frame e.name.now) }
 {
     let mut frame = frame;
     let mut name = name;
     let mut left = threads.top().frames() + 1;
     while left > 0 {
         left -= 1;
-        let value = held(globals, threads, frame, name.as_str());
-        match value {
+        let found = held(globals, threads, frame, name.as_str());
+        match found.value {
             Some(Value::Pointer(next, to)) => {
                 frame = *next;
                 name = to;
             }
-            _ => return Some(ChainEnd { frame, name, value }),
+            _ => return Some(ChainEnd { frame, name, found }),
         }
     }
     None

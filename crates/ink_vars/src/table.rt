@@ -68,8 +68,22 @@ impl Table {
     pub(crate) fn get(&self, name: &str) -> Option<&Value>
         ensures { option_map (λ value. value.now) result ≡ stored name.now self.now }
     {
+        match self.find(name) {
+            Some((_, value)) => Some(value),
+            None => None,
+        }
+    }
+
+    /// The same with the index of the global.
+    #[inline(always)]
+    pub(crate) fn find(&self, name: &str) -> Option<(usize, &Value)>
+        ensures { option_map (λ f. f.1.now) result ≡ stored name.now self.now }
+    {
         match self.names.number(name) {
-            Some(index) => self.values.get(index),
+            Some(index) => match self.values.get(index) {
+                Some(value) => Some((index, value)),
+                None => None,
+            },
             None => None,
         }
     }
@@ -125,6 +139,14 @@ impl Table {
         ensures { IfSome result (λ f. (f.0 ≡ number_of name.now self.now) × (Some f.1.now ≡ stored name.now self.now)) }
     {
         let index = *self.slots.get(number?)?;
+        self.found_at(name, index)
+    }
+
+    /// The global at an index, where it has that name.
+    #[inline(always)]
+    pub(crate) fn found_at(&self, name: &str, index: usize) -> Option<(usize, &Value)>
+        ensures { IfSome result (λ f. (f.0 ≡ number_of name.now self.now) × (Some f.1.now ≡ stored name.now self.now)) }
+    {
         let there = self.names.name(index)?;
         let value = self.values.get(index)?;
         if there == name {
@@ -236,13 +258,16 @@ impl Table {
     }
 }
 
+/// A slot to which no global came leads to none.
+const NOWHERE: usize = usize::MAX;
+
 // Makes room for the slot of a number, and for no more, where there is none.
 fn make_slot(slots: &mut Vec<usize>, number: usize) -> Result<(), AllocError>
     ensures room { OnOk result (number < length slots.new.items) }
     ensures most { length slots.new.items ≤ max (length slots.old.items) (number + 1) }
 {
     while slots.len() <= number {
-        slots.push(0)?;
+        slots.push(NOWHERE)?;
     }
     Ok(())
 }

@@ -84,7 +84,7 @@ fn look_at<'a, P: Copy>(
     let Some(end) = chain_end(globals, threads, frame, name) else {
         return Err(Fault::BadPointer);
     };
-    match end.value {
+    match end.found.value {
         Some(value) => Ok(Some(value)),
         None => {
             if stands(globals, threads, end.frame, end.name.as_str()) {
@@ -168,7 +168,7 @@ fn pointed<'a, P: Copy>(
     let Some(end) = chain_end(globals, threads, frame, name) else {
         return Err(Fault::BadPointer);
     };
-    let Some(_) = end.value else {
+    let Some(_) = end.found.value else {
         return Err(lacking(globals, threads, end.frame, end.name.as_str()));
     };
     let Ok(frame) = usize::try_from(end.frame) else {
@@ -177,7 +177,7 @@ fn pointed<'a, P: Copy>(
     match end.name.share() {
         Ok(name) => Ok(Variable {
             frame,
-            name: Name::Pointed(name),
+            name: Name::Pointed(name, end.found.place),
         }),
         Err(_) => Err(Fault::OutOfMemory),
     }

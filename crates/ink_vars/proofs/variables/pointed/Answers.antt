@@ -13,7 +13,7 @@ returns-in-Err-clause-leads g c =
     let name = c.in-Some.end.name.now in
     let end : chain_end globals thread c.args.frame c.args.name.now ≡ Some (pos frame, name) = search (rules, to_z-of_z) in
     let there : held globals thread (pos frame) name ≡ Some c.in-Some-value.field-0.now = search (rules, to_z-of_z) in
-    let x : Variable = record { frame = frame; name = Pointed name } in
+    let x : Variable = record { frame = frame; name = Pointed name c.in-Some.end.found.place } in
     leads_short globals thread x (chain_end globals thread c.args.frame c.args.name.now) c.in-Some-value.field-0.now end there
 
 pub returns-in-Ok-share-clause-leads : goal.returns-in-Ok-share-clause-leads
@@ -24,4 +24,4 @@ returns-in-Ok-share-clause-leads g c =
     let name = c.in-Ok-share.name in
     let end : chain_end globals thread c.args.frame c.args.name.now ≡ Some (pos frame, name) = search (rules, to_z-of_z) in
     let there : held globals thread (pos frame) name ≡ Some c.in-Some-value.field-0.now = search (rules, to_z-of_z) in
-    leads_into globals thread (record { frame = frame; name = Pointed name }) (chain_end globals thread c.args.frame c.args.name.now) c.in-Some-value.field-0.now end there
+    leads_into globals thread (record { frame = frame; name = Pointed name c.in-Some.end.found.place }) (chain_end globals thread c.args.frame c.args.name.now) c.in-Some-value.field-0.now end there
