@@ -10,7 +10,7 @@ pub use Rattle.ink_json.specs.Node.{Node}
 pub use Rattle.ink_json.specs.Order.{keys_rise, part_order, place_order, keys_rise_in, keys_rise_by_key, is_below, key_part}
 pub use Rattle.ink_model.specs.Run.Entered.{entered_above, entered_around, flags_at, is_first, listed_if, starts_only, was_inside, is_around, passed_at}
 unfoldable pub use Rattle.ink_model.specs.Run.Entered.{entered_places, passed_places}
-pub use Rattle.ink_model.specs.Story.Path.{component, components, ends_in_index, read_path, stepped, walked, is_container, ends_at, by_name, listed_index}
+pub use Rattle.ink_model.specs.Story.Path.{component, components, ends_in_index, read_path, stepped, walked, is_container, ends_at, by_name, is_up, listed_index}
 unfoldable pub use Rattle.ink_model.specs.Story.Path.{target, is_place}
 pub use Rattle.ink_model.specs.Run.Place.{first_content_at, next_upwards, is_named, named_index, start_place}
 unfoldable pub use Rattle.ink_model.specs.Run.Place.{content_place, landed, next_place, knot}

@@ -1,9 +1,11 @@
 -- Steps of a path.
-use Rattle.std.proofs.Common.{◌≡◌, ◌∙◌, ap, sym, refl, add-one, drop-cons, drop, get_or, length, suc, ◌+◌, ℕ, ◌<◌, List, [], ◌∷◌, ◌++◌, true, Option, Some, None, is_some, option_map, option_and_then, arith}
-use Rattle.ink_tree.proofs.Common.{keys_rise, by_name, listed_index, stepped, walked, StoryTree, at, width, Part, Index, Name, node_place, Finds, NodeId}
+use Rattle.std.proofs.Common.{◌≡◌, ◌∙◌, ap, sym, refl, add-one, cond, drop-cons, drop, get_or, length, suc, ◌+◌, ℕ, ◌<◌, List, [], ◌∷◌, ◌++◌, true, false, Option, Some, None, IfSome, is_some, option_map, option_and_then, arith}
+use Rattle.std.proofs.lemmas.List.{nil_from_length}
+use Rattle.ink_tree.proofs.Common.{keys_rise, by_name, is_up, listed_index, stepped, target, walked, StoryTree, at, width, Part, Index, Name, node_place, Finds, NodeId}
 use Rattle.ink_tree.proofs.Nodes.{node_stands}
 use Rattle.ink_model.proofs.Listed.{listed_within}
-use Rattle.ink_tree.proofs.Standing.{index_stands, there, index_there}
+use Rattle.ink_tree.proofs.Standing.{index_stands, root_place, there, index_there}
+use Rattle.ink_model.specs.declared.place.Path.{Path}
 
 module _ (s : StoryTree) (p : List Part) where
   -- by an index
@@ -17,6 +19,11 @@ module _ (s : StoryTree) (p : List Part) where
     key_found n rise is =
         let stands : is_some (at s (p ++ Name name ∷ [])) ≡ true = ap (λ q. is_some (at s q)) (sym is) ∙ node_stands s n rise in
         ap Some is ∙ rw stands refl
+
+    pub key_step : (r : Option NodeId) → keys_rise s ≡ true → is_up name ≡ false → IfSome r (λ n. Finds s (p ++ Name name ∷ []) (Some n))
+        → IfSome r (λ n. Some (node_place s n) ≡ stepped s p (Name name))
+    key_step None rise below found = found
+    key_step (Some n) rise below (within, is) = rw below (key_found n rise is)
 
     module _ (o : Option StoryTree) (e : o ≡ at s p) where
       not_by_key : at s (p ++ Name name ∷ []) ≡ None → by_name s p name ≡ option_map (λ i. p ++ Index i ∷ []) (listed_index name o)
@@ -42,3 +49,16 @@ walk_on s p q c last cs i whole below is step before =
     let rest : drop i cs ≡ c ∷ drop (i + 1) cs = rw (add-one, drop-cons cs i c) (ap (λ x. x ∷ drop (suc i) cs) (sym is)) in
     ap (option_and_then (λ r. walked s r (drop (i + 1) cs ++ last ∷ []))) step ∙ sym (walked_on s p c (drop (i + 1) cs) last)
     ∙ ap (λ r. walked s p (r ++ last ∷ [])) (sym rest) ∙ before
+
+-- ---- one name alone
+
+-- where the only component of a path leads from the root
+pub leads_to_knot : (s : StoryTree) (path : Path) (ps others : List Part) (last : Part) (name : List ℕ) (r : Option NodeId)
+    → ps ≡ path.parts → ps ≡ others ++ last ∷ [] → last ≡ Name name → length others ≡ 0 → path.relative ≡ false
+    → IfSome r (λ n. Some (node_place s n) ≡ stepped s (node_place s (record { number = 0 })) (Name name))
+    → IfSome r (λ n. (from : List Part) → Some (node_place s n) ≡ target s from path)
+unfolding target
+leads_to_knot s path ps others last name None same ends is none absolute leads = leads
+leads_to_knot s path ps others last name (Some n) same ends is none absolute leads = λ from.
+    let alone : path.parts ≡ Name name ∷ [] = sym same ∙ ends ∙ ap (λ q. q ++ last ∷ []) (nil_from_length others none) ∙ ap (λ x. x ∷ []) is in
+    leads ∙ ap (λ p. stepped s p (Name name)) (root_place s) ∙ sym (ap (λ b. walked s (cond b from []) path.parts) absolute ∙ ap (walked s []) alone)

@@ -149,23 +149,54 @@ fn slots_for(count: usize) -> usize
     slots.max(LEAST)
 }
 
-// The slot of a container and a name, of so many. Names of one form, with a number each, are spread as any others. A name is mixed
-// eight bytes at a time, then four, then one.
+// The slot of a container and a name, of so many. Names of one form, with a number each, are spread as any others.
 fn slot(container: usize, name: &str, slots: usize) -> usize {
+    let spread = mix_name(container, name.as_bytes()).wrapping_mul(SPREAD) >> 32;
+    spread.wrapping_mul(slots) >> 32
+}
+
+// A name is mixed eight bytes at a time and by its last eight; a short one as one number.
+fn mix_name(container: usize, name: &[u8]) -> usize {
+    if name.len() > 8 {
+        mix_words(container, name)
+    } else {
+        mix(container, packed(name))
+    }
+}
+
+// Up to eight bytes as one number: the first four and the last four, or all of fewer.
+fn packed(name: &[u8]) -> usize {
+    match (name.first_chunk::<4>(), name.last_chunk::<4>()) {
+        (Some(first), Some(last)) => {
+            let first = u32::from_le_bytes(*first) as usize;
+            let last = u32::from_le_bytes(*last) as usize;
+            first | last << 32
+        }
+        _ => packed_few(name),
+    }
+}
+
+fn packed_few(name: &[u8]) -> usize {
+    match name {
+        [first, second, third] => {
+            *first as usize | (*second as usize) << 8 | (*third as usize) << 16
+        }
+        [first, second] => *first as usize | (*second as usize) << 8,
+        [first] => *first as usize,
+        _ => 0,
+    }
+}
+
+fn mix_words(container: usize, name: &[u8]) -> usize {
     let mut mixed = container;
-    let (words, others) = name.as_bytes().as_chunks::<8>();
+    let (words, _) = name.as_chunks::<8>();
     for word in words {
         mixed = mix(mixed, u64::from_le_bytes(*word) as usize);
     }
-    let (words, others) = others.as_chunks::<4>();
-    for word in words {
-        mixed = mix(mixed, u32::from_le_bytes(*word) as usize);
+    match name.last_chunk::<8>() {
+        Some(last) => mix(mixed, u64::from_le_bytes(*last) as usize),
+        None => mixed,
     }
-    for byte in others {
-        mixed = mix(mixed, *byte as usize);
-    }
-    let spread = mixed.wrapping_mul(SPREAD) >> 32;
-    spread.wrapping_mul(slots) >> 32
 }
 
 fn mix(mixed: usize, part: usize) -> usize {

@@ -1,8 +1,9 @@
 //! Where paths lead (docs/STORY_FORMAT.md, "Paths").
 
-ghost use Rattle.std.specs.Prelude.{◌≡◌, option_map};
+ghost use Rattle.std.specs.Prelude.{◌≡◌, List, Some, IfSome, option_map};
 ghost use Rattle.ink_model.specs.Story.Path.{by_name, stepped, stepped_last, target, walked};
 ghost use Rattle.ink_path.specs.Components.{part_of};
+ghost use Rattle.ink_model.specs.declared.place.Part.{Part as Way};
 ghost use Rattle.ink_model.specs.declared.place.Part.TheVariants.{Index, Name};
 
 use crate::spot::{NodeId, Spot};
@@ -10,19 +11,55 @@ use crate::tree::Tree;
 use ink_model::{Part, Path};
 use ink_path::Component;
 
+const ROOT: NodeId = NodeId { number: 0 };
+
 impl Tree {
     ghost use Rattle.ink_tree.specs.Nodes.{story_tree, node_place, place_of};
 
     /// Where a path leads from content; none where it leads nowhere. Takes no memory.
+    #[inline(always)]
     pub fn resolve(&self, from: NodeId, path: &Path) -> Option<Spot>
         ensures { option_map (place_of (story_tree self.now)) result
             ≡ target (story_tree self.now) (node_place (story_tree self.now) from) path.now }
     {
-        let start = if path.relative {
-            from
-        } else {
-            NodeId { number: 0 }
-        };
+        match self.noted_knot(path) {
+            Some(knot) => Some(Spot::of(knot)),
+            None => self.follow_path(from, path),
+        }
+    }
+
+    // The knot that a path names, where its key is noted. Most targets are of this kind.
+    #[inline(always)]
+    fn noted_knot(&self, path: &Path) -> Option<NodeId>
+        ensures { IfSome result (λ knot. (from : List Way) → Some (node_place (story_tree self.now) knot) ≡ target (story_tree self.now) from path.now) }
+    {
+        match path.parts.as_slice().split_last() {
+            Some((Part::Name(name), others)) if others.is_empty() && !path.relative => {
+                self.noted_step(ROOT, name.as_str())
+            }
+            _ => None,
+        }
+    }
+
+    // One name further, where its key is noted.
+    #[inline(always)]
+    fn noted_step(&self, here: NodeId, name: &str) -> Option<NodeId>
+        ensures { IfSome result (λ node. Some (node_place (story_tree self.now) node)
+            ≡ stepped (story_tree self.now) (node_place (story_tree self.now) here) (Name name.now)) }
+    {
+        if name == "^" {
+            return None;
+        }
+        self.noted_child(here, name)
+    }
+
+    // Where any path leads, by one component after another.
+    #[inline(never)]
+    fn follow_path(&self, from: NodeId, path: &Path) -> Option<Spot>
+        ensures { option_map (place_of (story_tree self.now)) result
+            ≡ target (story_tree self.now) (node_place (story_tree self.now) from) path.now }
+    {
+        let start = if path.relative { from } else { ROOT };
         self.walk(start, path.parts.as_slice())
     }
 

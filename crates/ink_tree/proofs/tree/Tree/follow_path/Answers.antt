@@ -1,8 +1,8 @@
 use Rattle.std.proofs.Common.{◌≡◌, ◌∙◌, ap, [], cond}
 use Rattle.ink_tree.proofs.Common.{target, walked, story_tree, node_place}
 use Rattle.ink_tree.proofs.Standing.{root_place}
-use Rattle.ink_tree.proofs.tree.Tree.resolve.Goals as goal
-use Rattle.ink_tree.proofs.tree.Tree.resolve.Goals.{then-path, else-path}
+use Rattle.ink_tree.proofs.tree.Tree.follow_path.Goals as goal
+use Rattle.ink_tree.proofs.tree.Tree.follow_path.Goals.{then-path, else-path}
 
 pub returns : goal.returns
 unfolding target
