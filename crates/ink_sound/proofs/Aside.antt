@@ -1,6 +1,6 @@
 -- Flows by name, whatever a flow is: what going to one and taking one away keep.
 use Rattle.std.proofs.Common.{◌≡◌, ◌∙◌, ap, sym, refl, ℕ, suc, List, [], ◌∷◌, ◌++◌, length, Bool, true, false, true≢false, cond, if◌then◌else◌, bytes_eq, Option, Some, None, is_none, is_some, unwrap_or, inl, inr, arith}
-use Rattle.std.proofs.lemmas.Bool.{cases_Bool, cond_both}
+use Rattle.ink_sound.proofs.Common.{cases_Bool, cond_both}
 use Rattle.ink_model.specs.Run.Flows.{AsideOf, FlowsOf, all_flows, begins_with_default, current_name, default_flow, dropped, filled, flow_named, goes_to, holes}
 use Rattle.ink_model.specs.Variables.Named.{Rows, at, once, put, without}
 use Rattle.ink_sound.specs.Beside.{with_last}
@@ -13,9 +13,8 @@ default_is n h = ap (bytes_eq default_flow) (same_name n default_flow h) ∙ its
 
 as_none : {X Y : Type 0} (o : Option X) (p : Option Y) → is_some o ≡ is_some p → is_none o ≡ is_none p
 as_none None None h = refl
-as_none None (Some y) h = absurd (true≢false (sym h))
-as_none (Some x) None h = absurd (true≢false h)
 as_none (Some x) (Some y) h = refl
+as_none o p h = absurd cc
 
 module _ {F : Type 0} where
   -- ---- the current one is put aside
@@ -41,19 +40,16 @@ module _ {F : Type 0} where
   filled_at f n ((m, Some x) ∷ rows) = some_alike (bytes_eq n m) (Some x) (Some x) (at n (filled f rows)) (at n rows) (filled_at f n rows)
 
   pub filled_once : (f : F) (rows : AsideOf F) → once (filled f rows) ≡ once rows
-  filled_once f [] = refl
-  filled_once f ((n, None) ∷ rows) = refl
   filled_once f ((n, Some x) ∷ rows) = rw (as_none (at n (filled f rows)) (at n rows) (filled_at f n rows), filled_once f rows) refl
+  filled_once f rows = refl
 
   pub filled_length : (f : F) (rows : AsideOf F) → length (filled f rows) ≡ length rows
-  filled_length f [] = refl
-  filled_length f ((n, None) ∷ rows) = refl
   filled_length f ((n, Some x) ∷ rows) = ap suc (filled_length f rows)
+  filled_length f rows = refl
 
   pub filled_first : (f : F) (rows : AsideOf F) → begins_with_default (filled f rows) ≡ begins_with_default rows
-  filled_first f [] = refl
   filled_first f ((n, None) ∷ rows) = refl
-  filled_first f ((n, Some x) ∷ rows) = refl
+  filled_first f rows = refl
 
   -- ---- a flow is taken, and nothing stands at its name
 
@@ -129,11 +125,8 @@ module _ {F : Type 0} where
 
   pub dropped_all : (fresh : F) (name : List ℕ) (fs : FlowsOf F) → holes fs.aside ≡ 1 → begins_with_default fs.aside ≡ true
       → all_flows (dropped fresh name fs).current (dropped fresh name fs).aside ≡ without name (all_flows fs.current fs.aside)
-  dropped_all fresh name fs h first = by (bytes_eq name (current_name fs.aside))
-    where
-      by : (b : Bool) → all_flows (if b then goes_to fresh default_flow fs else fs).current (without name (if b then goes_to fresh default_flow fs else fs).aside)
-          ≡ without name (all_flows fs.current fs.aside)
-      by true =
-          each_of_others (λ o. unwrap_or o (goes_to fresh default_flow fs).current) name (goes_to fresh default_flow fs).aside
-          ∙ ap (without name) (going_all fresh default_flow fs h ∙ default_last fresh fs.current fs.aside first)
-      by false = each_of_others (λ o. unwrap_or o fs.current) name fs.aside
+  dropped_all fresh name fs h first = cond_both (bytes_eq name (current_name fs.aside)) (goes_to fresh default_flow fs) fs
+      (λ (gs : FlowsOf F). all_flows gs.current (without name gs.aside) ≡ without name (all_flows fs.current fs.aside))
+      (λ _. each_of_others (λ o. unwrap_or o (goes_to fresh default_flow fs).current) name (goes_to fresh default_flow fs).aside
+      ∙ ap (without name) (going_all fresh default_flow fs h ∙ default_last fresh fs.current fs.aside first))
+      (λ _. each_of_others (λ o. unwrap_or o fs.current) name fs.aside)

@@ -1,27 +1,25 @@
 -- What commands do to the flows that stand aside, and that those make no difference to most.
-use Rattle.std.proofs.Common.{◌≡◌, ap, refl, true, ℕ, List, [], ◌∷◌, inl, inr, Bool, false, Option, Some, None, is_some, Result, Ok, Err, MatchBool}
-use Rattle.ink_model.specs.Protocol.Answer.{Reply, Refuses}
-use Rattle.ink_model.specs.Protocol.Changed.{OnlyRefuses}
-use Rattle.ink_sound.proofs.Common.{chosen, jump_place, jumped, open_choice, Values, store, stored, StoryTree, Fault, Given, Data}
+use Rattle.std.proofs.Common.{◌≡◌, ap, refl, true, ℕ, List, [], inl, inr, Bool, false, Option, Some, None, is_some, Result, Ok, Err, MatchBool}
+use Rattle.ink_sound.proofs.Common.{chosen, jump_place, jumped, open_choice, Values, stored, StoryTree, Fault, Given, Data, OnlyRefuses, Configuration, can_go_on, settled, Bindings, FallsShort, LineFallsShort, ChoosesBy, ChoosesFrom, JumpsBy, JumpsFrom, LandsFor, visits_by, OutOfMemory, Change, Event, Reply}
 use Rattle.ink_model.specs.Protocol.Command as command
 use Rattle.ink_model.specs.Protocol.Command.{Command}
-use Rattle.ink_model.specs.Run.Configuration.{Configuration, can_go_on, settled, with_globals}
 use Rattle.ink_model.specs.Run.Flows.{Aside, Game, alone}
-use Rattle.ink_model.specs.Host.Bindings.{Bindings, value_given}
 use Rattle.ink_model.specs.Run.Line.{EndsLine}
-use Rattle.ink_model.specs.Memory.Refusals.{FallsShort, LineFallsShort}
 use Rattle.ink_model.specs.Run.Opening.{Unopened, opening}
 use Rattle.ink_model.specs.Run.Moments.{Made, RunEnd, Kept, Broke, EndsThrough}
-use Rattle.ink_model.specs.Protocol.Session.{BeginsAnew, BreaksBy, ContinueFrom, Does, EndsAs, FailsToRestart, GetsFrom, Load, RestartsAs, RunsFrom, RunsLine, RunsThrough, RunsTo, SavesFrom, SetsFrom, SetsIn, TellsDone, TellsOrKeeps, ThroughFrom, VisitsBy, VisitsFrom, settable}
+use Rattle.ink_model.specs.Protocol.Session.{BeginsAnew, BreaksBy, Does, EndsAs, FailsToRestart, GetsFrom, Load, RestartsAs, RunsFrom, RunsLine, RunsThrough, RunsTo, SavesFrom, SetsFrom, SetsIn, TellsDone, TellsOrKeeps, VisitsBy, VisitsFrom, settable}
 use Rattle.ink_model.specs.Protocol.State.{State, Condition, Ready, Broken}
-use Rattle.ink_model.specs.Host.Told.{told}
-use Rattle.ink_model.specs.Protocol.Turns.{ChoosesBy, ChoosesFrom, JumpsBy, JumpsFrom, LandsFor}
-use Rattle.ink_model.specs.Run.Visits.{visits_by}
-use Rattle.ink_model.specs.declared.fault.Fault.TheVariants.{OutOfMemory}
-use Rattle.ink_model.specs.declared.fault.Refusal.TheVariants as refusal
-use Rattle.ink_model.specs.declared.host.Change.{Change}
-use Rattle.ink_model.specs.declared.host.Event.{Event}
 use Rattle.ink_sound.specs.Beside.{keeps_flows, shows_no_flows}
+
+-- by a test, whose two sides keep K
+on_match : {K P Q R S : Type 0} (b : Bool) → MatchBool b P Q → (P → K × R) → (Q → K × S) → K × MatchBool b R S
+on_match true x f g = f x
+on_match false x f g = g x
+
+pub saves_same : (k : Condition) (old : State) (reply : Reply) (new : State) → SavesFrom k old reply new → new ≡ old
+saves_same (Broken f globals) old reply new x = x.1
+saves_same (Ready c) old reply new (inl x) = x.1
+saves_same (Ready c) old reply new (inr x) = x.1
 
 module _ (s : StoryTree) (h : Bindings) (others : Aside) where
   -- the same with these flows aside
@@ -72,23 +70,9 @@ module _ (s : StoryTree) (h : Bindings) (others : Aside) where
 
     -- ---- setting and asking
 
-    abbrev Sets : List ℕ → Given → Configuration → State → State → Type 0
-    Sets name g c a b = TellsOrKeeps (told h.watches c.shared.globals ((name, value_given g) ∷ [])) (Ready (with_globals (store name (value_given g) c.shared.globals) c)) es a reply b
-
-    abbrev NoVariable : State → State → Type 0
-    NoVariable a b = (es ≡ []) × OnlyRefuses (Refuses refusal.NoSuchVariable) a reply b
-
-    abbrev NoValue : State → State → Type 0
-    NoValue a b = (es ≡ []) × OnlyRefuses (Refuses refusal.BadValue) a reply b
-
     sets_in : (name : List ℕ) (g : Given) (c : Configuration) (old new : State) → SetsIn h name g c es old reply new → Stays old new (SetsIn h name g c es (beside old) reply (beside new))
-    sets_in name g c old new x = by (settable g) (is_some (stored name c.shared.globals)) x
-      where
-        by : (b d : Bool) → MatchBool b (MatchBool d (Sets name g c old new) (NoVariable old new)) (NoValue old new)
-            → Stays old new (MatchBool b (MatchBool d (Sets name g c (beside old) (beside new)) (NoVariable (beside old) (beside new))) (NoValue (beside old) (beside new)))
-        by true true y = tells _ _ old new y
-        by true false y = refused_with _ old new y
-        by false d y = refused_with _ old new y
+    sets_in name g c old new x =
+        on_match (settable g) x (λ y. on_match (is_some (stored name c.shared.globals)) y (tells _ _ old new) (refused_with _ old new)) (refused_with _ old new)
 
     sets : (name : List ℕ) (value : Option Given) (k : Condition) (old new : State) → SetsFrom h name value k es old reply new
         → Stays old new (SetsFrom h name value k es (beside old) reply (beside new))
@@ -122,18 +106,7 @@ module _ (s : StoryTree) (h : Bindings) (others : Aside) where
         → ((c : Configuration) (made : List Made) → Runs c made es old reply new → Stays old new (Runs c made es (beside old) reply (beside new)))
         → RunsFrom Runs es k old reply new → Stays old new (RunsFrom Runs es k (beside old) reply (beside new))
     runs Runs (Broken f globals) old new on x = refused_with _ old new x
-    runs Runs (Ready c) old new on x = by (can_go_on c) x
-      where
-        by : (b : Bool) → MatchBool b ((made : List Made) × Runs c made es old reply new) ((es ≡ []) × OnlyRefuses (Refuses refusal.CannotContinue) old reply new)
-            → Stays old new (MatchBool b ((made : List Made) × Runs c made es (beside old) reply (beside new)) ((es ≡ []) × OnlyRefuses (Refuses refusal.CannotContinue) (beside old) reply (beside new)))
-        by true y = let z = on c y.0 y.1 in (z.0, (y.0, z.1))
-        by false y = refused_with _ old new y
-
-    throughs : (k : Condition) (old new : State) → ThroughFrom s h es k old reply new → Stays old new (ThroughFrom s h es k (beside old) reply (beside new))
-    throughs k old new x = runs (RunsThrough s h) k old new (λ c made y. runs_to (EndsThrough s h.functions c made) (FallsShort s h.functions c made) c made old new y) x
-
-    continues : (k : Condition) (old new : State) → ContinueFrom s h es k old reply new → Stays old new (ContinueFrom s h es k (beside old) reply (beside new))
-    continues k old new x = runs (RunsLine s h) k old new (λ c made y. runs_to (EndsLine s h.functions c made) (LineFallsShort s h.functions c made) c made old new y) x
+    runs Runs (Ready c) old new on x = on_match (can_go_on c) x (λ y. let z = on c y.0 y.1 in (z.0, (y.0, z.1))) (refused_with _ old new)
 
     -- ---- what begins anew
 
@@ -171,8 +144,8 @@ module _ (s : StoryTree) (h : Bindings) (others : Aside) where
 
     does_stay : (k : Option Command) (old new : State) → Does s h es k old reply new → keeps_flows k ≡ true → shows_no_flows k ≡ true → Stays old new (Does s h es k (beside old) reply (beside new))
     does_stay None old new x e d = refused_with _ old new x
-    does_stay (Some command.Continue) old new x e d = continues old.condition old new x
-    does_stay (Some command.Through) old new x e d = throughs old.condition old new x
+    does_stay (Some command.Continue) old new x e d = runs (RunsLine s h) old.condition old new (λ c made y. runs_to (EndsLine s h.functions c made) (LineFallsShort s h.functions c made) c made old new y) x
+    does_stay (Some command.Through) old new x e d = runs (RunsThrough s h) old.condition old new (λ c made y. runs_to (EndsThrough s h.functions c made) (FallsShort s h.functions c made) c made old new y) x
     does_stay (Some (command.Set name value)) old new x e d = sets name value old.condition old new x
     does_stay (Some (command.Get name)) old new x e d = let y = gets _ old new x.1 in (y.0, (x.0, y.1))
     does_stay (Some (command.Visits path)) old new x e d = let y = visits path old.condition old new x.1 in (y.0, (x.0, y.1))
@@ -189,13 +162,8 @@ module _ (s : StoryTree) (h : Bindings) (others : Aside) where
     does_so (Some (command.Drop name)) old new x e = absurd cc
     does_so k old new x e = staying _ old new (does_stay k old new x refl e)
 
-    saves : (k : Condition) (old new : State) → SavesFrom k old reply new → new.aside ≡ old.aside
-    saves (Broken f globals) old new x = ap (λ st. st.aside) x.1
-    saves (Ready c) old new (inl x) = ap (λ st. st.aside) x.1
-    saves (Ready c) old new (inr x) = ap (λ st. st.aside) x.1
-
     does_keep : (k : Option Command) (old new : State) → Does s h es k old reply new → keeps_flows k ≡ true → new.aside ≡ old.aside
-    does_keep (Some command.Save) old new x e = saves old.condition old new x.1
+    does_keep (Some command.Save) old new x e = ap (λ st. st.aside) (saves_same old.condition old reply new x.1)
     does_keep (Some (command.Flow name)) old new x e = absurd cc
     does_keep (Some (command.Drop name)) old new x e = absurd cc
     does_keep k old new x e = (does_stay k old new x e refl).0

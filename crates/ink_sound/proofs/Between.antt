@@ -1,17 +1,14 @@
 -- What a command begins with and leaves: opening, settling, choosing, jumping and setting.
 use Rattle.std.proofs.Common.{◌≡◌, ap, refl, arith, lit≤, List, [], ◌∷◌, map, Option, Some, None, Result, Ok, Err}
 use Rattle.std.proofs.lemmas.List.{length-map}
-use Rattle.std.specs.List.{AllByRecursion as Each}
-use Rattle.ink_sound.proofs.Common.{BaseFirst, chosen, jumped, empty_page, Values, StoryTree, FrameKind, Part, Rests}
+use Rattle.ink_sound.proofs.Common.{BaseFirst, chosen, jumped, empty_page, Values, StoryTree, FrameKind, Part, Rests, Each, entering_around, ChoiceFits, FlowSound, FlowStands, FrameStands, GlobalsFit, PlaceFits, Sound, ThreadFits, ThreadStands, ThreadsFit}
 use Rattle.ink_model.specs.Run.Configuration.{ChoiceOf, Configuration, fresh_at, fresh_flow, settled, start, unnumbered_choice, with_globals}
 use Rattle.ink_model.specs.Flow.Frames.{FrameOf, ThreadOf, ThreadsOf, place_in, put_in, unnumbered_frame, unnumbered_thread, unnumbered_threads}
 use Rattle.ink_model.specs.Host.Bindings.{nothing_bound}
 use Rattle.ink_model.specs.Run.Opening.{Unopened, declarations, declaring, opened_by, opened_from, opening}
 use Rattle.ink_model.specs.Run.Place.{landed, start_place}
 use Rattle.ink_model.specs.Run.Moments.{Moment, Stopped, through}
-use Rattle.ink_model.specs.Run.Visits.{entering_around}
 use Rattle.ink_sound.specs.Kept.{Finds, MomentFits, StoryFits}
-use Rattle.ink_model.specs.Save.Sound.{ChoiceFits, FlowSound, FlowStands, FrameStands, GlobalsFit, PlaceFits, Sound, ThreadFits, ThreadStands, ThreadsFit}
 use Rattle.ink_sound.proofs.Places.{knot_fits, landed_fits, start_fits}
 use Rattle.ink_sound.proofs.Flows.{base_fit}
 use Rattle.ink_sound.proofs.Steps.{through_fits}

@@ -1,9 +1,7 @@
 -- Visits and turns: only of containers with the flag, and at their least or above.
 use Rattle.std.proofs.Common.{◌≡◌, arith, ℕ, ◌≤◌, lit≤, List, [], ◌∷◌, Bool, true, nat_lt, Option, Some, None, unwrap_or}
-use Rattle.ink_sound.proofs.Common.{cond_both, nat_tests, flags_at, counts_visits, notes_turns, StoryTree, at, MAX_COUNT, Part, Finds}
-use Rattle.std.specs.List.{AllByRecursion as Each}
+use Rattle.ink_sound.proofs.Common.{cond_both, nat_tests, flags_at, counts_visits, notes_turns, StoryTree, at, MAX_COUNT, Part, Finds, Each, place_order, row, with_row}
 use Rattle.ink_model.specs.Variables.Counts.{CountsOf, one_more, visited, visits_at}
-use Rattle.ink_model.specs.Variables.Rows.{place_order, row, with_row}
 use Rattle.ink_model.specs.Run.Visits.{all_visited}
 use Rattle.ink_model.specs.Save.Sound.{CountsFit, RowCounts, RowsCount}
 use Rattle.ink_model.proofs.Orders.{place_total}

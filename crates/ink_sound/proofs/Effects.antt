@@ -1,12 +1,11 @@
 -- The effect of any content fits, but for that of an external function's call, which is made apart.
-use Rattle.std.proofs.Common.{arith, pos, length, ◌≡◌, ap, List, Option, Some, None, is_some}
-use Rattle.ink_sound.proofs.Common.{Context, Fields, Leaf, Function, Tunnel, Part}
+use Rattle.std.proofs.Common.{arith, pos, length, ◌≡◌, ap, List, Option, Some, is_some}
+use Rattle.ink_sound.proofs.Common.{Context, Fields, Leaf, Function, Tunnel, Part, Global, Temporary}
 use Rattle.ink_model.specs.Run.Step.{control_effect, effect, leaf_effect}
-use Rattle.ink_model.specs.Story.Tree.{StoryTree, leaf, container, at}
+use Rattle.ink_model.specs.Story.Tree.{StoryTree, leaf, at}
 use Rattle.ink_model.specs.declared.content.Control.{Control}
 use Rattle.ink_model.specs.declared.content.Control.TheVariants as control
 use Rattle.ink_model.specs.declared.content.Leaf.TheVariants as leaves
-use Rattle.ink_model.specs.declared.scope.Scope.TheVariants.{Global, Temporary}
 use Rattle.ink_model.specs.declared.value.Value.TheVariants as value
 use Rattle.ink_sound.specs.Kept.{ContextFits, EffectFits, FieldsFit, LeafFits, StoryFits}
 use Rattle.ink_sound.proofs.Ints.{count_small}
@@ -26,21 +25,18 @@ module _ (s : StoryTree) (p : List Part) (seen : Context) (context : ContextFits
   control_fits control.Out = output_fits s f h
   control_fits control.Pop = pop_fits s f h
   control_fits control.Duplicate = duplicate_fits s f h
-  control_fits control.Nop = h
   control_fits control.BeginString = begin_string_fits s f h
   control_fits control.EndString = end_string_fits s f h
   control_fits control.BeginTag = begin_tag_fits s f h
   control_fits control.EndTag = end_tag_fits s f h
-  control_fits control.Done = h
-  control_fits control.End = h
   control_fits control.Return = return_function_fits s f h
   control_fits control.ReturnTunnel = return_tunnel_fits s f h
-  control_fits control.Thread = h
   control_fits control.ChoiceCount = pushing_fits s (value.Int (pos (length seen.choices))) f (count_small (length seen.choices) (omega (arith, context.choices.few))) h
   control_fits control.Turn = push_turn_fits s seen context f h
   control_fits control.Turns = push_turns_fits s seen context f h
   control_fits control.ReadCount = push_read_count_fits s seen context f h
   control_fits control.Visit = push_visit_fits s seen context f h p
+  control_fits c = h
 
   leaf_fits : (l : Leaf) → Stands s p → LeafFits s l → EffectFits s (leaf_effect s p seen l f)
   leaf_fits (leaves.Text t) stand k = write_text_fits s f h t k
@@ -68,6 +64,5 @@ module _ (s : StoryTree) (p : List Part) (seen : Context) (context : ContextFits
 
   -- of what stands at the place
   pub effect_fits : StoryFits s → (o : Option StoryTree) → at s p ≡ o → EffectFits s (effect s p o seen f)
-  effect_fits story None is = h
-  effect_fits story (Some (container name flags content named)) is = h
   effect_fits story (Some (leaf l)) is = leaf_fits l (ap is_some is) (story.leaf_fits p l is)
+  effect_fits story o is = h

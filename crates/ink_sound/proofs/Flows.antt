@@ -1,14 +1,11 @@
 -- Where flow goes among frames and threads, all places stay places of the story, and no limit is passed.
 use Rattle.std.proofs.Common.{◌≡◌, ◌≢◌, refl, subst, arith, ℕ, ◌+◌, ◌≤◌, lit≤, List, [], ◌∷◌, length, nat_eq, nat_lt, Option, Some, None, option_and_then, Result, Ok, Err, inl, inr}
-use Rattle.ink_sound.proofs.Common.{cases_Bool, cond_both, nat_tests, next_place, StoryTree, Fault, FrameKind, Base, Function, Part}
-use Rattle.std.specs.List.{AllByRecursion as Each}
-use Rattle.ink_model.specs.Flow.Transfers.{Written, Reached, Reaches, Breaks, Ending, Continues, Finishes, Collapses, called, depth_of, done, done_by, doubled_in, enter_for, forked, frames_on, halt, leave_for, moved_on, number_for, on_ending, or_breaks, or_end, reach, reach_or_on, returned, thread_of, threads_on, void_for}
+use Rattle.ink_sound.proofs.Common.{cases_Bool, cond_both, nat_tests, next_place, StoryTree, Fault, FrameKind, Base, Function, Part, Each, is_line, AnyPlace, FlowStands, PlaceFits, SomePlace, ThreadFits, ThreadStands, ThreadsFit}
+use Rattle.ink_model.specs.Flow.Transfers.{Written, Reached, Reaches, Ending, Continues, Finishes, Collapses, called, depth_of, done, done_by, doubled_in, enter_for, forked, frames_on, halt, leave_for, moved_on, number_for, on_ending, or_breaks, or_end, reach, reach_or_on, returned, thread_of, threads_on, void_for}
 use Rattle.ink_model.specs.Flow.Frames.{FrameOf, ThreadOf, ThreadsOf, base_threads, gone, is_function, place_in, put_in}
-use Rattle.ink_model.specs.Text.Output.{is_line}
 use Rattle.ink_model.specs.Flow.Threads.{back_to, dropped_to, frame_count, frame_popped, frame_pushed, same_kind, thread_count}
 use Rattle.ink_model.specs.declared.limits.TheConstants.{MAX_FRAMES, MAX_SECTIONS, MAX_THREADS}
 use Rattle.ink_sound.specs.Kept.{EndingFits, Finds, Gives, ReachedFits, WrittenFits}
-use Rattle.ink_model.specs.Save.Sound.{AnyPlace, FlowStands, PlaceFits, SomePlace, ThreadFits, ThreadStands, ThreadsFit}
 use Rattle.ink_sound.proofs.Texts.{enter_fits, leave_fits, void_fits}
 use Rattle.ink_sound.proofs.Places.{next_fits}
 
@@ -29,13 +26,9 @@ module _ (s : StoryTree) where
 
   -- ---- results
 
-  ends_so : {A : Type 0} (P : A → Type 0) (r : Result A Fault) (so : A → Ending (List Part)) → Gives P r → ((a : A) → P a → EndingFits s (so a)) → EndingFits s (or_breaks r Collapses so)
-  ends_so P (Ok a) so h k = k a h
-  ends_so P (Err f) so h k = tt
-
-  reaches_so : {A : Type 0} (P : A → Type 0) (r : Result A Fault) (so : A → Reached (List Part)) → Gives P r → ((a : A) → P a → ReachedFits s (so a)) → ReachedFits s (or_breaks r Breaks so)
-  reaches_so P (Ok a) so h k = k a h
-  reaches_so P (Err f) so h k = tt
+  breaks_so : {A B : Type 0} (P : A → Type 0) (Q : B → Type 0) (r : Result A Fault) (bad : Fault → B) (so : A → B) → ((f : Fault) → Q (bad f)) → Gives P r → ((a : A) → P a → Q (so a)) → Q (or_breaks r bad so)
+  breaks_so P Q (Ok a) bad so b h k = k a h
+  breaks_so P Q (Err f) bad so b h k = b f
 
   -- ---- flow goes to a place
 
@@ -79,8 +72,8 @@ module _ (s : StoryTree) where
   frames_fit f (k ∷ ks) o w h g =
       end_fits (option_and_then (next_place s) f.place) (thread_of f (k ∷ ks) o) w _ (after_fits f.place) h g
       (cond_both (is_function f.kind) _ _ (EndingFits s) (λ _. cond_both (nat_eq f.depth (depth_of w)) _ _ (EndingFits s)
-      (λ _. ends_so (WrittenFits s) (leave_for Function f.enter w) _ (leave_fits s w g Function f.enter)
-      (λ v x. ends_so (WrittenFits s) (void_for k.evaluating v) _ (void_fits s v x k.evaluating) (λ u y. frames_fit k ks o u (below_stands f k ks o h) y))) (λ _. tt)) (λ _. (h, g)))
+      (λ _. breaks_so (WrittenFits s) (EndingFits s) (leave_for Function f.enter w) _ _ (λ f. tt) (leave_fits s w g Function f.enter)
+      (λ v x. breaks_so (WrittenFits s) (EndingFits s) (void_for k.evaluating v) _ _ (λ f. tt) (void_fits s v x k.evaluating) (λ u y. frames_fit k ks o u (below_stands f k ks o h) y))) (λ _. tt)) (λ _. (h, g)))
 
   -- ---- off the end of threads
 
@@ -135,8 +128,8 @@ module _ (s : StoryTree) where
 
   pub called_fits : (k : FrameKind) (q : List Part) (ts : ThreadsOf (List Part)) (w : Written) → k ≢ Base → PlaceFits s q → ThreadsStand ts → WrittenFits s w → ReachedFits s (called k q ts w)
   called_fits k q ts w call p h g =
-      reaches_so (ThreadStands s) (frame_pushed k (depth_of w) ts.thread) _ (pushed_frame k (depth_of w) ts.thread call g.page.few h.thread)
-      (λ t x. reaches_so (WrittenFits s) (enter_for k w) _ (enter_fits s w g k)
+      breaks_so (ThreadStands s) (ReachedFits s) (frame_pushed k (depth_of w) ts.thread) _ _ (λ f. tt) (pushed_frame k (depth_of w) ts.thread call g.page.few h.thread)
+      (λ t x. breaks_so (WrittenFits s) (ReachedFits s) (enter_for k w) _ _ (λ f. tt) (enter_fits s w g k)
       (λ v y. let n = numbered_fits k w t x in
       reach_stands q (record { thread = number_for k w t; below = ts.below }) v p n.thread (any_of (number_for k w t).frame.place n.place) h.below h.few y))
 
@@ -154,8 +147,8 @@ module _ (s : StoryTree) where
 
   pub returned_fits : (k : FrameKind) (to : Option (List Part)) (ts : ThreadsOf (List Part)) (w : Written) → AnyPlace s to → ThreadsStand ts → WrittenFits s w → ReachedFits s (returned (next_place s) k to ts w)
   returned_fits k to ts w p h g =
-      reaches_so (ThreadStands s) (frame_popped k (depth_of w) ts.thread) _ (popped_frame k (depth_of w) ts.thread h.thread)
-      (λ t x. reaches_so (WrittenFits s) (leave_for k ts.thread.frame.enter w) _ (leave_fits s w g k ts.thread.frame.enter)
+      breaks_so (ThreadStands s) (ReachedFits s) (frame_popped k (depth_of w) ts.thread) _ _ (λ f. tt) (popped_frame k (depth_of w) ts.thread h.thread)
+      (λ t x. breaks_so (WrittenFits s) (ReachedFits s) (leave_for k ts.thread.frame.enter w) _ _ (λ f. tt) (leave_fits s w g k ts.thread.frame.enter)
       (λ v y. reach_or_fits to (record { thread = t; below = ts.below }) v p (record { thread = x; below = h.below; few = h.few }) y))
 
   -- ---- threads

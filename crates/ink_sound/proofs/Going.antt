@@ -1,12 +1,10 @@
 -- Going to a flow and taking one away keep what is asked of flows.
-use Rattle.std.proofs.Common.{◌≡◌, ◌∙◌, ap, sym, refl, ℕ, ◌≤◌, List, [], ◌∷◌, length, Bool, true, false, true≢false, ◌||◌, cond, bytes_eq, nat_lt, Some, None, is_some, unwrap_or, option_and_then, arith, lit≤}
-use Rattle.ink_sound.proofs.Common.{cond_both, nat_tests, empty_page, Rests, Stands, StoryTree, Part}
-use Rattle.std.specs.List.{AllByRecursion as Each}
-use Rattle.ink_model.specs.Run.Configuration.{Configuration, FlowOf, settled, unnumbered_flow}
+use Rattle.std.proofs.Common.{inl, inr, ◌≡◌, ◌∙◌, ap, refl, ℕ, ◌≤◌, List, [], ◌∷◌, length, true, false, ◌||◌, bytes_eq, nat_lt, Some, None, is_some, unwrap_or, option_and_then, arith, lit≤}
+use Rattle.ink_sound.proofs.Common.{cond_both, nat_tests, empty_page, Rests, Stands, StoryTree, Part, Each, Configuration, FlowOf, settled, unnumbered_flow, AsideFits, FlowSound, NamedFits}
 use Rattle.ink_model.specs.Run.Flows.{Aside, FlowsOf, Game, current_name, default_flow, dropped, filled, first_flow, flow_named, flows_in, goes_to, has_room, is_flow_name, one_flow, with_flows}
+use Rattle.std.proofs.lemmas.Bool.{or_cases}
 use Rattle.ink_model.specs.Variables.Named.{at, put, without}
 use Rattle.ink_model.specs.Run.Place.{start_place}
-use Rattle.ink_model.specs.Save.Sound.{AsideFits, FlowSound, NamedFits}
 use Rattle.ink_model.specs.declared.limits.TheConstants.{MAX_FLOWS}
 use Rattle.ink_sound.proofs.Aside.{default_there, filled_at, filled_first, filled_holes, filled_length, filled_once, going_current, put_first, put_holes, without_first, without_holes}
 use Rattle.ink_sound.proofs.Between.{fresh_flow_sound, page_rests}
@@ -15,11 +13,10 @@ use Rattle.ink_sound.proofs.Places.{start_fits}
 
 -- ---- how many flows there are
 
-few_put : (name : List ℕ) (left rows : Aside) (b c : Bool) → is_some (at name left) ≡ b → nat_lt (length rows) MAX_FLOWS ≡ c → (b || c) ≡ true
-    → length left ≡ length rows → length rows ≤ MAX_FLOWS → length (put name None left) ≤ MAX_FLOWS
-few_put name left rows true c there room h same few = omega (arith, length_put name None left there)
-few_put name left rows false true there room h same few = grind (arith, nat_tests, length_put_most name None left, room)
-few_put name left rows false false there room h same few = absurd (true≢false (sym h))
+few_put : (name : List ℕ) (left rows : Aside) → is_some (at name left) ≡ is_some (at name rows) → has_room name rows ≡ true → length left ≡ length rows → length rows ≤ MAX_FLOWS
+    → length (put name None left) ≤ MAX_FLOWS
+few_put name left rows there room same few = elim (or_cases (is_some (at name rows)) (nat_lt (length rows) MAX_FLOWS) room)
+    [ inl e ↦ omega (arith, length_put name None left (there ∙ e)) | inr e ↦ grind (arith, nat_tests, length_put_most name None left, e) ]
 
 module _ (s : StoryTree) where
   -- a flow that may stand aside
@@ -52,8 +49,7 @@ module _ (s : StoryTree) where
       first = put_first name None (filled fs.current fs.aside) (filled_first fs.current fs.aside ∙ h.aside.first);
       names = once_put name None (filled fs.current fs.aside) (filled_once fs.current fs.aside ∙ h.aside.names);
       current = put_holes name (filled fs.current fs.aside) (filled_holes fs.current fs.aside h.aside.current);
-      few = few_put name (filled fs.current fs.aside) fs.aside (is_some (at name fs.aside)) (nat_lt (length fs.aside) MAX_FLOWS) (filled_at fs.current name fs.aside) refl room
-          (filled_length fs.current fs.aside) h.aside.few;
+      few = few_put name (filled fs.current fs.aside) fs.aside (filled_at fs.current name fs.aside) room (filled_length fs.current fs.aside) h.aside.few;
       each = each_put (NamedFits s) name None (filled fs.current fs.aside) (λ n y p. (p.0, tt)) (named, tt) (filled_fit fs.current h.current fs.aside h.aside.each);
     };
   }
@@ -75,22 +71,13 @@ module _ (s : StoryTree) where
 
   pub dropping_fits : (fresh : FlowOf (List Part)) (name : List ℕ) (fs : FlowsOf (FlowOf (List Part))) → Stood fresh → bytes_eq name default_flow ≡ false
       → FlowsFit fs → FlowsFit (dropped fresh name fs)
-  dropping_fits fresh name fs k other h = by (bytes_eq name (current_name fs.aside)) refl
-    where
-      room : has_room default_flow fs.aside ≡ true
-      room = ap (λ b. b || nat_lt (length fs.aside) MAX_FLOWS) (default_there fs.aside h.aside.first)
-
-      by : (b : Bool) → bytes_eq name (current_name fs.aside) ≡ b
-          → FlowsFit (record { current = (cond b (goes_to fresh default_flow fs) fs).current; aside = without name (cond b (goes_to fresh default_flow fs) fs).aside })
-      by true e = away name (goes_to fresh default_flow fs) other (ap (bytes_eq name) (going_current fresh default_flow fs h.aside.current) ∙ other)
-          (going_fits fresh default_flow fs k refl room h)
-      by false e = away name fs other e h
+  dropping_fits fresh name fs k other h =
+      let room : has_room default_flow fs.aside ≡ true = ap (λ b. b || nat_lt (length fs.aside) MAX_FLOWS) (default_there fs.aside h.aside.first) in
+      cond_both (bytes_eq name (current_name fs.aside)) (goes_to fresh default_flow fs) fs (λ gs. FlowsFit (record { current = gs.current; aside = without name gs.aside }))
+      (λ _. away name (goes_to fresh default_flow fs) other (ap (bytes_eq name) (going_current fresh default_flow fs h.aside.current) ∙ other) (going_fits fresh default_flow fs k refl room h))
+      (λ e. away name fs other e h)
 
   -- ---- games
-
-  flow_rests : (c : Configuration) → Rests c → unnumbered_flow c.flow ≡ c.flow
-  unfolding settled
-  flow_rests c k = ap (λ d. d.flow) k
 
   rests_in : (f : FlowOf (List Part)) (c : Configuration) → unnumbered_flow f ≡ f → Rests c → Rests (record c { flow = f })
   unfolding settled
@@ -99,7 +86,8 @@ module _ (s : StoryTree) where
       (λ i. record { flow = e i; shared = c.shared; page = page i })
 
   pub flows_fit : (g : Game) → Stands s g → FlowsFit (flows_in g)
-  flows_fit g h = record { current = (h.sound.flow, flow_rests g.now h.rests); aside = h.aside }
+  unfolding settled
+  flows_fit g h = record { current = (h.sound.flow, ap (λ (d : Configuration). d.flow) h.rests); aside = h.aside }
 
   pub game_fits : (g : Game) (fs : FlowsOf (FlowOf (List Part))) → FlowsFit fs → Stands s g → Stands s (with_flows fs g)
   game_fits g fs k h = let rests = rests_in fs.current g.now k.current.1 h.rests in assumption

@@ -1,24 +1,18 @@
 -- The effects of diverts, calls and returns; what calls of external functions come to, and what a host answers.
-use Rattle.std.proofs.Common.{◌≢◌, arith, List, Bool, true, false, if◌then◌else◌, Option, Some, None, option_map, Ok, Err, ◌≡◌, ℕ, zero, suc, ◌-◌, nat_le, [], ◌∷◌, length, take, Result}
-use Rattle.ink_sound.proofs.Common.{cond_both, lands, Values, StoryTree, FrameKind, Base, Tunnel, Function, Part, Value, Fault, Given}
-use Rattle.std.specs.Option.{ok_or}
+use Rattle.std.proofs.Common.{◌≢◌, arith, List, Bool, true, false, if◌then◌else◌, Option, Some, None, option_map, Ok, Err, ◌≡◌, ℕ, suc, ◌-◌, nat_le, ◌∷◌, length, take, Result}
+use Rattle.ink_sound.proofs.Common.{cond_both, lands, Values, StoryTree, FrameKind, Base, Tunnel, Part, Value, Fault, Given, ok_or, popped, is_true, Destination, AnyPlace, PlaceFits, StackFits, ValueFits, Each, list_all}
 use Rattle.ink_model.specs.Run.Effect.{Context, Effect, Fields, Landing, Moves, Lands, Calls, Returns}
 use Rattle.ink_model.specs.Run.Move.{place_to}
 use Rattle.ink_model.specs.Run.Step.Calls.{call, call_to, return_landing, return_function, return_tunnel}
 use Rattle.ink_model.specs.Run.Step.Diverts.{condition, divert, divert_to, landing_by, leaving_fields, led_by, led_to, truth_on, where_true}
-use Rattle.ink_model.specs.Values.Stack.{popped}
-use Rattle.ink_model.specs.Values.Value.{is_true}
 use Rattle.ink_model.specs.Variables.Access.{read}
-use Rattle.ink_model.specs.declared.content.Destination.{Destination}
 use Rattle.ink_model.specs.declared.content.Destination.TheVariants as destination
 use Rattle.ink_model.specs.declared.fault.Fault.TheVariants.{BadTarget, Unbound}
 use Rattle.ink_model.specs.declared.value.Value.TheVariants as value
 use Rattle.ink_sound.specs.Kept.{EffectFits, FieldsFit, Finds, Gives, CallFits}
-use Rattle.ink_model.specs.Save.Sound.{AnyPlace, PlaceFits, StackFits, ValueFits}
 use Rattle.ink_sound.proofs.Places.{Stands, lands_fits, led_fits, knot_fits, landed_fits}
-use Rattle.ink_sound.proofs.Values.{TakenFits, or_fault_fits, popped_fits, popping_fits, or_else_fits, pushing_fits}
+use Rattle.ink_sound.proofs.Values.{TakenFits, map_finds, or_fault_fits, popped_fits, popping_fits, or_else_fits, pushing_fits}
 use Rattle.std.proofs.lemmas.List.{length-take}
-use Rattle.std.specs.List.{AllByRecursion as Each, list_all}
 use Rattle.ink_model.specs.Host.Bindings.{Binding, Bound, turn_function, pure_function, fits_given, value_given}
 use Rattle.ink_model.specs.Run.Place.{knot}
 use Rattle.ink_model.specs.Run.Step.Host.{CallEffect, answering, arguments_of, arguments_on, arguments_taken, call_bound, call_external, has_string, is_argument, or_fails}
@@ -53,12 +47,8 @@ module _ (s : StoryTree) where
   ok_fits (Some l) h = h
   ok_fits None h = tt
 
-  written_fits : (o : Option (List Part)) → Finds (PlaceFits s) o → Gives LandingFits (ok_or (option_map (λ q. record { place = q; enters = true }) o) BadTarget)
-  written_fits (Some q) h = h
-  written_fits None h = tt
-
   led_to_fits : (p : List Part) (seen : Context) (to : Destination) (globals : Values) → Stands s p → Gives LandingFits (led_to s p seen to globals)
-  led_to_fits p seen (destination.Path text) globals h = written_fits (lands s p text) (lands_fits s p text h)
+  led_to_fits p seen (destination.Path text) globals h = ok_fits _ (map_finds (PlaceFits s) LandingFits (lands s p text) _ (lands_fits s p text h) (λ q k. k))
   led_to_fits p seen (destination.Variable name) globals h =
       elim (read globals seen.thread name) as (λ r. Gives LandingFits (led_by s r)) [ Ok v ↦ ok_fits (landing_by s v) (led_fits s v) | Err f ↦ tt ]
 
@@ -72,7 +62,6 @@ module _ (s : StoryTree) where
         (λ left x. or_fault_fits s LandingFits (led_to s p seen to left.globals) (λ l. Calls k l left) (led_to_fits p seen to left.globals stand) (λ l y. (c, y, x)))
 
   back_fits : (v : Value) → Gives (λ to. AnyPlace s (place_to to)) (return_landing s v)
-  back_fits value.Void = tt
   back_fits (value.Target path) = (elim (landing_by s (value.Target path)) as (λ o. Finds LandingFits o → Gives (λ to. AnyPlace s (place_to to)) (ok_or (option_map (λ l. Some l) o) BadTarget))
       [ Some l ↦ λ h. h | None ↦ λ h. tt ]) (led_fits s (value.Target path))
   back_fits v = tt
@@ -85,14 +74,10 @@ module _ (s : StoryTree) where
 
 -- ---- calls of external functions
 
-no_base : Function ≢ Base
-no_base e = absurd cc
-
 module _ (s : StoryTree) where
   each_take : (n : ℕ) (vs : List Value) → Each (ValueFits s) vs → Each (ValueFits s) (take n vs)
-  each_take zero vs h = tt
-  each_take (suc n) [] h = tt
   each_take (suc n) (v ∷ vs) h = (h.0, each_take n vs h.1)
+  each_take n vs h = tt
 
   arguments_fit : (n : ℕ) (vs : List Value) → StackFits s vs → Finds (λ (r : List Value × List Value). StackFits s r.1) (arguments_on n vs)
   arguments_fit n vs h = cond_both (nat_le n (length vs)) _ _ (Finds (λ (r : List Value × List Value). StackFits s r.1))
@@ -119,7 +104,7 @@ module _ (s : StoryTree) where
   or_fails_fits P (Err f) so h k = tt
 
   bound_fits : (b : Option Binding) (name : List ℕ) (n : ℕ) (f : Fields) → FieldsFit s f → CallFits s (call_bound s b name n f)
-  bound_fits None name n f h = or_else_fits s (PlaceFits s) Unbound (knot name s) _ (knot_fits s name) (λ p x. (no_base, landed_fits s p x, h))
+  bound_fits None name n f h = or_else_fits s (PlaceFits s) Unbound (knot name s) _ (knot_fits s name) (λ p x. ((λ e. absurd cc), landed_fits s p x, h))
   bound_fits (Some turn_function) name n f h = cond_both (has_string f.page.sections) _ _ (CallFits s) (λ _. tt) (λ _. or_fails_fits (LeavesFields s) (arguments_taken n f) _ (taken_fits n f h) (λ r x. x))
   bound_fits (Some (pure_function answers)) name n f h = or_fault_fits s (LeavesFields s) (arguments_taken n f) _ (taken_fits n f h) (λ r x. answering_fits (answers r.0) r.1 x)
 

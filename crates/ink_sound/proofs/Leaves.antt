@@ -1,20 +1,14 @@
 -- Each text that a story spells is within its limit, and each number has 32 bits.
-use Rattle.std.proofs.Common.{◌≡◌, sym, refl, arith, ℕ, zero, suc, ◌^◌, ℤ, pos, negsuc, List, [], ◌∷◌, ◌++◌, length, Bool, true, false, true≢false, ◌==◌, bytes_eq, codes, nat_lt, if◌then◌else◌, Option, Some, None, unwrap_or, Result, Ok, Err, IsTrue}
-use Rattle.ink_sound.proofs.Common.{cond_both, nat_tests, Leaf}
-use Rattle.std.specs.List.{AllByRecursion as Each, list_all}
-use Rattle.std.specs.Option.{ok_or}
+use Rattle.std.proofs.Common.{◌≡◌, refl, arith, ℕ, zero, suc, ◌^◌, ℤ, pos, negsuc, List, [], ◌∷◌, ◌++◌, length, Bool, true, false, ◌==◌, bytes_eq, codes, nat_lt, if◌then◌else◌, Option, Some, None, unwrap_or, Result, Ok, Err, IsTrue}
+use Rattle.ink_sound.proofs.Common.{and_parts, cond_both, nat_tests, Leaf, Each, list_all, ok_or, Destination, Cause, InkVersion}
 use Rattle.serde_json.specs.Data.{Data, number, string, object}
 use Rattle.serde_json.specs.Find.{as_integer, as_str, get}
 use Rattle.ink_model.specs.Story.Leaves.{by_head, choice_leaf, external_leaf, frame_option, integer_leaf, is_beyond, is_small, jump_leaf, jump_readings, leading_to, leaf_of, object_leaf, plain_leaf, pointer_frame, pointer_leaf, pointer_to, read_choice, read_external, read_jump, read_plain, read_pointer, read_store, read_tag, sole, store_leaf, store_readings, string_leaf, switch, tag_leaf, under_head, value_readings, whole_or}
 use Rattle.ink_model.specs.Story.Word.{arithmetic_words, comparison_words, count_words, evaluation_words, flow_words, frame_words, logic_words, meant, number_words, operator_word, section_words, word}
-use Rattle.ink_model.specs.declared.content.Destination.{Destination}
 use Rattle.ink_model.specs.declared.content.Leaf.TheVariants as leaves
-use Rattle.ink_model.specs.declared.fault.Cause.{Cause}
 use Rattle.ink_model.specs.declared.fault.Cause.TheVariants.{Limit, Unsupported}
 use Rattle.ink_model.specs.declared.limits.TheConstants.{MAX_TEXT}
-use Rattle.ink_model.specs.declared.version.InkVersion.{InkVersion}
 use Rattle.ink_sound.specs.Kept.{Finds, TextsFit, Yields}
-use Rattle.ink_sound.proofs.Rows.{one, two}
 use Rattle.ink_sound.proofs.Values.{each_append, or_finds}
 
 -- ---- words
@@ -28,15 +22,16 @@ has_none (leaves.Pointer name frame) = false
 has_none l = true
 
 none_fits : (l : Leaf) → has_none l ≡ true → TextsFit l
-none_fits (leaves.Text t) e = absurd (true≢false (sym e))
-none_fits (leaves.Tag t) e = absurd (true≢false (sym e))
-none_fits (leaves.Int z) e = absurd (true≢false (sym e))
-none_fits (leaves.Pointer name frame) e = absurd (true≢false (sym e))
+none_fits (leaves.Text t) e = absurd cc
+none_fits (leaves.Tag t) e = absurd cc
+none_fits (leaves.Int z) e = absurd cc
+none_fits (leaves.Pointer name frame) e = absurd cc
 none_fits l e = tt
 
 meant_fits : (s : List ℕ) (words : List (List ℕ × Leaf)) → list_all (λ e. has_none e.1) words ≡ true → Finds TextsFit (meant s words)
 meant_fits s [] e = tt
-meant_fits s (w ∷ words) e = cond_both (bytes_eq s w.0) _ _ (Finds TextsFit) (λ _. none_fits w.1 (one (has_none w.1) _ e)) (λ _. meant_fits s words (two (has_none w.1) _ e))
+meant_fits s (w ∷ words) e =
+    let parts = and_parts (has_none w.1) _ e in cond_both (bytes_eq s w.0) _ _ (Finds TextsFit) (λ _. none_fits w.1 parts.0) (λ _. meant_fits s words parts.1)
 
 operator_fits : (s : List ℕ) → Finds TextsFit (operator_word s)
 unfolding operator_word
@@ -65,11 +60,7 @@ tag_fits (Some t) = cond_both (nat_lt MAX_TEXT (length t)) _ _ (Yields TextsFit)
 string_fits : (s : List ℕ) → Yields TextsFit (string_leaf s)
 unfolding string_leaf
 string_fits [] = ok_fits (word []) (word_fits [])
-string_fits (c ∷ cs) = by (c == 94)
-  where
-    by : (b : Bool) → Yields TextsFit (unwrap_or (if b then Some (if nat_lt MAX_TEXT (length cs) then Err Limit else Ok (leaves.Text cs)) else None) (ok_or (word (c ∷ cs)) Unsupported))
-    by true = text_fits cs
-    by false = ok_fits (word (c ∷ cs)) (word_fits (c ∷ cs))
+string_fits (c ∷ cs) = cond_both (c == 94) _ _ (λ o. Yields TextsFit (unwrap_or o (ok_or (word (c ∷ cs)) Unsupported))) (λ _. text_fits cs) (λ _. ok_fits (word (c ∷ cs)) (word_fits (c ∷ cs)))
 
 -- ---- objects
 
@@ -111,11 +102,7 @@ abbrev AllFit : List (Result Leaf Cause) → Type 0
 AllFit rs = Each (Yields TextsFit) rs
 
 head_fits : (k : List ℕ) (read : Data → Data → Result Leaf Cause) (d : Data) → ((v : Data) → Yields TextsFit (read d v)) → AllFit (by_head k read d)
-head_fits k read d h = by (get k d)
-  where
-    by : (o : Option Data) → AllFit (under_head read d o)
-    by None = tt
-    by (Some v) = (h v, tt)
+head_fits k read d h = elim (get k d) as (λ o. AllFit (under_head read d o)) [ None ↦ tt | Some v ↦ (h v, tt) ]
 
 jump_head : (k : List ℕ) (make : Destination → Bool → Leaf) (d : Data) → ((t : Destination) (b : Bool) → TextsFit (make t b)) → AllFit (by_head k (read_jump make) d)
 jump_head k make d h = head_fits k (read_jump make) d (λ v. jump_fits make h (as_str v) (switch (get (codes "var") d)) (switch (get (codes "c") d)))
@@ -154,9 +141,8 @@ stores_fit d = each_append _ (by_head (codes "VAR=") (read_store leaves.Declare 
     (store_head (codes "VAR=") leaves.Declare leaves.Assign d (λ t. tt) (λ t. tt)) (store_head (codes "temp=") leaves.DeclareTemp leaves.AssignTemp d (λ t. tt) (λ t. tt))
 
 sole_fits : (rs : List (Result Leaf Cause)) → AllFit rs → Yields TextsFit (sole rs)
-sole_fits [] h = tt
 sole_fits (r ∷ []) h = h.0
-sole_fits (r ∷ q ∷ rs) h = tt
+sole_fits rs h = tt
 
 object_fits : (version : InkVersion) (d : Data) → Yields TextsFit (object_leaf version d)
 unfolding object_leaf

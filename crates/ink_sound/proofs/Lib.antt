@@ -22,7 +22,7 @@ pub mod Beside
 pub mod Sessions
 pub mod Leaves
 pub mod Stories
-pub mod Plain
+pub mod Flat
 pub mod Narrow
 pub mod Unspelling
 pub mod Respelling

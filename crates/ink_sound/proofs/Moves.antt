@@ -1,17 +1,14 @@
 -- What an effect that fits makes of a sound configuration is sound.
-use Rattle.std.proofs.Common.{ap, refl, arith, ℕ, suc, lit≤, List, [], ◌∷◌, Bool, true, false, ◌||◌, nat_eq, Option, Some, None}
-use Rattle.ink_sound.proofs.Common.{cond_both, BaseFirst, next_place, StoryTree, FrameKind, Part}
-use Rattle.std.specs.List.{AllByRecursion as Each}
+use Rattle.std.proofs.Common.{ap, refl, arith, ℕ, suc, lit≤, List, [], ◌∷◌, Bool, true, ◌||◌, nat_eq, Option, Some, None}
+use Rattle.ink_sound.proofs.Common.{cond_both, BaseFirst, next_place, StoryTree, FrameKind, Part, Each, is_line, ChoicesFit, FrameStands, Sound, ThreadStands, ThreadsFit}
 use Rattle.ink_model.specs.Run.Configuration.{ChoiceOf, Configuration, ended, with_choices, with_safe}
 use Rattle.ink_model.specs.Run.Effect.{Effect, Fields, Moves, Stores, Offers, Lands, Calls, Returns, Forks, Done, Ends, Fails, context_of, fields_of, with_fields, with_mode, with_staleness, with_thread}
 use Rattle.ink_model.specs.Flow.Transfers.{Written, Reached, Reaches, Halts, Breaks, is_last, moved_on}
 use Rattle.ink_model.specs.Flow.Frames.{FrameOf, ThreadOf, ThreadsOf, base_threads, is_function, place_in}
 use Rattle.ink_model.specs.Run.Move.{end_all, landed_in, may_enter, move, place_to, reached_in, with_flow, written_in}
-use Rattle.ink_model.specs.Text.Output.{is_line}
 use Rattle.ink_model.specs.Flow.Threads.{stale, stale_run, staled}
 use Rattle.ink_model.specs.Run.Visits.{around, entering}
 use Rattle.ink_sound.specs.Kept.{ContextFits, EffectFits, FieldsFit, OutcomeFits, ReachedFits, Runs, WrittenFits}
-use Rattle.ink_model.specs.Save.Sound.{ChoicesFit, FrameFits, FrameStands, SomePlace, Sound, ThreadStands, ThreadsFit}
 use Rattle.ink_sound.proofs.Counts.{all_visited_fits}
 use Rattle.ink_sound.proofs.Variables.{ChangedFits}
 use Rattle.ink_sound.proofs.Flows.{ThreadsStand, base_fit, called_fits, done_fits, forked_fits, moved_fits, reach_stands, returned_fits, stand_of, top_fits, any_of}
@@ -19,11 +16,8 @@ use Rattle.ink_sound.proofs.Flows.{ThreadsStand, base_fit, called_fits, done_fit
 module _ (s : StoryTree) where
   -- ---- freshness and mode
 
-  stale_stands : (d : ℕ) (f : FrameOf (List Part)) → FrameFits s f → FrameFits s (stale d f)
-  stale_stands d f h = cond_both (nat_eq f.depth d) _ _ (FrameFits s) (λ _. h) (λ _. h)
-
-  stale_placed : (d : ℕ) (f : FrameOf (List Part)) → SomePlace s f.place → SomePlace s (stale d f).place
-  stale_placed d f h = cond_both {A = FrameOf (List Part)} (nat_eq f.depth d) _ _ (λ g. SomePlace s g.place) (λ _. h) (λ _. h)
+  stale_stands : (d : ℕ) (f : FrameOf (List Part)) → FrameStands s f → FrameStands s (stale d f)
+  stale_stands d f h = cond_both (nat_eq f.depth d) _ _ (FrameStands s) (λ _. h) (λ _. h)
 
   kind_kept : (d : ℕ) (f : FrameOf (List Part)) (fs : List (FrameOf (List Part))) → BaseFirst f.kind fs → BaseFirst (stale d f).kind fs
   kind_kept d f fs h = cond_both {A = FrameOf (List Part)} (nat_eq f.depth d) _ _ (λ g. BaseFirst g.kind fs) (λ _. h) (λ _. h)
@@ -33,21 +27,22 @@ module _ (s : StoryTree) where
   run_fits d k (f ∷ fs) h b =
       let on = run_fits d f.kind fs h.1 b.1 in
       cond_both (is_function f.kind) _ _ (ChangedFits s k (f ∷ fs))
-      (λ _. record { each = ((stale_stands d f h.0.0, stale_placed d f h.0.1), on.each); base = (b.0, kind_kept d f (stale_run d fs) on.base); as_many = ap suc on.as_many })
+      (λ _. record { each = (stale_stands d f h.0, on.each); base = (b.0, kind_kept d f (stale_run d fs) on.base); as_many = ap suc on.as_many })
       (λ _. record { each = h; base = b; as_many = refl })
 
   staled_fits : (d : ℕ) (t : ThreadOf (List Part)) → ThreadStands s t → ThreadStands s (staled d t)
   staled_fits d t h =
+      let top = stale_stands d t.frame (h.thread.frame, h.place) in
       let r = run_fits d t.frame.kind t.below h.thread.below h.thread.base in
       record {
         thread = record {
-          frame = stale_stands d t.frame h.thread.frame;
+          frame = top.0;
           below = r.each;
           base = kind_kept d t.frame (stale_run d t.below) r.base;
           few = omega (arith, r.as_many, h.thread.few);
           previous = h.thread.previous;
         };
-        place = stale_placed d t.frame h.place;
+        place = top.1;
       }
 
   -- ---- fields
@@ -93,9 +88,7 @@ module _ (s : StoryTree) where
 
   landed_fits : (enters : Bool) (c : Configuration) (r : Reached (List Part)) → Sound s c → ReachedFits s r → OutcomeFits s (landed_in s enters c r)
   landed_fits true c (Reaches ts w) h k = (entering_runs (around s ts) (with_flow ts w c) (flow_sound ts w c h k.0 k.2), k.1)
-  landed_fits true c (Halts ts w) h k = reached_fits c (Halts ts w) h k
-  landed_fits true c (Breaks f) h k = tt
-  landed_fits false c r h k = reached_fits c r h k
+  landed_fits enters c r h k = reached_fits c r h k
 
   -- ---- effects
 
@@ -107,9 +100,6 @@ module _ (s : StoryTree) where
   end_fits : (c : Configuration) → Sound s c → OutcomeFits s (end_all c)
   end_fits c h = cond_both (is_line c.page.sections) _ _ (λ r. OutcomeFits s (reached_in (ended c) r))
       (λ _. flow_sound (base_threads None) (written_in c) (ended c) (ended_sound c h) (base_fit s None tt) (written_fits c h)) (λ _. tt)
-
-  safe_sound : (b : Bool) (c : Configuration) → Sound s c → Sound s (with_safe b c)
-  safe_sound b c h = assumption
 
   choices_run : (choices : List (ChoiceOf (List Part))) (c : Configuration) → ChoicesFit s choices → Runs s c → Runs s (with_choices choices c)
   choices_run choices c k h = (record { flow = record { threads = h.0.flow.threads; stack = h.0.flow.stack; choices = k }; shared = h.0.shared; page = h.0.page }, h.1)
@@ -141,7 +131,7 @@ module _ (s : StoryTree) where
   move_fits (Done f) c k h =
       let d : Configuration = with_fields f c in
       let r : Runs s d = fields_run f c k h in
-      reached_fits (with_safe (d.flow.safe || is_last d.flow.threads) d) _ (safe_sound (d.flow.safe || is_last d.flow.threads) d r.0)
-      (done_fits s d.flow.threads (written_in d) (threads_of d r) (written_fits d r.0))
+      let safe : Sound s (with_safe (d.flow.safe || is_last d.flow.threads) d) = assumption r.0 in
+      reached_fits (with_safe (d.flow.safe || is_last d.flow.threads) d) _ safe (done_fits s d.flow.threads (written_in d) (threads_of d r) (written_fits d r.0))
   move_fits (Ends f) c k h = end_fits (with_fields f c) (fields_run f c k h).0
   move_fits (Fails fault) c k h = tt

@@ -1,9 +1,8 @@
 -- Rows by name, changed.
 use Rattle.std.proofs.Common.{◌≡◌, ◌∙◌, ap, sym, refl, ℕ, suc, ◌≤◌, List, [], ◌∷◌, length, true, false, true≢false, cond, bytes_eq, Some, None, is_none, is_some, inl, inr, arith}
-use Rattle.ink_sound.proofs.Common.{cases_Bool, cond_both, bytes_eq-Decides}
-use Rattle.std.specs.List.{AllByRecursion as Each}
+use Rattle.ink_sound.proofs.Common.{and_from, and_parts, cases_Bool, cond_both, bytes_eq-Decides, Each}
 use Rattle.ink_model.specs.Variables.Named.{Rows, at, each, once, put, without}
-use Rattle.ink_sound.proofs.Rows.{both, one, turned, two}
+use Rattle.ink_sound.proofs.Rows.{turned}
 
 -- ---- names
 
@@ -13,22 +12,20 @@ same_name m n h = (bytes_eq-Decides m n).0 h
 pub its_name : (n : List ℕ) → bytes_eq n n ≡ true
 its_name n = (bytes_eq-Decides n n).1 refl
 
--- a name is another than one that is the same as a third
-other_than : (m n k : List ℕ) → bytes_eq m k ≡ true → bytes_eq m n ≡ false → bytes_eq n k ≡ false
-other_than m n k same other = ap (bytes_eq n) (sym (same_name m k same)) ∙ turned m n other
-
 module _ {X : Type 0} where
   -- ---- a row that is put
 
   at_put : (name n : List ℕ) (x : X) (rows : Rows X) → bytes_eq name n ≡ false → at n (put name x rows) ≡ at n rows
   at_put name n x [] h = ap (λ b. cond b (Some x) None) (turned name n h)
   at_put name n x (r ∷ rows) h = cond_both (bytes_eq name r.0) _ _ (λ l. at n l ≡ at n (r ∷ rows))
-      (λ e. let other : bytes_eq n r.0 ≡ false = other_than name n r.0 e h in rw other refl) (λ _. ap (λ o. cond (bytes_eq n r.0) (Some r.1) o) (at_put name n x rows h))
+      (λ e. rw (ap (bytes_eq n) (sym (same_name name r.0 e)) ∙ turned name n h) refl) (λ _. ap (λ o. cond (bytes_eq n r.0) (Some r.1) o) (at_put name n x rows h))
 
   pub once_put : (name : List ℕ) (x : X) (rows : Rows X) → once rows ≡ true → once (put name x rows) ≡ true
   once_put name x [] h = refl
-  once_put name x (r ∷ rows) h = cond_both (bytes_eq name r.0) _ _ (λ l. once l ≡ true) (λ _. h)
-      (λ e. both (is_none (at r.0 (put name x rows))) (once (put name x rows)) (ap is_none (at_put name r.0 x rows e) ∙ one (is_none (at r.0 rows)) (once rows) h) (once_put name x rows (two (is_none (at r.0 rows)) (once rows) h)))
+  once_put name x (r ∷ rows) h =
+      let parts = and_parts (is_none (at r.0 rows)) (once rows) h in
+      cond_both (bytes_eq name r.0) _ _ (λ l. once l ≡ true) (λ _. h)
+      (λ e. and_from (is_none (at r.0 (put name x rows))) (once (put name x rows)) (ap is_none (at_put name r.0 x rows e) ∙ parts.0) (once_put name x rows parts.1))
 
   pub length_put : (name : List ℕ) (x : X) (rows : Rows X) → is_some (at name rows) ≡ true → length (put name x rows) ≡ length rows
   length_put name x [] h = absurd (true≢false (sym h))
@@ -57,9 +54,9 @@ module _ {X : Type 0} where
   pub once_without : (name : List ℕ) (rows : Rows X) → once rows ≡ true → once (without name rows) ≡ true
   once_without name [] h = refl
   once_without name (r ∷ rows) h =
-      let after = two (is_none (at r.0 rows)) (once rows) h in
-      cond_both (bytes_eq name r.0) _ _ (λ l. once l ≡ true) (λ _. after)
-      (λ _. both (is_none (at r.0 (without name rows))) (once (without name rows)) (none_without name r.0 rows (one (is_none (at r.0 rows)) (once rows) h)) (once_without name rows after))
+      let parts = and_parts (is_none (at r.0 rows)) (once rows) h in
+      cond_both (bytes_eq name r.0) _ _ (λ l. once l ≡ true) (λ _. parts.1)
+      (λ _. and_from (is_none (at r.0 (without name rows))) (once (without name rows)) (none_without name r.0 rows parts.0) (once_without name rows parts.1))
 
   pub length_without : (name : List ℕ) (rows : Rows X) → length (without name rows) ≤ length rows
   length_without name [] = omega arith

@@ -1,12 +1,10 @@
 -- The indexes in places of a story that fits have 32 bits.
 use Rattle.std.proofs.Common.{◌≡◌, ◌∙◌, ap, sym, refl, subst, arith, ℕ, zero, suc, ◌<◌, ◌^◌, List, [], ◌∷◌, ◌++◌, reverse, true, true≢false, nat_eq, Option, Some, None, is_some, option_and_then, inl, inr}
-use Rattle.ink_sound.proofs.Common.{cases_Bool, nat_tests, Part, Index, Name, StoryFits, PlaceFits}
+use Rattle.ink_sound.proofs.Common.{and_parts, cases_Bool, nat_tests, Part, Index, Name, StoryFits, PlaceFits, Each}
 use Rattle.std.proofs.lemmas.List.{append_assoc, reverse-append, reverse-reverse}
-use Rattle.std.specs.List.{AllByRecursion as Each}
 use Rattle.ink_model.specs.Story.Path.{ends_at, is_container, is_place}
-use Rattle.ink_model.specs.Story.Tree.{StoryTree, leaf, container, Trees, no_trees, tree, at, count, nth, width}
+use Rattle.ink_model.specs.Story.Tree.{StoryTree, container, Trees, no_trees, tree, at, count, nth, width}
 use Rattle.ink_sound.proofs.Places.{Stands, at_append, stands_before}
-use Rattle.ink_sound.proofs.Rows.{one, two}
 use Rattle.ink_sound.proofs.Values.{each_one}
 
 abbrev pub PartNarrow : Part → Type 0
@@ -19,9 +17,8 @@ nth_within zero (tree t ts) h = omega arith
 nth_within (suc i) (tree t ts) h = omega (arith, nth_within i ts h)
 
 within : (i : ℕ) (o : Option StoryTree) → is_some (option_and_then (λ t. at t (Index i ∷ [])) o) ≡ true → i < width o
-within i None h = absurd (true≢false (sym h))
-within i (Some (leaf l)) h = absurd (true≢false (sym h))
 within i (Some (container name flags content named)) h = nth_within i content h
+within i o h = absurd cc
 
 container_stands : (o : Option StoryTree) → is_container o ≡ true → is_some o ≡ true
 container_stands None h = h
@@ -42,9 +39,9 @@ module _ (s : StoryTree) (story : StoryFits s) where
   end_narrow [] h = tt
   end_narrow (Name n ∷ up) h = absurd (true≢false (sym h))
   end_narrow (Index i ∷ up) h =
-      let is_end : nat_eq i (width (at s (reverse up))) ≡ true = two (is_container (at s (reverse up))) (nat_eq i (width (at s (reverse up)))) h in
-      let above : Each PartNarrow (reverse up) = parts_narrow [] (reverse up) (container_stands (at s (reverse up)) (one (is_container (at s (reverse up))) (nat_eq i (width (at s (reverse up)))) h)) in
-      let small : i < 2 ^ 32 = grind (arith, nat_tests, is_end, story.narrow (reverse up)) in
+      let parts = and_parts (is_container (at s (reverse up))) (nat_eq i (width (at s (reverse up)))) h in
+      let above : Each PartNarrow (reverse up) = parts_narrow [] (reverse up) (container_stands (at s (reverse up)) parts.0) in
+      let small : i < 2 ^ 32 = grind (arith, nat_tests, parts.1, story.narrow (reverse up)) in
       subst (Each PartNarrow) (sym (reverse-append (Index i ∷ []) up)) (each_one PartNarrow (reverse up) (Index i) above small)
 
   pub place_narrow : (p : List Part) → PlaceFits s p → Each PartNarrow p

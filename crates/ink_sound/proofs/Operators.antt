@@ -1,28 +1,27 @@
 -- What operators make of values fits, whatever the values are.
-use Rattle.std.proofs.Common.{◌≡◌, refl, arith, ℕ, zero, suc, ◌+◌, ◌≤◌, lit≤, ℤ, List, [], ◌∷◌, ◌++◌, length, length-append, Bool, true, false, Option, Some, None, option_and_then, Result, Ok, Err, IsTrue}
-use Rattle.ink_sound.proofs.Common.{cond_both, fits_text, is_small, StoryTree, Fault, Path, Value, EffectFits, FieldsFit, Finds, Gives, StackFits, ValueFits}
-use Rattle.std.specs.List.{AllByRecursion as Each}
+use Rattle.std.proofs.Common.{◌≡◌, refl, arith, ℕ, zero, suc, ◌+◌, ◌≤◌, lit≤, ℤ, List, [], ◌∷◌, ◌++◌, length, length-append, true, false, Some, None, Ok, Err, IsTrue}
+use Rattle.ink_sound.proofs.Common.{cond_both, fits_text, is_small, StoryTree, Path, Value, EffectFits, FieldsFit, Finds, Gives, StackFits, ValueFits, Each}
 use Rattle.ink_model.specs.Run.Effect.{Fields, Moves}
-use Rattle.ink_model.specs.Values.Operator.{Operand, number, words, target, Operands, numbers, texts, targets, unlike, apply, both, operand, can_divide, of_numbers, of_one, of_targets, of_texts, of_two, takes, truth_number}
+use Rattle.ink_model.specs.Values.Operator.{Operand, number, words, target, Operands, numbers, texts, targets, unlike, apply, both, operand, can_divide, of_numbers, of_one, of_targets, of_texts, of_two, takes}
 use Rattle.ink_model.specs.Values.Stack.{applied, applied_to, on_top, popped, taken}
 use Rattle.ink_model.specs.Run.Step.Evaluation.{operate}
 use Rattle.ink_model.specs.declared.operator.Op.{Op}
 use Rattle.ink_model.specs.declared.operator.Op.TheVariants as op
 use Rattle.ink_model.specs.declared.value.Value.TheVariants.{Int, Bool as Truth}
-use Rattle.ink_sound.proofs.Ints.{add_small, div_small, max_small, min_small, mul_small, neg_small, rem_small, sub_small}
-use Rattle.ink_sound.proofs.Values.{TakenFits, each_one, or_fault_fits, popped_fits}
+use Rattle.ink_sound.proofs.Ints.{div_small, rem_small, wrapped}
+use Rattle.ink_sound.proofs.Values.{TakenFits, each_one, finds_of, on_finds, or_fault_fits, popped_fits}
 
 module _ (s : StoryTree) where
   -- ---- what is made
 
   of_numbers_fits : (o : Op) (x y : ℤ) → is_small x ≡ true → is_small y ≡ true → Gives (ValueFits s) (of_numbers o x y)
-  of_numbers_fits op.Add x y h k = add_small x y
-  of_numbers_fits op.Subtract x y h k = sub_small x y
-  of_numbers_fits op.Multiply x y h k = mul_small x y
+  of_numbers_fits op.Add x y h k = search wrapped
+  of_numbers_fits op.Subtract x y h k = search wrapped
+  of_numbers_fits op.Multiply x y h k = search wrapped
   of_numbers_fits op.Divide x y h k = cond_both (can_divide x y) _ _ (Gives (ValueFits s)) (div_small x y h) (λ _. tt)
   of_numbers_fits op.Remainder x y h k = cond_both (can_divide x y) _ _ (Gives (ValueFits s)) (λ _. rem_small x y h) (λ _. tt)
-  of_numbers_fits op.Min x y h k = min_small x y h k
-  of_numbers_fits op.Max x y h k = max_small x y h k
+  of_numbers_fits op.Min x y h k = cond_both _ y x (λ z. is_small z ≡ true) (λ _. k) (λ _. h)
+  of_numbers_fits op.Max x y h k = cond_both _ x y (λ z. is_small z ≡ true) (λ _. h) (λ _. k)
   of_numbers_fits o x y h k = tt
 
   of_texts_fits : (o : Op) (a b : List ℕ) → Gives (ValueFits s) (of_texts o a b)
@@ -42,13 +41,10 @@ module _ (s : StoryTree) where
   OperandsFit (numbers x y) = IsTrue (is_small x) × IsTrue (is_small y)
   OperandsFit a = Unit {0}
 
-  truth_small : (b : Bool) → is_small (truth_number b) ≡ true
-  truth_small true = refl
-  truth_small false = refl
-
   operand_fits : (v : Value) → ValueFits s v → OperandFits (operand v)
   operand_fits (Int z) h = h
-  operand_fits (Truth b) h = truth_small b
+  operand_fits (Truth true) h = refl
+  operand_fits (Truth false) h = refl
   operand_fits v h = tt
 
   both_fit : (a b : Operand) → OperandFits a → OperandFits b → OperandsFit (both a b)
@@ -58,7 +54,7 @@ module _ (s : StoryTree) where
   both_fit a b h k = tt
 
   of_one_fits : (o : Op) (a : Operand) → OperandFits a → Gives (ValueFits s) (of_one o a)
-  of_one_fits op.Negate (number x t) h = neg_small x
+  of_one_fits op.Negate (number x t) h = search wrapped
   of_one_fits op.Floor (number x t) h = h
   of_one_fits op.Ceiling (number x t) h = h
   of_one_fits op.Int (number x t) h = h
@@ -92,31 +88,18 @@ module _ (s : StoryTree) where
 
   taken_fits : (n : ℕ) (vs above : List Value) → Each (ValueFits s) vs → Each (ValueFits s) above → Finds (AllTaken n vs) (taken n vs above)
   taken_fits zero vs above h k = record { taken_all = k; left = h; less = omega arith }
-  taken_fits (suc n) vs above h k = by (popped vs) (popped_fits s vs h) (λ r left top. taken_fits n r.1 (r.0 ∷ above) left (top, k))
-    where
-      more : (v : Value) (left : List Value) → suc (length left) ≡ length vs → (o : Option (List Value × List Value)) → Finds (AllTaken n left) o → Finds (AllTaken (suc n) vs) o
-      more v left e None k = tt
-      more v left e (Some r) k = record { taken_all = k.taken_all; left = k.left; less = omega (arith, e, k.less) }
-
-      by : (o : Option (Value × List Value)) → Finds (TakenFits s vs) o
-          → ((r : Value × List Value) → Each (ValueFits s) r.1 → ValueFits s r.0 → Finds (AllTaken n r.1) (taken n r.1 (r.0 ∷ above)))
-          → Finds (AllTaken (suc n) vs) (option_and_then (λ r. taken n r.1 (r.0 ∷ above)) o)
-      by None k on = tt
-      by (Some r) k on = more r.0 r.1 k.less (taken n r.1 (r.0 ∷ above)) (on r k.left k.value)
+  taken_fits (suc n) vs above h k = on_finds (TakenFits s vs) (AllTaken (suc n) vs) (popped vs) _ (popped_fits s vs h)
+      (λ r t. finds_of (AllTaken n r.1) (AllTaken (suc n) vs) (taken n r.1 (r.0 ∷ above)) (taken_fits n r.1 (r.0 ∷ above) t.left (t.value, k))
+      (λ q on. record { taken_all = on.taken_all; left = on.left; less = omega (arith, t.less, on.less) }))
 
   pub applied_fits : (o : Op) (vs : List Value) → StackFits s vs → Gives (StackFits s) (applied o vs)
-  applied_fits o vs h = by (taken (takes o) vs []) (taken_fits (takes o) vs [] h.each tt)
-    where
-      on : (left : List Value) → Each (ValueFits s) left → length left + takes o ≡ length vs → (r : Result Value Fault) → Gives (ValueFits s) r → Gives (StackFits s) (on_top left r)
-      on left k e (Err f) g = tt
-      on left k e (Ok v) g = record {
-        each = each_one (ValueFits s) left v k g;
-        few = rw (length-append left (v ∷ [])) (omega (arith, e, h.few, takes_some o));
-      }
-
-      by : (r : Option (List Value × List Value)) → Finds (AllTaken (takes o) vs) r → Gives (StackFits s) (applied_to o r)
-      by None k = tt
-      by (Some r) k = on r.1 k.left k.less (apply o r.0) (apply_fits o r.0 k.taken_all)
+  applied_fits o vs h = (elim (taken (takes o) vs []) as (λ r. Finds (AllTaken (takes o) vs) r → Gives (StackFits s) (applied_to o r)) [
+    | None ↦ λ k. tt
+    | Some r ↦ λ k. (elim (apply o r.0) as (λ made. Gives (ValueFits s) made → Gives (StackFits s) (on_top r.1 made)) [
+      | Err f ↦ λ g. tt
+      | Ok v ↦ λ g. record { each = each_one (ValueFits s) r.1 v k.left g; few = rw (length-append r.1 (v ∷ [])) (omega (arith, k.less, h.few, takes_some o)) }
+    ]) (apply_fits o r.0 k.taken_all)
+  ]) (taken_fits (takes o) vs [] h.each tt)
 
   pub operate_fits : (o : Op) (f : Fields) → FieldsFit s f → EffectFits s (operate o f)
   operate_fits o f h =

@@ -1,95 +1,22 @@
--- How deep a spelling nests, and that the spelling of a sound game has small integers, and names that rise: so its text is read back.
-use Rattle.std.proofs.Common.{◌≤◌, lit≤, arith, ℕ, List, [], ◌∷◌, map, reverse, Option, Some, None, ◌≡◌, ◌∙◌, ap, sym, refl, ◌<◌, ◌^◌, ℤ, pos, negsuc, ◌++◌, append_assoc, codes, cond, Bool, true, false}
-use Rattle.serde_json.specs.Data.{Data, string, depth, items_depth, members_depth, object}
-use Rattle.ink_sound.proofs.Common.{ChoiceOf, FlowOf, items_of, Game, all_flows, FrameOf, ThreadOf, value_data, FrameKind, Base, Part, Index, Name, Value, choice_data, frame_data, global_data, kind_data, named_flow_data, part_data, place_data, place_or_null, row_data, spelling, temps_members, thread_data, nat_tests, of_integer, counts_visits, notes_turns, is_small, StoryTree, Stands, StoryFits}
+-- The spelling of a sound game has small integers, and names that rise: so its text is read back.
+use Rattle.std.proofs.Common.{IsTrue, lit≤, arith, ℕ, List, [], ◌∷◌, map, reverse, Option, Some, None, ◌≡◌, ◌∙◌, ap, sym, refl, ◌<◌, ◌^◌, ℤ, pos, negsuc, ◌++◌, append_assoc, codes, cond, Bool, true, false}
+use Rattle.serde_json.specs.Data.{Data, string, object}
+use Rattle.ink_sound.proofs.Common.{fits_text, and_from, and_parts, ChoiceOf, FlowOf, items_of, Game, all_flows, FrameOf, ThreadOf, value_data, FrameKind, Base, Part, Index, Name, Value, choice_data, frame_data, global_data, kind_data, named_flow_data, part_data, place_data, place_or_null, row_data, spelling, temps_members, thread_data, nat_tests, of_integer, counts_visits, notes_turns, is_small, StoryTree, Stands, StoryFits, Each, is_before, name_order, rows_rise, AnyPlace, ChoiceFits, FlowSound, PlaceFits, RowCounts, RowFits, ValueFits}
 use Rattle.ink_model.specs.declared.value.Value.TheVariants as value
-use Rattle.std.specs.List.{AllByRecursion as Each}
 use Rattle.std.specs.Str.{is_utf8}
 use Rattle.serde_json.specs.Written.{compact_text}
 use Rattle.serde_json.proofs.OnLiterals.{serde_json_on_literals}
 use Rattle.ink_model.specs.Protocol.Answer.{Saves, answer}
 use Rattle.ink_model.specs.Protocol.Command.{Load, command_of, command_word, json_of}
-use Rattle.ink_model.specs.Variables.Rows.{is_before, name_order, rows_rise}
-use Rattle.ink_model.specs.Save.Sound.{AnyPlace, ChoiceFits, FlowSound, PlaceFits, RowCounts, RowFits, ValueFits}
+use Rattle.ink_sound.proofs.Flat.{spelling_flat}
 use Rattle.ink_sound.proofs.Narrow.{PartNarrow, place_narrow}
 use Rattle.ink_sound.proofs.Offers.{each_reverse}
 use Rattle.ink_sound.proofs.Rereading.{AreOrderly, InRange, IsOrderly, HasOrderly, is_first, names_rise, text_back}
 use Rattle.ink_sound.proofs.Respelling.{FrameSpells, ThreadSpells, aside_sound, counted_stands, flows_sound, frame_small, thread_stands, threads_spell}
-use Rattle.ink_sound.proofs.Rows.{both, one, two}
-
--- all of these nest at most so deep
-items_deep : {A : Type 0} (f : A → Data) (n : ℕ) → ((x : A) → depth (f x) ≤ n) → (xs : List A) → items_depth (items_of (map f xs)) ≤ n
-items_deep f n h [] = omega arith
-items_deep f n h (x ∷ xs) = grind (arith, h x, items_deep f n h xs)
-
-value_deep : (v : Value) → depth (value_data v) ≤ 1
-value_deep value.Void = lit≤ tt
-value_deep v = lit≤ tt
-
-part_deep : (p : Part) → depth (part_data p) ≤ 0
-part_deep (Index i) = lit≤ tt
-part_deep (Name n) = lit≤ tt
-
-place_deep : (p : List Part) → depth (place_data p) ≤ 1
-place_deep p = omega (arith, items_deep part_data 0 part_deep p)
-
-null_deep : (p : Option (List Part)) → depth (place_or_null p) ≤ 1
-null_deep None = lit≤ tt
-null_deep (Some p) = place_deep p
-
-kind_deep : (k : FrameKind) → depth (kind_data k) ≤ 0
-kind_deep Base = lit≤ tt
-kind_deep k = lit≤ tt
-
-temps_deep : (rs : List (List ℕ × Value)) → members_depth (temps_members rs) ≤ 1
-temps_deep [] = lit≤ tt
-temps_deep (r ∷ rs) = omega (arith, value_deep r.1, temps_deep rs)
-
-frame_deep : (f : FrameOf (List Part)) → depth (frame_data f) ≤ 3
-frame_deep f = omega (arith, kind_deep f.kind, null_deep f.place, temps_deep f.temps)
-
-thread_deep : (t : ThreadOf (List Part)) → depth (thread_data t) ≤ 5
-thread_deep t = omega (arith, items_deep frame_data 3 frame_deep (reverse (t.frame ∷ t.below)), null_deep t.previous)
-
-text_deep : (t : List ℕ) → depth (string t) ≤ 0
-text_deep t = lit≤ tt
-
-choice_deep : (c : ChoiceOf (List Part)) → depth (choice_data c) ≤ 6
-choice_deep c = omega (arith, items_deep string 0 text_deep c.tags, place_deep c.target, thread_deep c.thread)
-
-global_deep : (e : List ℕ × Value) → depth (global_data e) ≤ 2
-global_deep e = omega (arith, value_deep e.1)
-
-row_deep : (r : List Part × ℕ) → depth (row_data r) ≤ 2
-row_deep r = omega (arith, place_deep r.0)
-
-named_flow_deep : (r : List ℕ × FlowOf (List Part)) → depth (named_flow_data r) ≤ 8
-named_flow_deep r = omega (
-  arith,
-  items_deep choice_data 6 choice_deep r.1.choices,
-  items_deep value_data 1 value_deep r.1.stack,
-  items_deep thread_data 5 thread_deep (reverse (r.1.threads.thread ∷ r.1.threads.below)),
-)
-
--- so its text reads back: a text may nest to 127
-pub spelling_deep : (g : Game) → depth (spelling g) ≤ 10
-spelling_deep g = omega (
-  arith,
-  items_deep named_flow_data 8 named_flow_deep (all_flows g.now.flow g.aside),
-  items_deep global_data 2 global_deep g.now.shared.globals,
-  items_deep row_data 2 row_deep g.now.shared.counts.turns,
-  items_deep row_data 2 row_deep g.now.shared.counts.visits,
-)
-
--- ---- integers are small, and names rise
 
 items_orderly : {A : Type 0} (f : A → Data) (P : A → Type 0) → ((x : A) → P x → IsOrderly (f x)) → (xs : List A) → Each P xs → AreOrderly (items_of (map f xs))
 items_orderly f P h [] k = tt
 items_orderly f P h (x ∷ xs) k = (h x k.0, items_orderly f P h xs k.1)
-
-texts_orderly : (ts : List (List ℕ)) → AreOrderly (items_of (map string ts))
-texts_orderly [] = tt
-texts_orderly (t ∷ ts) = (tt, texts_orderly ts)
 
 -- ---- values
 
@@ -107,25 +34,21 @@ part_orderly (Name t) h = tt
 
 first_name : (k : List ℕ) (rs : List (List ℕ × Value)) → is_before name_order k rs ≡ true → is_first k (temps_members rs) ≡ true
 first_name k [] h = refl
-first_name k (r ∷ rs) h = both _ (is_first k (temps_members rs)) (one _ (is_before name_order k rs) h) (first_name k rs (two _ (is_before name_order k rs) h))
+first_name k (r ∷ rs) h = let parts = and_parts _ (is_before name_order k rs) h in and_from _ (is_first k (temps_members rs)) parts.0 (first_name k rs parts.1)
 
 temps_rise : (rs : List (List ℕ × Value)) → rows_rise name_order rs ≡ true → names_rise (temps_members rs) ≡ true
 temps_rise [] h = refl
 temps_rise (r ∷ rs) h =
-    both (is_first r.0 (temps_members rs)) (names_rise (temps_members rs)) (first_name r.0 rs (one _ (rows_rise name_order rs) h)) (temps_rise rs (two (is_before name_order r.0 rs) (rows_rise name_order rs) h))
+    let parts = and_parts (is_before name_order r.0 rs) (rows_rise name_order rs) h in
+    and_from (is_first r.0 (temps_members rs)) (names_rise (temps_members rs)) (first_name r.0 rs parts.0) (temps_rise rs parts.1)
 
 module _ (s : StoryTree) where
   value_orderly : (v : Value) → ValueFits s v → IsOrderly (value_data v)
   value_orderly (value.Int z) h = small_range z h
-  value_orderly (value.Bool b) h = tt
-  value_orderly (value.Text t) h = tt
   value_orderly (value.Target p) h = (refl, (tt, tt))
   value_orderly (value.Pointer i n) h = (refl, (small_range i (frame_small s i h), (tt, tt)))
-  value_orderly value.Void h = tt
   value_orderly (value.Tag t) h = (refl, (tt, tt))
-
-  global_orderly : (e : List ℕ × Value) → RowFits s e → IsOrderly (global_data e)
-  global_orderly e h = (tt, (value_orderly e.1 h, tt))
+  value_orderly v h = tt
 
   temps_orderly : (rs : List (List ℕ × Value)) → Each (RowFits s) rs → HasOrderly (temps_members rs)
   temps_orderly [] h = tt
@@ -161,7 +84,8 @@ module _ (s : StoryTree) where
     choice_orderly : (c : ChoiceOf (List Part)) → ChoiceFits s c → IsOrderly (choice_data c)
     choice_orderly c h =
         let thread = thread_orderly c.thread (thread_stands s story c.thread h.thread) in
-        (refl, (tt, (texts_orderly c.tags, (place_orderly c.target h.target, (tt, (thread, tt))))))
+        let tags = items_orderly string (λ t. IsTrue (fits_text t)) (λ t k. tt) c.tags h.tags in
+        (refl, (tt, (tags, (place_orderly c.target h.target, (tt, (thread, tt))))))
 
     -- ---- games
 
@@ -178,7 +102,7 @@ module _ (s : StoryTree) where
         let shared = h.sound.shared in
         let rows = flows_sound s story g.now.flow g.aside h.sound.flow (aside_sound s story g.aside h.aside).each in
         let flows = items_orderly named_flow_data (λ r. FlowSound s r.1) named_flow_orderly (all_flows g.now.flow g.aside) rows in
-        let globals = items_orderly global_data (RowFits s) global_orderly g.now.shared.globals shared.globals.each in
+        let globals = items_orderly global_data (RowFits s) (λ e k. (tt, (value_orderly e.1 k, tt))) g.now.shared.globals shared.globals.each in
         let turn : g.now.shared.turn < 2 ^ 64 = omega (arith, shared.turn) in
         let turns = items_orderly row_data (RowCounts s notes_turns 0) (λ r k. row_orderly notes_turns 0 r refl k) g.now.shared.counts.turns shared.counts.turns.each in
         let visits = items_orderly row_data (RowCounts s counts_visits 1) (λ r k. row_orderly counts_visits 1 r refl k) g.now.shared.counts.visits shared.counts.visits.each in
@@ -186,12 +110,9 @@ module _ (s : StoryTree) where
 
     pub spelled_back : (g : Game) → Stands s g → json_of (compact_text (spelling g)) ≡ Some (spelling g)
     unfolding json_of
-    spelled_back g h = text_back (spelling g) (spelling_orderly g h) (omega (arith, spelling_deep g))
+    spelled_back g h = text_back (spelling g) (spelling_orderly g h) (omega (arith, (spelling_flat g).0))
 
 -- ---- lines
-
-load_word : (c : ℕ) (cs : List ℕ) → command_word (codes "load " ++ c ∷ cs) ≡ Some (Load (json_of (c ∷ cs)))
-load_word c cs = refl
 
 pub load_line : (j : Data) (c : ℕ) (cs : List ℕ) → compact_text j ≡ c ∷ cs → json_of (compact_text j) ≡ Some j → is_utf8 (codes "load " ++ compact_text j) ≡ true
     → command_of (codes "load " ++ compact_text j) ≡ Some (Load (Some j))
@@ -199,7 +120,7 @@ unfolding command_of
 load_line j c cs some reads is_text =
     let line = codes "load " ++ compact_text j in
     ap (λ b. cond b (command_word line) None) is_text
-    ∙ ap (λ text. command_word (codes "load " ++ text)) some ∙ load_word c cs ∙ ap (λ text. Some (Load (json_of text))) (sym some) ∙ ap (λ o. Some (Load o)) reads
+    ∙ ap (λ text. command_word (codes "load " ++ text)) some ∙ ap (λ text. Some (Load (json_of text))) (sym some) ∙ ap (λ o. Some (Load o)) reads
 
 pub saved_answer : (j : Data) → answer (Saves j) ≡ codes "{\"saved\":" ++ (compact_text j ++ codes "}\n")
 unfolding answer serde_json_on_literals

@@ -1,14 +1,14 @@
 -- Places of a story: where flow enters, goes on, lands, and where paths lead.
-use Rattle.std.proofs.Common.{◌≡◌, ◌∙◌, ap, sym, refl, subst, arith, ℕ, zero, suc, ◌+◌, ◌<◌, List, [], ◌∷◌, ◌++◌, reverse, Bool, true, false, ◌&&◌, ◌||◌, nat_lt, nat_le, nat_eq, if◌then◌else◌, Option, Some, None, is_some, option_and_then}
+use Rattle.std.proofs.Common.{◌≡◌, ◌∙◌, ap, sym, refl, subst, arith, ℕ, zero, suc, ◌+◌, ◌<◌, List, [], ◌∷◌, ◌++◌, reverse, true, ◌&&◌, ◌||◌, nat_lt, nat_le, nat_eq, if◌then◌else◌, Option, Some, None, is_some, option_and_then}
 use Rattle.ink_model.proofs.Listed.{listed_within, named_within}
 use Rattle.ink_sound.proofs.Common.{cond_both, nat_tests, option_map, lands, jump_place, landing_by, Part, Index, Name, Path, Value, Finds, PlaceFits}
 use Rattle.std.proofs.lemmas.List.{append-nil, reverse-append, reverse-reverse}
 use Rattle.ink_model.specs.Run.Effect.{Landing}
 use Rattle.ink_model.specs.Story.Path.{above, absolute_target, by_name, ends_at, ends_in_index, is_container, is_place, is_up, landing, listed_index, read_path, stepped, stepped_last, target, walked}
-use Rattle.ink_model.specs.Run.Place.{content_place, first_content, first_content_at, first_content_of, knot, landed, named_index, next_place, next_upwards, start_place}
-use Rattle.ink_model.specs.Story.Tree.{StoryTree, leaf, container, Trees, no_trees, tree, Keyed, at, by_key, count, down, nth, width}
+use Rattle.ink_model.specs.Run.Place.{content_place, first_content, first_content_at, knot, landed, named_index, next_place, next_upwards, start_place}
+use Rattle.ink_model.specs.Story.Tree.{StoryTree, leaf, container, Trees, no_trees, tree, at, by_key, count, down, nth, width}
 use Rattle.ink_model.specs.declared.value.Value.TheVariants as value
-use Rattle.ink_sound.proofs.Values.{Any, any_finds, map_finds, on_finds}
+use Rattle.ink_sound.proofs.Values.{Any, any_finds, finds_of, map_finds, map_found, on_finds}
 
 -- content stands there
 abbrev pub Stands : StoryTree → List Part → Type 0
@@ -16,22 +16,15 @@ Stands s p = is_some (at s p) ≡ true
 
 -- ---- a way on from a place
 
-onward : (p q : List Part) → ((u : StoryTree) → at u (p ++ q) ≡ option_and_then (λ t. at t q) (at u p))
-    → (o : Option StoryTree) → option_and_then (λ u. at u (p ++ q)) o ≡ option_and_then (λ t. at t q) (option_and_then (λ u. at u p) o)
-onward p q h None = refl
-onward p q h (Some u) = h u
-
 pub at_append : (p q : List Part) (s : StoryTree) → at s (p ++ q) ≡ option_and_then (λ t. at t q) (at s p)
 at_append [] q s = refl
-at_append (x ∷ p) q s = onward p q (at_append p q) (down x s)
-
-first_stood : (q : List Part) (o : Option StoryTree) → is_some (option_and_then (λ t. at t q) o) ≡ true → is_some o ≡ true
-first_stood q None h = h
-first_stood q (Some t) h = refl
+at_append (x ∷ p) q s = elim (down x s) as (λ o. option_and_then (λ u. at u (p ++ q)) o ≡ option_and_then (λ t. at t q) (option_and_then (λ u. at u p) o))
+    [ None ↦ refl | Some u ↦ at_append p q u ]
 
 -- what holds content that stands stands too
 pub stands_before : (s : StoryTree) (p q : List Part) → Stands s (p ++ q) → Stands s p
-stands_before s p q h = first_stood q (at s p) (sym (ap is_some (at_append p q s)) ∙ h)
+stands_before s p q h = (elim (at s p) as (λ o. is_some (option_and_then (λ t. at t q) o) ≡ true → is_some o ≡ true) [ None ↦ λ e. e | Some t ↦ λ e. refl ])
+    (sym (ap is_some (at_append p q s)) ∙ h)
 
 -- ---- by index
 
@@ -41,9 +34,8 @@ nth_stands zero (tree t ts) h = refl
 nth_stands (suc i) (tree t ts) h = nth_stands i ts (omega arith)
 
 in_stands : (i : ℕ) (o : Option StoryTree) → i < width o → is_some (option_and_then (λ t. at t (Index i ∷ [])) o) ≡ true
-in_stands i None h = absurd (omega arith)
-in_stands i (Some (leaf l)) h = absurd (omega arith)
 in_stands i (Some (container name flags content named)) h = nth_stands i content h
+in_stands i o h = absurd (omega arith)
 
 pub index_stands : (s : StoryTree) (p : List Part) (i : ℕ) → i < width (at s p) → Stands s (p ++ Index i ∷ [])
 index_stands s p i h = ap is_some (at_append p (Index i ∷ []) s) ∙ in_stands i (at s p) h
@@ -54,20 +46,15 @@ pub stands_fits : (s : StoryTree) (p : List Part) → Stands s p → PlaceFits s
 unfolding is_place
 stands_fits s p h = ap (λ b. b || ends_at s (reverse p)) h
 
-both_more : (b : Bool) (i n : ℕ) → (b || nat_eq i n) ≡ nat_le i n → (b || nat_eq (suc i) (suc n)) ≡ nat_le (suc i) (suc n)
-both_more true i n h = grind (arith, nat_tests, h)
-both_more false i n h = grind (arith, nat_tests, h)
-
 or_end : (ts : Trees) (i : ℕ) → (is_some (option_and_then (λ u. Some u) (nth i ts)) || nat_eq i (count ts)) ≡ nat_le i (count ts)
 or_end no_trees zero = refl
 or_end no_trees (suc i) = grind (arith, nat_tests)
 or_end (tree t ts) zero = grind (arith, nat_tests)
-or_end (tree t ts) (suc i) = both_more (is_some (option_and_then (λ u. Some u) (nth i ts))) i (count ts) (or_end ts i)
+or_end (tree t ts) (suc i) = grind (arith, nat_tests, or_end ts i)
 
 reached : (o : Option StoryTree) (i : ℕ) → (is_some (option_and_then (λ u. at u (Index i ∷ [])) o) || (is_container o && nat_eq i (width o))) ≡ (is_container o && nat_le i (width o))
-reached None i = refl
-reached (Some (leaf l)) i = refl
 reached (Some (container name flags content named)) i = or_end content i
+reached o i = refl
 
 -- an index up to the container's width, which is its end
 pub reach_fits : (s : StoryTree) (p : List Part) (i : ℕ) → (is_container (at s p) && nat_le i (width (at s p))) ≡ true → PlaceFits s (p ++ Index i ∷ [])
@@ -79,14 +66,9 @@ reach_fits s p i h =
 
 -- ---- on the way of flow
 
-abbrev mutual
-  first_stands : (t : StoryTree) → is_some (at t (first_content t)) ≡ true
-  first_stands (leaf l) = refl
-  first_stands (container name flags content named) = first_of_stands name flags content named
-
-  first_of_stands : (name : Option (List ℕ)) (flags : ℕ) (ts : Trees) (named : Keyed) → is_some (at (container name flags ts named) (first_content_of ts)) ≡ true
-  first_of_stands name flags no_trees named = refl
-  first_of_stands name flags (tree t ts) named = first_stands t
+abbrev first_stands : (t : StoryTree) → is_some (at t (first_content t)) ≡ true
+first_stands (container name flags (tree t ts) named) = first_stands t
+first_stands t = refl
 
 pub entered_fits : (s : StoryTree) (p : List Part) → PlaceFits s p → PlaceFits s (content_place s p)
 unfolding content_place
@@ -97,11 +79,10 @@ entered_fits s p h = (elim (at s p) as (λ o. at s p ≡ o → PlaceFits s (p ++
 ]) refl
 
 upwards_fits : (s : StoryTree) (up : List Part) → Finds (PlaceFits s) (next_upwards s up)
-upwards_fits s [] = tt
-upwards_fits s (Name n ∷ up) = tt
 upwards_fits s (Index i ∷ up) = cond_both (nat_lt (i + 1) (width (at s (reverse up)))) _ _ (Finds (PlaceFits s))
     (λ e. subst (PlaceFits s) (sym (reverse-append (Index (i + 1) ∷ []) up)) (stands_fits s (reverse up ++ Index (i + 1) ∷ []) (index_stands s (reverse up) (i + 1) (grind (arith, nat_tests, e)))))
     (λ _. upwards_fits s up)
+upwards_fits s up = tt
 
 pub next_fits : (s : StoryTree) (p : List Part) → Finds (PlaceFits s) (next_place s p)
 unfolding next_place
@@ -120,23 +101,16 @@ pub up_stands : (s : StoryTree) (p : List Part) → Stands s p → Finds (Stands
 up_stands s p h = above_stands s (reverse p) (subst (Stands s) (sym (reverse-reverse p)) h)
 
 name_stands : (s : StoryTree) (p : List Part) (name : List ℕ) → Finds (Stands s) (by_name s p name)
-name_stands s p name = cond_both (is_some (at s (p ++ Name name ∷ []))) _ _ (Finds (Stands s)) (λ e. e) (λ _. listed (listed_index name (at s p)) refl)
-  where
-    listed : (o : Option ℕ) → listed_index name (at s p) ≡ o → Finds (Stands s) (option_map (λ i. p ++ Index i ∷ []) o)
-    listed None e = tt
-    listed (Some i) e = index_stands s p i (listed_within name (at s p) i e)
+name_stands s p name = cond_both (is_some (at s (p ++ Name name ∷ []))) _ _ (Finds (Stands s)) (λ e. e)
+    (λ _. map_found (Stands s) (listed_index name (at s p)) _ (λ i e. index_stands s p i (listed_within name (at s p) i e)))
 
 step_stands : (s : StoryTree) (p : List Part) (c : Part) → Stands s p → Finds (Stands s) (stepped s p c)
 step_stands s p (Index i) h = cond_both (nat_lt i (width (at s p))) _ _ (Finds (Stands s)) (λ e. index_stands s p i (grind (arith, nat_tests, e))) (λ _. tt)
 step_stands s p (Name name) h = cond_both (is_up name) _ _ (Finds (Stands s)) (λ _. up_stands s p h) (λ _. name_stands s p name)
 
-found_fits : (s : StoryTree) (o : Option (List Part)) → Finds (Stands s) o → Finds (PlaceFits s) o
-found_fits s None h = tt
-found_fits s (Some p) h = stands_fits s p h
-
 last_fits : (s : StoryTree) (p : List Part) (c : Part) → Stands s p → Finds (PlaceFits s) (stepped_last s p c)
 last_fits s p (Index i) h = cond_both (is_container (at s p) && nat_le i (width (at s p))) _ _ (Finds (PlaceFits s)) (λ e. reach_fits s p i e) (λ _. tt)
-last_fits s p (Name name) h = found_fits s (stepped s p (Name name)) (step_stands s p (Name name) h)
+last_fits s p (Name name) h = finds_of (Stands s) (PlaceFits s) (stepped s p (Name name)) (step_stands s p (Name name) h) (λ q k. stands_fits s q k)
 
 walked_fits : (s : StoryTree) (cs p : List Part) → Stands s p → Finds (PlaceFits s) (walked s p cs)
 walked_fits s [] p h = stands_fits s p h
@@ -175,15 +149,9 @@ jump_fits s text = on_finds Any (PlaceFits s) (read_path text) _ (any_finds (rea
 pub knot_fits : (s : StoryTree) (name : List ℕ) → Finds (PlaceFits s) (knot name s)
 unfolding knot
 knot_fits (leaf l) name = tt
-knot_fits (container own flags content named) name = by (by_key name named) refl
-  where
-    s : StoryTree
-    s = container own flags content named
-
-    listed : (o : Option ℕ) → named_index name 0 content ≡ o → Finds (PlaceFits s) (option_map (λ i. Index i ∷ []) o)
-    listed None e = tt
-    listed (Some i) e = stands_fits s (Index i ∷ []) (nth_stands i content (omega (arith, named_within name 0 content i e)))
-
-    by : (o : Option StoryTree) → by_key name named ≡ o → Finds (PlaceFits s) (if is_some o then Some (Name name ∷ []) else option_map (λ i. Index i ∷ []) (named_index name 0 content))
-    by None e = listed (named_index name 0 content) refl
-    by (Some t) e = stands_fits s (Name name ∷ []) (ap (λ o. is_some (option_and_then (λ u. at u []) o)) e)
+knot_fits (container own flags content named) name =
+    let s : StoryTree = container own flags content named in
+    (elim (by_key name named) as (λ o. by_key name named ≡ o → Finds (PlaceFits s) (if is_some o then Some (Name name ∷ []) else option_map (λ i. Index i ∷ []) (named_index name 0 content))) [
+      | None ↦ λ e. map_found (PlaceFits s) (named_index name 0 content) _ (λ i is. stands_fits s (Index i ∷ []) (nth_stands i content (omega (arith, named_within name 0 content i is))))
+      | Some t ↦ λ e. stands_fits s (Name name ∷ []) (ap (λ o. is_some (option_and_then (λ u. at u []) o)) e)
+    ]) refl

@@ -1,9 +1,8 @@
 -- The effects of questions for counts.
 use Rattle.std.proofs.Common.{refl, ℕ, ◌≤◌, ℤ, pos, negsuc, IsTrue, List, reverse, Option, Some, None, Result, Ok, Err}
-use Rattle.ink_sound.proofs.Common.{cond_both, flags_at, counts_visits, notes_turns, is_small, MAX_COUNT, landing_by, StoryTree, at, Fault, Part, ContextFits, EffectFits, FieldsFit, Finds, Gives}
+use Rattle.ink_sound.proofs.Common.{cond_both, flags_at, counts_visits, notes_turns, is_small, MAX_COUNT, landing_by, StoryTree, at, Fault, Part, ContextFits, EffectFits, FieldsFit, Finds, Gives, place_order, row}
 use Rattle.ink_model.specs.Story.Acceptance.{leads}
 use Rattle.ink_model.specs.Variables.Counts as counts
-use Rattle.ink_model.specs.Variables.Rows.{place_order, row}
 use Rattle.ink_sound.proofs.Counts.{most_of, visits_most}
 use Rattle.ink_sound.proofs.Ints.{count_small, difference_small, less_small}
 use Rattle.ink_sound.proofs.Rows.{row_finds}
@@ -26,12 +25,9 @@ module _ (s : StoryTree) where
   counted_fits : (r : Result ℤ Fault) (f : Fields) (seen : Context) → Gives Small r → FieldsFit s f → EffectFits s (pushing_count s seen r f)
   counted_fits r f seen k h = or_fault_fits s Small r (λ z. pushing (value.Int z) f) k (λ z u. pushing_fits s (value.Int z) f u h)
 
-  count_fits : (z : ℤ) → IsCount z → Small z
-  count_fits (pos n) h = count_small n h
-  count_fits (negsuc n) h = absurd h
-
   counts_fit : (r : Result ℤ Fault) → Gives IsCount r → Gives Small r
-  counts_fit (Ok z) h = count_fits z h
+  counts_fit (Ok (pos n)) h = count_small n h
+  counts_fit (Ok (negsuc n)) h = absurd h
   counts_fit (Err f) h = tt
 
   module _ (seen : Context) (context : ContextFits s seen) where
@@ -51,12 +47,6 @@ module _ (s : StoryTree) where
     turns_fit q = cond_both (notes_turns (flags_at (at s q))) _ _ (Gives Small) (λ _. from_fit (row place_order q seen.counts.turns)
         (row_finds place_order (λ n. n ≤ MAX_COUNT) q seen.counts.turns (most_of s notes_turns 0 seen.counts.turns context.counts.turns.each))) (λ _. tt)
 
-    visits_there_fit : (q : List Part) → Gives Small (visits_there s seen q)
-    visits_there_fit q = cond_both (is_container (at s q)) _ _ (Gives Small) (λ _. counts_fit (visits_at s seen q) (visits_fit q)) (λ _. refl)
-
-    turns_there_fit : (q : List Part) → Gives Small (turns_there s seen q)
-    turns_there_fit q = cond_both (is_container (at s q)) _ _ (Gives Small) (λ _. turns_fit q) (λ _. refl)
-
   module _ (seen : Context) (context : ContextFits s seen) (f : Fields) (h : FieldsFit s f) where
     pub push_count_fits : (p : List Part) (text : List ℕ) → EffectFits s (push_count s seen p text f)
     push_count_fits p text = or_else_fits s Any NotCounted (leads s p text) _ (any_finds (leads s p text)) (λ q u. counted_fits _ f seen (counts_fit _ (visits_fit seen context q)) h)
@@ -69,10 +59,11 @@ module _ (s : StoryTree) where
     asking_fits so k = popping_fits s f _ h (λ v left p x. or_else_fits s Any BadTarget (landing_by s v) _ (any_finds (landing_by s v)) (λ to u. counted_fits (so to.place) left seen (k to.place) x))
 
     pub push_turns_fits : EffectFits s (push_turns s seen f)
-    push_turns_fits = asking_fits (turns_there s seen) (turns_there_fit seen context)
+    push_turns_fits = asking_fits (turns_there s seen) (λ q. cond_both (is_container (at s q)) _ _ (Gives Small) (λ _. turns_fit seen context q) (λ _. refl))
 
     pub push_read_count_fits : EffectFits s (push_read_count s seen f)
-    push_read_count_fits = asking_fits (visits_there s seen) (visits_there_fit seen context)
+    push_read_count_fits = asking_fits (visits_there s seen)
+        (λ q. cond_both (is_container (at s q)) _ _ (Gives Small) (λ _. counts_fit (visits_at s seen q) (visits_fit seen context q)) (λ _. refl))
 
     pub push_turn_fits : EffectFits s (push_turn s seen f)
     push_turn_fits = pushing_fits s (value.Int (pos seen.turn)) f (count_small seen.turn context.turn) h

@@ -1,9 +1,8 @@
 -- The compact text of data is read back as that data, where its integers have 64 bits and the names in each object rise.
 use Rattle.std.proofs.Common.{◌≡◌, ◌∙◌, ap, ap₂, sym, refl, arith, ℕ, suc, ◌<◌, ◌≤◌, ◌^◌, max, pos, negsuc, List, [], Bool, true, ◌&&◌, IsTrue, append-nil, Option, Some, option_map, option_and_then}
-use Rattle.std.proofs.lemmas.Cmp.{nat_list_cmp_total}
-use Rattle.std.specs.Cmp.Lexicographic.{slice_cmp}
+use Rattle.ink_sound.proofs.Common.{and_parts, nat_list_cmp_total, slice_cmp}
 use Rattle.std.specs.Ordering.{is_lt, nat_cmp, ordering_reverse}
-use Rattle.std.specs.declared.cmp.Ordering.TheVariants.{Less, Greater}
+use Rattle.std.specs.declared.cmp.Ordering.TheVariants.{Less}
 use Rattle.json.specs.Json as json
 use Rattle.json.specs.Lex.{tokens}
 use Rattle.json.specs.Print.{IsNumber}
@@ -17,7 +16,7 @@ use Rattle.serde_json.specs.Read.{max_depth, number_of, of_items, of_json, of_me
 use Rattle.serde_json.specs.Written.{compact_text, items_outline, members_outline, number_text, outline}
 use Rattle.serde_json.proofs.Numbers.{number_of-decimal, number_of-negative}
 use Rattle.serde_json.proofs.Texts.{print-outline}
-use Rattle.ink_sound.proofs.Rows.{less_of, one, two}
+use Rattle.ink_sound.proofs.Rows.{less_of}
 
 -- ---- such data
 
@@ -81,17 +80,16 @@ before_nothing no_members = refl
 before_nothing (member l e done) = ap (member l e) (before_nothing done)
 
 first_below : (l : List ℕ) (done : Members) (k : List ℕ) (d : Data) (ms : Members) → is_first l (before done (member k d ms)) ≡ true → slice_cmp nat_cmp l k ≡ Less
-first_below l no_members k d ms h = less_of (slice_cmp nat_cmp l k) (one (is_lt (slice_cmp nat_cmp l k)) (is_first l ms) h)
-first_below l (member m e done) k d ms h = first_below l done k d ms (two (is_lt (slice_cmp nat_cmp l m)) (is_first l (before done (member k d ms))) h)
+first_below l no_members k d ms h = less_of (slice_cmp nat_cmp l k) (and_parts (is_lt (slice_cmp nat_cmp l k)) (is_first l ms) h).0
+first_below l (member m e done) k d ms h = first_below l done k d ms (and_parts (is_lt (slice_cmp nat_cmp l m)) (is_first l (before done (member k d ms))) h).1
 
 -- a name above those before it goes last
 put_last : (done : Members) (k : List ℕ) (d : Data) (ms : Members) → names_rise (before done (member k d ms)) ≡ true → put k d done ≡ before done (member k d no_members)
 put_last no_members k d ms h = refl
 put_last (member l e done) k d ms h =
     let rest = before done (member k d ms) in
-    let above : slice_cmp nat_cmp k l ≡ Greater =
-    nat_list_cmp_total.antisymm k l ∙ ap ordering_reverse (first_below l done k d ms (one (is_first l rest) (names_rise rest) h)) in
-    rw above (ap (member l e) (put_last done k d ms (two (is_first l rest) (names_rise rest) h)))
+    let parts = and_parts (is_first l rest) (names_rise rest) h in
+    rw (nat_list_cmp_total.antisymm k l ∙ ap ordering_reverse (first_below l done k d ms parts.0)) (ap (member l e) (put_last done k d ms parts.1))
 
 -- ---- the data of an outline
 
@@ -115,33 +113,19 @@ mutual
 -- ---- the text of an outline
 
 mutual
-  has_numbers : (d : Data) → IsOrderly d → tree.HasNumbers (outline d)
-  has_numbers (number n) h = is_number n h
-  has_numbers (array ds) h = items_have ds h
-  has_numbers (object ms) h = members_have ms h.1
-  has_numbers d h = tt
+  outlined : (d : Data) → IsOrderly d → tree.HasNumbers (outline d) × (tree.depth (outline d) ≡ depth d)
+  outlined (number n) h = (is_number n h, refl)
+  outlined (array ds) h = let r = items_outlined ds h in (r.0, ap suc r.1)
+  outlined (object ms) h = let r = members_outlined ms h.1 in (r.0, ap suc r.1)
+  outlined d h = (tt, refl)
 
-  items_have : (ds : Items) → AreOrderly ds → tree.ItemsHaveNumbers (items_outline ds)
-  items_have no_items h = tt
-  items_have (item d ds) h = (has_numbers d h.0, items_have ds h.1)
+  items_outlined : (ds : Items) → AreOrderly ds → tree.ItemsHaveNumbers (items_outline ds) × (tree.items_depth (items_outline ds) ≡ items_depth ds)
+  items_outlined no_items h = (tt, refl)
+  items_outlined (item d ds) h = let r = items_outlined ds h.1 in (((outlined d h.0).0, r.0), ap₂ max (outlined d h.0).1 r.1)
 
-  members_have : (ms : Members) → HasOrderly ms → tree.MembersHaveNumbers (members_outline ms)
-  members_have no_members h = tt
-  members_have (member k d ms) h = (has_numbers d h.0, members_have ms h.1)
-
-mutual
-  as_deep : (d : Data) → tree.depth (outline d) ≡ depth d
-  as_deep (array ds) = ap suc (items_as_deep ds)
-  as_deep (object ms) = ap suc (members_as_deep ms)
-  as_deep d = refl
-
-  items_as_deep : (ds : Items) → tree.items_depth (items_outline ds) ≡ items_depth ds
-  items_as_deep no_items = refl
-  items_as_deep (item d ds) = ap₂ max (as_deep d) (items_as_deep ds)
-
-  members_as_deep : (ms : Members) → tree.members_depth (members_outline ms) ≡ members_depth ms
-  members_as_deep no_members = refl
-  members_as_deep (member k d ms) = ap₂ max (as_deep d) (members_as_deep ms)
+  members_outlined : (ms : Members) → HasOrderly ms → tree.MembersHaveNumbers (members_outline ms) × (tree.members_depth (members_outline ms) ≡ members_depth ms)
+  members_outlined no_members h = (tt, refl)
+  members_outlined (member k d ms) h = let r = members_outlined ms h.1 in (((outlined d h.0).0, r.0), ap₂ max (outlined d h.0).1 r.1)
 
 -- what `read` makes of what the grammar found
 abbrev whole : Option (json.Json × List Token) → Option Data
@@ -150,5 +134,6 @@ whole o = option_and_then of_json (option_and_then (λ p. json.if_last p.0 p.1) 
 pub text_back : (d : Data) → IsOrderly d → depth d ≤ max_depth → read (compact_text d) ≡ Some d
 text_back d h shallow =
     let ts = tree.json_tokens (outline d) in
-    let same : tokens (compact_text d) ≡ ts = ap tokens (sym (print-outline d)) ∙ tokens-print ts (ArePrintable-json_tokens (outline d) (has_numbers d h)) in
-    ap whole (ap (json.value max_depth) (same ∙ sym (append-nil ts)) ∙ value-json_tokens (outline d) max_depth [] (omega (arith, as_deep d))) ∙ data_back d h
+    let so = outlined d h in
+    let same : tokens (compact_text d) ≡ ts = ap tokens (sym (print-outline d)) ∙ tokens-print ts (ArePrintable-json_tokens (outline d) so.0) in
+    ap whole (ap (json.value max_depth) (same ∙ sym (append-nil ts)) ∙ value-json_tokens (outline d) max_depth [] (omega (arith, so.1))) ∙ data_back d h

@@ -1,20 +1,15 @@
 -- The spelling of a sound game is read as that one, as a command leaves it.
-use Rattle.std.proofs.Common.{◌≡◌, ◌∙◌, ap, sym, refl, inl, inr, arith, ℕ, ◌^◌, ℤ, pos, negsuc, List, [], ◌∷◌, ◌++◌, map, reverse, Bool, true, false, true≢false, cond, if◌then◌else◌, IsTrue, bytes_eq, Option, Some, None, is_none, is_some}
+use Rattle.std.proofs.Common.{slice_get, ◌≡◌, ◌∙◌, ap, sym, refl, inl, inr, arith, ℕ, ◌^◌, ℤ, pos, negsuc, List, [], ◌∷◌, ◌++◌, map, reverse, Bool, true, false, true≢false, cond, if◌then◌else◌, IsTrue, bytes_eq, Option, Some, None, is_none, is_some}
 use Rattle.std.proofs.lemmas.Bool.{cases_Bool, cond_both, false_from_ne_true, lt-ltb}
 use Rattle.std.proofs.lemmas.List.{map-append, reverse-append, reverse-reverse}
-use Rattle.std.specs.List.{AllByRecursion as Each}
-use Rattle.ink_sound.proofs.Common.{option_map, of_integer, flags_at, items_of, counts_visits, notes_turns, is_small, empty_page, StoryTree, at, value_data, FrameKind, Base, Function, Tunnel, Part, Index, Name, Value}
+use Rattle.ink_sound.proofs.Common.{fits_text, and_parts, option_map, of_integer, flags_at, items_of, counts_visits, notes_turns, is_small, empty_page, StoryTree, at, value_data, FrameKind, Base, Part, Index, Name, Value, Each, Configuration, FlowOf, settled, unnumbered_choice, unnumbered_flow, Reads, Spells, AnyPlace, AsideFits, ChoiceFits, FlowSound, FlowStands, FrameFits, FrameStands, IsFrame, NamedFits, PlaceFits, RowCounts, RowFits, Sound, ThreadFits, ThreadStands, ValueFits}
 use Rattle.serde_json.specs.Data.{Data, string}
-use Rattle.ink_model.specs.Run.Configuration.{Configuration, FlowOf, settled, unnumbered_choice, unnumbered_flow}
 use Rattle.ink_model.specs.Run.Flows.{Aside, Game, all_flows, alone, current_name, holes, is_flow_name}
 use Rattle.ink_model.specs.Flow.Frames.{FrameOf, ThreadOf, unnumbered_frame, unnumbered_thread}
-use Rattle.ink_model.specs.Variables.Named.{Rows, each, once}
-use Rattle.ink_model.specs.Variables.Named.{at as at_name}
+use Rattle.ink_model.specs.Variables.Named.{Rows, each, once, at as at_name}
 use Rattle.ink_model.specs.Story.Path.{path_text}
 use Rattle.ink_model.specs.declared.value.Value.TheVariants as value
 use Rattle.ink_sound.specs.Kept.{AsideSound, PartsFit, StoryFits}
-use Rattle.ink_model.specs.Save.Reads.{Reads, Spells}
-use Rattle.ink_model.specs.Save.Sound.{AnyPlace, AsideFits, ChoiceFits, FlowSound, FlowStands, FrameFits, FrameStands, IsFrame, NamedFits, PlaceFits, RowCounts, RowFits, Sound, ThreadFits, ThreadStands, ValueFits}
 use Rattle.ink_model.specs.Save.Spelling.{choice_data, frame_data, global_data, kind_data, named_flow_data, old_spelling, part_data, place_or_null, row_data, spelling, temps_members, thread_data}
 use Rattle.ink_model.specs.Save.Unspelled.{all_of, any_place_of, aside_but, choice_of, count_of, frame_of, game_spelled, game_with, kind_of, named_flow_of, number_integer, pair_of, part_of, place_of, rows_of, text_of, thread_in, unspelled, value_of}
 use Rattle.ink_sound.proofs.Flows.{any_of}
@@ -22,7 +17,6 @@ use Rattle.ink_sound.proofs.Named.{its_name, same_name}
 use Rattle.ink_sound.proofs.Narrow.{PartNarrow, place_narrow}
 use Rattle.ink_sound.proofs.Offers.{each_reverse}
 use Rattle.ink_sound.proofs.Places.{stands_fits}
-use Rattle.ink_sound.proofs.Rows.{one, two}
 use Rattle.ink_sound.proofs.Unspelling.{unspelled_reads}
 use Rattle.ink_sound.proofs.Values.{each_of}
 
@@ -55,14 +49,9 @@ small_back : (z : ℤ) → is_small z ≡ true → number_integer (of_integer z)
 small_back (pos n) h = rw h refl
 small_back (negsuc n) h = rw h refl
 
-text_back : (ts : List (List ℕ)) → all_of text_of (items_of (map string ts)) ≡ Some ts
-text_back [] = refl
-text_back (t ∷ ts) = ap (option_map (λ us. t ∷ us)) (text_back ts)
-
 kind_back : (k : FrameKind) → kind_of (kind_data k) ≡ Some k
 kind_back Base = refl
-kind_back Function = refl
-kind_back Tunnel = refl
+kind_back k = refl
 
 part_back : Back part_of part_data same PartNarrow
 part_back (Index i) h = rw (lt-ltb i (2 ^ 32) h) refl
@@ -75,15 +64,9 @@ module _ (s : StoryTree) where
 
   value_back : Back value_of value_data same (ValueFits s)
   value_back (value.Int z) h = ap (option_map (λ y. value.Int y)) (small_back z h)
-  value_back (value.Bool b) h = refl
-  value_back (value.Text t) h = refl
   value_back (value.Target p) h = rw (h.spelled, its_name (path_text p)) refl
   value_back (value.Pointer i n) h = rw (small_back i (frame_small i h)) refl
-  value_back value.Void h = refl
-  value_back (value.Tag t) h = refl
-
-  global_back : Back (pair_of text_of value_of) global_data same (RowFits s)
-  global_back e h = rw (value_back e.1 h) refl
+  value_back v h = refl
 
   temps_back : (rs : List (List ℕ × Value)) → Each (RowFits s) rs → rows_of (temps_members rs) ≡ Some rs
   temps_back [] h = refl
@@ -98,9 +81,6 @@ module _ (s : StoryTree) where
     any_place_back : (p : Option (List Part)) → AnyPlace s p → any_place_of (place_or_null p) ≡ Some p
     any_place_back None h = refl
     any_place_back (Some p) h = ap (option_map (λ q. Some q)) (place_back p h)
-
-    row_back : Back (pair_of place_of count_of) row_data same (λ r. PlaceFits s r.0)
-    row_back r h = rw (place_back r.0 h) refl
 
     -- ---- frames and threads
 
@@ -138,7 +118,9 @@ module _ (s : StoryTree) where
     -- ---- configurations
 
     choice_back : Back choice_of choice_data unnumbered_choice (ChoiceFits s)
-    choice_back c h = rw (text_back c.tags, place_back c.target h.target, thread_back c.thread (thread_stands c.thread h.thread)) refl
+    choice_back c h =
+        let tags = list_back text_of string (λ t. IsTrue (fits_text t)) (λ t k. refl) c.tags h.tags in
+        rw (tags, place_back c.target h.target, thread_back c.thread (thread_stands c.thread h.thread)) refl
 
     pub counted_stands : (flag : ℕ → Bool) (least : ℕ) (r : List Part × ℕ) → flag 0 ≡ false → RowCounts s flag least r → PlaceFits s r.0
     counted_stands flag least r none h = stands_fits s r.0 ((elim (at s r.0) as (λ o. flag (flags_at o) ≡ true → is_some o ≡ true) [ None ↦ λ e. absurd (true≢false (sym e ∙ none)) | Some t ↦ λ e. refl ]) h.flagged)
@@ -162,15 +144,11 @@ module _ (s : StoryTree) where
         (each_reverse ThreadSpells (f.threads.thread ∷ f.threads.below) (threads_spell f h))
 
     globals_back : (c : Configuration) → Sound s c → all_of (pair_of text_of value_of) (items_of (map global_data c.shared.globals)) ≡ Some c.shared.globals
-    globals_back c h = list_back (pair_of text_of value_of) global_data (RowFits s) global_back c.shared.globals h.shared.globals.each
+    globals_back c h = list_back (pair_of text_of value_of) global_data (RowFits s) (λ e k. rw (value_back e.1 k) refl) c.shared.globals h.shared.globals.each
 
-    turns_back : (c : Configuration) → Sound s c → all_of (pair_of place_of count_of) (items_of (map row_data c.shared.counts.turns)) ≡ Some c.shared.counts.turns
-    turns_back c h = list_back (pair_of place_of count_of) row_data (λ r. PlaceFits s r.0) row_back c.shared.counts.turns
-        (each_of (RowCounts s notes_turns 0) (λ r. PlaceFits s r.0) (λ r k. counted_stands notes_turns 0 r refl k) c.shared.counts.turns h.shared.counts.turns.each)
-
-    visits_back : (c : Configuration) → Sound s c → all_of (pair_of place_of count_of) (items_of (map row_data c.shared.counts.visits)) ≡ Some c.shared.counts.visits
-    visits_back c h = list_back (pair_of place_of count_of) row_data (λ r. PlaceFits s r.0) row_back c.shared.counts.visits
-        (each_of (RowCounts s counts_visits 1) (λ r. PlaceFits s r.0) (λ r k. counted_stands counts_visits 1 r refl k) c.shared.counts.visits h.shared.counts.visits.each)
+    counts_back : (flag : ℕ → Bool) (least : ℕ) (rows : List (List Part × ℕ)) → flag 0 ≡ false → Each (RowCounts s flag least) rows → all_of (pair_of place_of count_of) (items_of (map row_data rows)) ≡ Some rows
+    counts_back flag least rows none h = list_back (pair_of place_of count_of) row_data (λ r. PlaceFits s r.0) (λ r k. rw (place_back r.0 k) refl) rows
+        (each_of (RowCounts s flag least) (λ r. PlaceFits s r.0) (λ r k. counted_stands flag least r none k) rows h)
 
     -- layout 1
     old_back : (x : Configuration) → Sound s x → unspelled (old_spelling x) ≡ Some (alone (settled x))
@@ -181,8 +159,8 @@ module _ (s : StoryTree) where
           globals_back x h,
           stack_back x.flow h.flow,
           threads_back x.flow h.flow,
-          turns_back x h,
-          visits_back x h,
+          counts_back notes_turns 0 x.shared.counts.turns refl h.shared.counts.turns.each,
+          counts_back counts_visits 1 x.shared.counts.visits refl h.shared.counts.visits.each,
           map_turned unnumbered_thread (x.flow.threads.thread ∷ x.flow.threads.below),
         ) refl
 
@@ -245,11 +223,12 @@ module _ (s : StoryTree) where
         current = ap (λ b. cond b (Some (unnumbered_flow f)) (at_name n (read_flows rows))) (its_name n);
         others =
             ap (λ b. (n, if b then None else Some (unnumbered_flow f)) ∷ aside_but n (read_flows rows)) (its_name n)
-            ∙ ap (λ l. (n, None) ∷ l) (others_back n rows (omega arith) (one (is_none (at_name n rows)) (once rows) names));
+            ∙ ap (λ l. (n, None) ∷ l) (others_back n rows (omega arith) (and_parts (is_none (at_name n rows)) (once rows) names).0);
       }
       flows_back ((n, Some x) ∷ rows) names h =
-          let rest = flows_back rows (two (is_none (at_name n rows)) (once rows) names) h in
-          let other = current_other n rows (one (is_none (at_name n rows)) (once rows) names) h in
+          let parts = and_parts (is_none (at_name n rows)) (once rows) names in
+          let rest = flows_back rows parts.1 h in
+          let other = current_other n rows parts.0 h in
           record {
             current = ap (λ b. cond b (Some (unnumbered_flow x)) (at_name (current_name rows) (read_flows rows))) other ∙ rest.current;
             others =
@@ -264,8 +243,8 @@ module _ (s : StoryTree) where
         rw (
           all_back named_flow_of named_flow_data settled_row (λ r. FlowSound s r.1) named_flow_back (all_flows g.now.flow g.aside) (flows_sound g.now.flow g.aside h.flow k),
           globals_back g.now h,
-          turns_back g.now h,
-          visits_back g.now h,
+          counts_back notes_turns 0 g.now.shared.counts.turns refl h.shared.counts.turns.each,
+          counts_back counts_visits 1 g.now.shared.counts.visits refl h.shared.counts.visits.each,
         ) refl
 
     pub spelling_back : (g : Game) → Sound s g.now → AsideSound s g.aside → unspelled (spelling g) ≡ Some (settled_game g)
@@ -291,17 +270,13 @@ module _ (s : StoryTree) where
     rows_rest ((n, None) ∷ rows) h = ap (λ l. (n, None) ∷ l) (rows_rest rows h.1)
     rows_rest ((n, Some f) ∷ rows) h = (λ i. (n, Some (h.0.1.1 i)) ∷ rows_rest rows h.1 i)
 
-    abbrev first_row : Aside → Option (FlowOf (List Part))
-    first_row [] = None
-    first_row (r ∷ rows) = r.1
-
     rows_fit : (rows : Aside) → Each RowSound rows → settled_aside rows ≡ rows → Each (NamedFits s) rows
     rows_fit [] h e = tt
     rows_fit ((n, None) ∷ rows) h e =
         let rest : settled_aside rows ≡ rows = cc in
         (h.0, rows_fit rows h.1 rest)
     rows_fit ((n, Some f) ∷ rows) h e =
-        let here : Some (unnumbered_flow f) ≡ Some f = ap first_row e in
+        let here : Some (Some (unnumbered_flow f)) ≡ Some (Some f) = ap (λ (l : Aside). option_map (λ r. r.1) (slice_get l 0)) e in
         let first : unnumbered_flow f ≡ f = cc in
         let rest : settled_aside rows ≡ rows = cc in
         ((h.0.0, (h.0.1, first)), rows_fit rows h.1 rest)

@@ -1,32 +1,17 @@
 -- Rows that rise, names that stand once, and facts of each row, when a value is put.
-use Rattle.std.proofs.Common.{◌≡◌, ◌∙◌, ap, sym, refl, rules, ℕ, List, [], ◌∷◌, Bool, true, false, true≢false, not, ◌&&◌, bytes_eq, cond, Option, Some, is_some}
-use Rattle.ink_sound.proofs.Common.{cond_both, bytes_eq-Decides, Values, store, stored, Value, Finds}
+use Rattle.std.proofs.Common.{◌≡◌, ◌∙◌, ap, refl, rules, ℕ, List, [], ◌∷◌, Bool, true, false, not, bytes_eq, cond, Option, Some, is_some}
+use Rattle.ink_sound.proofs.Common.{and_from, and_parts, cond_both, bytes_eq-Decides, Values, store, stored, Value, Finds, Each, is_before, row, rows_rise, with_row}
 use Rattle.std.specs.Cmp.{IsTotalOrder}
-use Rattle.std.specs.List.{AllByRecursion as Each}
 use Rattle.std.specs.Ordering.{is_lt, match_ordering, ordering_reverse}
 use Rattle.std.specs.declared.cmp.Ordering.{Ordering}
 use Rattle.std.specs.declared.cmp.Ordering.TheVariants.{Less, Equal, Greater}
-use Rattle.ink_model.specs.Variables.Rows.{is_before, row, rows_rise, with_row}
 use Rattle.ink_model.specs.Save.Sound.{names_once}
 
--- ---- tests
-
-pub both : (a b : Bool) → a ≡ true → b ≡ true → (a && b) ≡ true
-both true b h k = k
-both false b h k = h
-
-pub one : (a b : Bool) → (a && b) ≡ true → a ≡ true
-one true b h = refl
-one false b h = h
-
-pub two : (a b : Bool) → (a && b) ≡ true → b ≡ true
-two true b h = h
-two false b h = absurd (true≢false (sym h))
+-- ---- tests and orders
 
 pub less_of : (o : Ordering) → is_lt o ≡ true → o ≡ Less
 less_of Less h = refl
-less_of Equal h = absurd (true≢false (sym h))
-less_of Greater h = absurd (true≢false (sym h))
+less_of o h = absurd cc
 
 -- by how two are ordered
 pub in_order : {A : Type 0} (P : A → Type 0) (o : Ordering) (x y z : A) → (o ≡ Less → P x) → (o ≡ Equal → P y) → (o ≡ Greater → P z) → P (match_ordering o x y z)
@@ -37,35 +22,29 @@ in_order P Greater x y z f g h = h refl
 -- ---- rows that rise by their key
 
 module _ {K V : Type 0} (compare : K → K → Ordering) (total : IsTotalOrder compare) where
-  earlier : (k q : K) (rs : List (K × V)) → compare k q ≡ Less → is_before compare q rs ≡ true → is_before compare k rs ≡ true
-  earlier k q [] e h = refl
-  earlier k q (r ∷ rs) e h =
-      both (is_lt (compare k r.0)) (is_before compare k rs) (ap is_lt (total.trans k q r.0 e (less_of (compare q r.0) (one (is_lt (compare q r.0)) (is_before compare q rs) h))))
-      (earlier k q rs e (two (is_lt (compare q r.0)) (is_before compare q rs) h))
-
-  alike : (k q : K) (rs : List (K × V)) → compare k q ≡ Equal → is_before compare q rs ≡ true → is_before compare k rs ≡ true
-  alike k q [] e h = refl
-  alike k q (r ∷ rs) e h =
-      both (is_lt (compare k r.0)) (is_before compare k rs) (ap is_lt (total.congr k q r.0 e) ∙ one (is_lt (compare q r.0)) (is_before compare q rs) h)
-      (alike k q rs e (two (is_lt (compare q r.0)) (is_before compare q rs) h))
+  -- k is before all that j is before
+  before_too : (j k : K) (rs : List (K × V)) → ((q : K) → is_lt (compare j q) ≡ true → is_lt (compare k q) ≡ true) → is_before compare j rs ≡ true → is_before compare k rs ≡ true
+  before_too j k [] on h = refl
+  before_too j k (r ∷ rs) on h =
+      let parts = and_parts (is_lt (compare j r.0)) (is_before compare j rs) h in
+      and_from (is_lt (compare k r.0)) (is_before compare k rs) (on r.0 parts.0) (before_too j k rs on parts.1)
 
   before_put : (j k : K) (v : V) (rs : List (K × V)) → compare j k ≡ Less → is_before compare j rs ≡ true → is_before compare j (with_row compare k v rs) ≡ true
-  before_put j k v [] e h = both (is_lt (compare j k)) true (ap is_lt e) refl
-  before_put j k v (r ∷ rs) e h = in_order (λ l. is_before compare j l ≡ true) (compare k r.0) _ _ _
-      (λ _. both (is_lt (compare j k)) (is_before compare j (r ∷ rs)) (ap is_lt e) h)
-      (λ _. both (is_lt (compare j k)) (is_before compare j rs) (ap is_lt e) (two (is_lt (compare j r.0)) (is_before compare j rs) h))
-      (λ _. both (is_lt (compare j r.0)) (is_before compare j (with_row compare k v rs)) (one (is_lt (compare j r.0)) (is_before compare j rs) h) (before_put j k v rs e (two (is_lt (compare j r.0)) (is_before compare j rs) h)))
+  before_put j k v [] e h = rw e refl
+  before_put j k v (r ∷ rs) e h =
+      let parts = and_parts (is_lt (compare j r.0)) (is_before compare j rs) h in
+      in_order (λ l. is_before compare j l ≡ true) (compare k r.0) _ _ _ (λ _. rw e h) (λ _. rw e parts.1)
+      (λ _. and_from (is_lt (compare j r.0)) (is_before compare j (with_row compare k v rs)) parts.0 (before_put j k v rs e parts.1))
 
   pub rise_put : (k : K) (v : V) (rs : List (K × V)) → rows_rise compare rs ≡ true → rows_rise compare (with_row compare k v rs) ≡ true
   rise_put k v [] h = refl
   rise_put k v (r ∷ rs) h =
-      let first = one (is_before compare r.0 rs) (rows_rise compare rs) h in
-      let after = two (is_before compare r.0 rs) (rows_rise compare rs) h in
+      let parts = and_parts (is_before compare r.0 rs) (rows_rise compare rs) h in
       in_order (λ l. rows_rise compare l ≡ true) (compare k r.0) _ _ _
-      (λ e. both (is_before compare k (r ∷ rs)) (rows_rise compare (r ∷ rs)) (both (is_lt (compare k r.0)) (is_before compare k rs) (ap is_lt e) (earlier k r.0 rs e first)) h)
-      (λ e. both (is_before compare k rs) (rows_rise compare rs) (alike k r.0 rs e first) after)
-      (λ e. both (is_before compare r.0 (with_row compare k v rs)) (rows_rise compare (with_row compare k v rs))
-      (before_put r.0 k v rs (total.antisymm r.0 k ∙ ap ordering_reverse e) first) (rise_put k v rs after))
+      (λ e. rw e (and_from (is_before compare k rs) (rows_rise compare (r ∷ rs)) (before_too r.0 k rs (λ q f. ap is_lt (total.trans k r.0 q e (less_of (compare r.0 q) f))) parts.0) h))
+      (λ e. and_from (is_before compare k rs) (rows_rise compare rs) (before_too r.0 k rs (λ q f. ap is_lt (total.congr k r.0 q e) ∙ f) parts.0) parts.1)
+      (λ e. and_from (is_before compare r.0 (with_row compare k v rs)) (rows_rise compare (with_row compare k v rs))
+      (before_put r.0 k v rs (total.antisymm r.0 k ∙ ap ordering_reverse e) parts.0) (rise_put k v rs parts.1))
 
 module _ {K V : Type 0} (compare : K → K → Ordering) (P : K × V → Type 0) where
   pub each_put : (k : K) (v : V) (rs : List (K × V)) → P (k, v) → Each P rs → Each P (with_row compare k v rs)
@@ -94,9 +73,10 @@ stored_other k name v (w ∷ vs) e = cond_both (bytes_eq name w.0) _ _ (λ ws. i
 
 pub once_put : (name : List ℕ) (v : Value) (vs : Values) → names_once vs ≡ true → names_once (store name v vs) ≡ true
 once_put name v [] h = refl
-once_put name v (w ∷ vs) h = cond_both (bytes_eq name w.0) _ _ (λ ws. names_once ws ≡ true) (λ _. h)
-    (λ e. both (not (is_some (stored w.0 (store name v vs)))) (names_once (store name v vs))
-    (ap not (stored_other w.0 name v vs (turned name w.0 e)) ∙ one (not (is_some (stored w.0 vs))) (names_once vs) h) (once_put name v vs (two (not (is_some (stored w.0 vs))) (names_once vs) h)))
+once_put name v (w ∷ vs) h =
+    let parts = and_parts (not (is_some (stored w.0 vs))) (names_once vs) h in
+    cond_both (bytes_eq name w.0) _ _ (λ ws. names_once ws ≡ true) (λ _. h) (λ e. and_from (not (is_some (stored w.0 (store name v vs)))) (names_once (store name v vs))
+    (ap not (stored_other w.0 name v vs (turned name w.0 e)) ∙ parts.0) (once_put name v vs parts.1))
 
 module _ (P : Value → Type 0) where
   pub each_stored : (name : List ℕ) (v : Value) (vs : Values) → P v → Each (λ r. P r.1) vs → Each (λ r. P r.1) (store name v vs)

@@ -1,37 +1,30 @@
 -- Every state of a session is sound and at rest.
 use Rattle.std.proofs.Common.{◌≡◌, ap, sym, refl, subst, ℕ, List, [], ◌∷◌, inl, inr, Bool, true, false, bytes_eq, Option, Some, None, is_some, option_map, Result, Ok, Err, MatchBool}
-use Rattle.ink_model.specs.Protocol.Answer.{Reply, Acts, Refuses}
-use Rattle.ink_model.specs.Host.Told.{told}
-use Rattle.ink_sound.proofs.Common.{Fault, chosen, jump_place, jumped, open_choice, Values, store, stored, StoryTree, Given, Part, Data, Rests, Stands}
-use Rattle.ink_model.specs.declared.fault.Fault.TheVariants.{OutOfMemory}
-use Rattle.ink_model.specs.declared.fault.Refusal.TheVariants as refusal
-use Rattle.ink_model.specs.Protocol.Changed.{OnlyRefuses}
+use Rattle.ink_sound.proofs.Common.{Fault, chosen, jump_place, jumped, open_choice, Values, store, stored, StoryTree, Given, Data, Rests, Stands, OutOfMemory, OnlyRefuses, Configuration, can_go_on, settled, unnumbered_choice, Bindings, value_given, FallsShort, LineFallsShort, ChoosesBy, ChoosesFrom, JumpsBy, JumpsFrom, LandsFor, entering_around, visits_by, Change, Event, AsideFits, ChoiceFits, PlaceFits, Sound, ValueFits, Reply}
 use Rattle.ink_model.specs.Protocol.Command as command
 use Rattle.ink_model.specs.Protocol.Command.{Command, command_of}
-use Rattle.ink_model.specs.Run.Configuration.{Configuration, FlowOf, can_go_on, settled, unnumbered_choice, with_globals}
-use Rattle.ink_model.specs.Protocol.FlowCommands.{DropsBy, DropsFrom, Goes, GoesFrom}
+use Rattle.ink_model.specs.Protocol.FlowCommands.{DropsBy, DropsFrom, GoesFrom}
 use Rattle.ink_model.specs.Run.Flows.{Game, alone, default_flow, dropped, first_flow, flows_in, goes_to, has_room, in_flow, is_flow_name, one_flow, without_flow}
-use Rattle.ink_model.specs.Host.Bindings.{Bindings, value_given}
 use Rattle.ink_model.specs.Run.Line.{EndsLine, line_end}
 use Rattle.ink_model.specs.Variables.Named.{at}
 use Rattle.ink_model.specs.Run.Opening.{Unopened, opened, opening}
 use Rattle.ink_model.specs.Run.Moments.{Made, Moment, At, Stopped, Faulted, RunEnd, Kept, Broke, EndsThrough, answers_of, end_of, through}
-use Rattle.ink_model.specs.Memory.Refusals.{FallsShort, LineFallsShort}
-use Rattle.ink_model.specs.Protocol.Session.{BeginsAnew, BreaksBy, Continue, Does, EndsAs, FailsToRestart, GetsFrom, Load, LoadsBy, RestartsAs, RunsFrom, RunsLine, RunsThrough, RunsTo, SavesFrom, Serves, Session, SetsFrom, SetsIn, TellsDone, TellsOrKeeps, Through, VisitsBy, VisitsFrom, condition_told, settable}
+use Rattle.ink_model.specs.Protocol.Session.{BeginsAnew, BreaksBy, Does, EndsAs, FailsToRestart, GetsFrom, Load, RestartsAs, RunsFrom, RunsLine, RunsThrough, RunsTo, Serves, Session, SetsFrom, SetsIn, TellsDone, TellsOrKeeps, VisitsBy, VisitsFrom, condition_told, settable}
 use Rattle.ink_model.specs.Protocol.State.{State, Condition, Ready, Broken, in_game}
 use Rattle.ink_model.specs.Protocol.Unread.{LineFails, TextFails}
-use Rattle.ink_model.specs.Protocol.Turns.{ChoosesBy, ChoosesFrom, JumpsBy, JumpsFrom, LandsFor}
-use Rattle.ink_model.specs.Run.Visits.{entering_around, visits_by}
-use Rattle.ink_model.specs.declared.host.Change.{Change}
-use Rattle.ink_model.specs.declared.host.Event.{Event}
 use Rattle.ink_model.specs.declared.host.Given.TheVariants as given
 use Rattle.ink_sound.specs.Kept.{ConditionFits, Finds, MomentFits, StateFits, StoryFits}
-use Rattle.ink_model.specs.Save.Sound.{AsideFits, ChoiceFits, PlaceFits, Sound, ValueFits}
+use Rattle.ink_sound.proofs.Beside.{saves_same}
 use Rattle.ink_sound.proofs.Between.{Opens, choices_rest, chosen_rests, globals_rest, globals_sound, jumped_rests, opening_fits, settled_rests, settled_sound}
 use Rattle.ink_sound.proofs.Going.{dropping_fits, first_fits, flows_fit, game_fits, going_fits, one_fits}
 use Rattle.ink_sound.proofs.Places.{jump_fits}
 use Rattle.ink_sound.proofs.Steps.{chosen_sound, jumped_sound, line_fits, open_finds, through_fits}
 use Rattle.ink_sound.proofs.Variables.{stored_fits}
+
+-- by a test
+on_match : {P Q R : Type 0} (b : Bool) → MatchBool b P Q → (b ≡ true → P → R) → (b ≡ false → Q → R) → R
+on_match true x f g = f refl x
+on_match false x f g = g refl x
 
 module _ (s : StoryTree) where
   -- ---- what is left
@@ -92,18 +85,11 @@ module _ (s : StoryTree) where
 
   sets_fits : (h : Bindings) (name : List ℕ) (g : Given) (c : Configuration) (es : List Event) (old : State) (reply : Reply) (new : State)
       → SetsIn h name g c es old reply new → Sound s c → Rests c → StateFits s old → StateFits s new
-  sets_fits h name g c es old reply new does sound rests o = by (settable g) refl (is_some (stored name c.shared.globals)) does
-    where
-      by : (b : Bool) → settable g ≡ b → (d : Bool)
-          → MatchBool b (MatchBool d (TellsOrKeeps (told h.watches c.shared.globals ((name, value_given g) ∷ [])) (Ready (with_globals (store name (value_given g) c.shared.globals) c)) es old reply new)
-          ((es ≡ []) × OnlyRefuses (Refuses refusal.NoSuchVariable) old reply new)) ((es ≡ []) × OnlyRefuses (Refuses refusal.BadValue) old reply new)
-          → StateFits s new
-      by true e true x = tells_fits _ _ es old reply new x (
+  sets_fits h name g c es old reply new does sound rests o = on_match (settable g) does
+      (λ e x. on_match (is_some (stored name c.shared.globals)) x (λ _ y. tells_fits _ _ es old reply new y (
         globals_sound s (store name (value_given g) c.shared.globals) c (stored_fits s name (value_given g) c.shared.globals (settable_fits g e) sound.shared.globals) sound,
         globals_rest (store name (value_given g) c.shared.globals) c rests,
-      ) o
-      by true e false x = kept _ old new reply x.1 o
-      by false e d x = kept _ old new reply x.1 o
+      ) o) (λ _ y. kept _ old new reply y.1 o)) (λ _ x. kept _ old new reply x.1 o)
 
   set_fits : (h : Bindings) (name : List ℕ) (value : Option Given) (k : Condition) (es : List Event) (old : State) (reply : Reply) (new : State)
       → SetsFrom h name value k es old reply new → ConditionFits s k → StateFits s old → StateFits s new
@@ -123,64 +109,41 @@ module _ (s : StoryTree) where
   visits_fit path (Ready c) old reply new h o =
       (elim (visits_by s path c) as (λ z. VisitsBy z old reply new → StateFits s new) [ None ↦ λ x. kept _ old new reply x o | Some z ↦ λ x. kept _ old new reply x o ]) h
 
-  -- ---- saving and loading
-
-  saves_fit : (k : Condition) (old : State) (reply : Reply) (new : State) → SavesFrom k old reply new → StateFits s old → StateFits s new
-  saves_fit (Broken f globals) old reply new h o = kept _ old new reply h o
-  saves_fit (Ready c) old reply new (inl h) o = kept _ old new reply h o
-  saves_fit (Ready c) old reply new (inr h) o = kept _ old new reply h o
-
-  loads_fit : (h : Bindings) (j : Data) (es : List Event) (old : State) (reply : Reply) (new : State) → LoadsBy s h j es old reply new → StateFits s old → StateFits s new
-  loads_fit h j es old reply new (inl x) o = begins_fits _ x.loaded es old reply new x.tells x.reads.stands o
-  loads_fit h j es old reply new (inr (inl x)) o = kept _ old new reply x.2 o
-  loads_fit h j es old reply new (inr (inr x)) o = kept _ old new reply x.2 o
+  -- ---- loading
 
   load_fits : (h : Bindings) (es : List Event) (saved : Option Data) (old : State) (reply : Reply) (new : State) → Load s h es saved old reply new → StateFits s old → StateFits s new
   load_fits h es None old reply new x o = kept _ old new reply x.1 o
-  load_fits h es (Some j) old reply new x o = loads_fit h j es old reply new x o
+  load_fits h es (Some j) old reply new (inl x) o = begins_fits _ x.loaded es old reply new x.tells x.reads.stands o
+  load_fits h es (Some j) old reply new (inr (inl x)) o = kept _ old new reply x.2 o
+  load_fits h es (Some j) old reply new (inr (inr x)) o = kept _ old new reply x.2 o
 
   -- ---- flows
 
   abbrev here : Configuration → State → Game
   here c old = record { now = c; aside = old.aside }
 
-  here_stands : (c : Configuration) (old : State) → Sound s c → Rests c → StateFits s old → Stands s (here c old)
-  here_stands c old sound rests o = record { sound = sound; rests = rests; aside = o.aside }
-
   in_game_fits : (g : Game) (old new : State) → new ≡ in_game g old → Stands s g → StateFits s new
   in_game_fits g old new e k = subst (StateFits s) (sym e) (record { condition = (k.sound, k.rests); aside = k.aside })
 
   goes_fit : (name : List ℕ) (k : Condition) (old : State) (reply : Reply) (new : State) → GoesFrom s name k old reply new → ConditionFits s k → StateFits s old → StateFits s new
   goes_fit name (Broken f globals) old reply new h k o = kept _ old new reply h o
-  goes_fit name (Ready c) old reply new h k o = by (is_flow_name name) refl (has_room name old.aside) refl h
-    where
-      by : (b : Bool) → is_flow_name name ≡ b → (d : Bool) → has_room name old.aside ≡ d
-          → MatchBool b (MatchBool d (Goes s name (here c old) old reply new) (OnlyRefuses (Refuses refusal.TooManyFlows) old reply new)) (OnlyRefuses (Refuses refusal.BadValue) old reply new)
-          → StateFits s new
-      by true named true room (inl x) =
-          let stands = here_stands c old k.0 k.1 o in
-          in_game_fits (in_flow s name (here c old)) old new x.1 (game_fits s (here c old) (goes_to (first_flow s) name (flows_in (here c old)))
-          (going_fits s (first_flow s) name (flows_in (here c old)) (first_fits s) named room (flows_fit s (here c old) stands)) stands)
-      by true named true room (inr x) = kept _ old new reply x.1 o
-      by true named false room x = kept _ old new reply x o
-      by false named d room x = kept _ old new reply x o
-
-  -- by whether it is the first
-  abbrev Drops : List ℕ → Configuration → State → Reply → State → Bool → Type 0
-  Drops name c old reply new first = MatchBool first (OnlyRefuses (Refuses refusal.DefaultFlow) old reply new) ((reply ≡ Acts []) × (new ≡ in_game (without_flow s name (here c old)) old))
+  goes_fit name (Ready c) old reply new h k o =
+      let stands : Stands s (here c old) = record { sound = k.0; rests = k.1; aside = o.aside } in
+      on_match (is_flow_name name) h (λ named x. on_match (has_room name old.aside) x (λ room y. elim y [
+        | inl z ↦ in_game_fits (in_flow s name (here c old)) old new z.1 (game_fits s (here c old) (goes_to (first_flow s) name (flows_in (here c old)))
+            (going_fits s (first_flow s) name (flows_in (here c old)) (first_fits s) named room (flows_fit s (here c old) stands)) stands)
+        | inr z ↦ kept _ old new reply z.1 o
+      ]) (λ _ y. kept _ old new reply y o)) (λ _ x. kept _ old new reply x o)
 
   drops_fit : (name : List ℕ) (k : Condition) (old : State) (reply : Reply) (new : State) → DropsFrom s name k old reply new → ConditionFits s k → StateFits s old → StateFits s new
   drops_fit name (Broken f globals) old reply new h k o = kept _ old new reply h o
-  drops_fit name (Ready c) old reply new h k o = by (at name old.aside) (bytes_eq name default_flow) refl h
-    where
-      by : (there : Option (Option (FlowOf (List Part)))) (b : Bool) → bytes_eq name default_flow ≡ b → DropsBy s name there (here c old) old reply new → StateFits s new
-      by None b e x = kept _ old new reply x o
-      by (Some f) true e x = kept _ old new reply (subst (Drops name c old reply new) e x) o
-      by (Some f) false e x =
-          let stands = here_stands c old k.0 k.1 o in
-          let y = subst (Drops name c old reply new) e x in
-          in_game_fits (without_flow s name (here c old)) old new y.1 (game_fits s (here c old) (dropped (first_flow s) name (flows_in (here c old)))
-          (dropping_fits s (first_flow s) name (flows_in (here c old)) (first_fits s) e (flows_fit s (here c old) stands)) stands)
+  drops_fit name (Ready c) old reply new h k o = (elim (at name old.aside) as (λ there. DropsBy s name there (here c old) old reply new → StateFits s new) [
+    | None ↦ λ x. kept _ old new reply x o
+    | Some f ↦ λ x. on_match (bytes_eq name default_flow) x (λ _ y. kept _ old new reply y o) (λ e y.
+        let stands : Stands s (here c old) = record { sound = k.0; rests = k.1; aside = o.aside } in
+        in_game_fits (without_flow s name (here c old)) old new y.1 (game_fits s (here c old) (dropped (first_flow s) name (flows_in (here c old)))
+        (dropping_fits s (first_flow s) name (flows_in (here c old)) (first_fits s) e (flows_fit s (here c old) stands)) stands))
+  ]) h
 
   module _ (story : StoryFits s) (h : Bindings) where
     -- ---- running
@@ -209,7 +172,6 @@ module _ (s : StoryTree) where
 
     line_end_fits : (m : Moment) (end : RunEnd) (made : List Made) → line_end m ≡ Some (end, made) → MomentFits s m → EndFits end
     line_end_fits (At c [] calls) end made e h = subst EndFits (same_end (Kept c) end calls made e) h
-    line_end_fits (At c (a ∷ left) calls) end made e h = absurd cc
     line_end_fits m end made e h = end_fits m end made e h
 
     through_end : (c : Configuration) (made : List Made) (end : RunEnd) → EndsThrough s h.functions c made end → Sound s c → EndFits end
@@ -227,19 +189,7 @@ module _ (s : StoryTree) where
         → RunsFrom Runs es k old reply new → ((c : Configuration) (made : List Made) → Sound s c → Runs c made es old reply new → StateFits s new)
         → ConditionFits s k → StateFits s old → StateFits s new
     runs_from_fit Runs es (Broken f globals) old reply new does fits k o = kept _ old new reply does.1 o
-    runs_from_fit Runs es (Ready c) old reply new does fits k o = by (can_go_on c) does
-      where
-        by : (b : Bool) → MatchBool b ((made : List Made) × Runs c made es old reply new) ((es ≡ []) × OnlyRefuses (Refuses refusal.CannotContinue) old reply new) → StateFits s new
-        by true x = fits c x.0 k.0 x.1
-        by false x = kept _ old new reply x.1 o
-
-    through_fits_from : (es : List Event) (old : State) (reply : Reply) (new : State) → Through s h es old reply new → StateFits s old → StateFits s new
-    through_fits_from es old reply new does o = runs_from_fit (RunsThrough s h) es old.condition old reply new does
-        (λ c made k x. runs_to_fit (EndsThrough s h.functions c made) (FallsShort s h.functions c made) c made es old reply new x (λ end y. through_end c made end y k) o.aside) o.condition o
-
-    continue_fits_from : (es : List Event) (old : State) (reply : Reply) (new : State) → Continue s h es old reply new → StateFits s old → StateFits s new
-    continue_fits_from es old reply new does o = runs_from_fit (RunsLine s h) es old.condition old reply new does
-        (λ c made k x. runs_to_fit (EndsLine s h.functions c made) (LineFallsShort s h.functions c made) c made es old reply new x (λ end y. line_fits_end c made end y k) o.aside) o.condition o
+    runs_from_fit Runs es (Ready c) old reply new does fits k o = on_match (can_go_on c) does (λ _ x. fits c x.0 k.0 x.1) (λ _ x. kept _ old new reply x.1 o)
 
     fails_fit : (f : Fault) (globals : Values) (es : List Event) (old : State) (reply : Reply) (new : State) → FailsToRestart f globals es old reply new → StateFits s old → StateFits s new
     fails_fit OutOfMemory globals es old reply new x o = along old new x.1.1 o
@@ -253,14 +203,16 @@ module _ (s : StoryTree) where
 
     pub does_fit : (es : List Event) (c : Option Command) (old : State) (reply : Reply) (new : State) → Does s h es c old reply new → StateFits s old → StateFits s new
     does_fit es None old reply new does o = kept _ old new reply does.1 o
-    does_fit es (Some command.Continue) old reply new does o = continue_fits_from es old reply new does o
-    does_fit es (Some command.Through) old reply new does o = through_fits_from es old reply new does o
+    does_fit es (Some command.Continue) old reply new does o = runs_from_fit (RunsLine s h) es old.condition old reply new does
+        (λ c made k x. runs_to_fit (EndsLine s h.functions c made) (LineFallsShort s h.functions c made) c made es old reply new x (λ end y. line_fits_end c made end y k) o.aside) o.condition o
+    does_fit es (Some command.Through) old reply new does o = runs_from_fit (RunsThrough s h) es old.condition old reply new does
+        (λ c made k x. runs_to_fit (EndsThrough s h.functions c made) (FallsShort s h.functions c made) c made es old reply new x (λ end y. through_end c made end y k) o.aside) o.condition o
     does_fit es (Some (command.Set name value)) old reply new does o = set_fits h name value old.condition es old reply new does o.condition o
     does_fit es (Some (command.Get name)) old reply new does o = get_fits _ old reply new does.1 o
     does_fit es (Some (command.Visits path)) old reply new does o = visits_fit path old.condition old reply new does.1 o
     does_fit es (Some (command.Choose number)) old reply new does o = choose_fits number old.condition old reply new does.1 o.condition o
     does_fit es (Some (command.Jump path)) old reply new does o = jump_fits_from path old.condition old reply new does.1 o.condition o
-    does_fit es (Some command.Save) old reply new does o = saves_fit old.condition old reply new does.1 o
+    does_fit es (Some command.Save) old reply new does o = along old new (saves_same old.condition old reply new does.1) o
     does_fit es (Some (command.Load saved)) old reply new does o = load_fits h es saved old reply new does o
     does_fit es (Some command.Restart) old reply new (inl does) o = restarts_fit (opening s) es old reply new does (opening_fits s story) o
     does_fit es (Some command.Restart) old reply new (inr does) o = along old new does.2.1 o

@@ -1,29 +1,25 @@
 -- An accepted story has what is asked of it.
 use Rattle.std.proofs.Common.{◌≡◌, ◌∙◌, ap, sym, refl, subst, arith, ℕ, zero, suc, ◌+◌, List, [], ◌∷◌, ◌++◌, map, filter, length, Bool, true, false, true≢false, not, ◌&&◌, codes, nat_lt, Option, Some, None, is_some, option_and_then, unwrap_or, Result, Ok, Err, inl, inr}
-use Rattle.std.proofs.lemmas.Bool.{cases_Bool, cond_both, true_from_ne_false}
+use Rattle.std.proofs.lemmas.Bool.{and_parts, cases_Bool, cond_both, not-true, true_from_ne_false}
 use mathlib.Core.Bool.{Bool-set}
 use mathlib.Core.HLevel.{Unit-prop, ×_prop}
 use mathlib.Core.Logic.{∥∥₁_elim}
-use Rattle.std.specs.Cmp.Lexicographic.{slice_cmp}
 use Rattle.std.specs.FinMap.{nat_cmp-IsAntisymmetric, slice_cmp-IsAntisymmetric}
-use Rattle.std.specs.List.{AllByRecursion as Each}
 use Rattle.std.specs.Ordering.{nat_cmp}
 use Rattle.std.specs.Result.{result_unwrap_or}
-use Rattle.serde_json.specs.Data.{Data, null, boolean, number, string, array, object, Items, no_items, item, Members, no_members, member}
+use Rattle.serde_json.specs.Data.{Data, array, object, Items, no_items, item, Members, no_members, member}
 use Rattle.serde_json.specs.Find.{as_array, get}
 use Rattle.ink_model.specs.Story.Acceptance.{accepted, accepted_story, and_then, bad_path, bad_places, good_content, good_leaf, has_bad_path, is_absolute, leads}
-use Rattle.ink_model.specs.Story.Grammar.{IsSpelled, content, content_of, faults, first, is_blank_object, is_empty, is_object, is_own, json, keyed_by, keyed_in, keyed_last, of_json, of_value, of_version, root_of, story, tree_of, unmarked, version_of}
+use Rattle.ink_model.specs.Story.Grammar.{IsSpelled, content, content_of, faults, first, is_blank_object, is_empty, is_object, is_own, json, keyed_by, keyed_in, keyed_last, of_json, of_version, root_of, story, tree_of, unmarked, version_of}
 use Rattle.ink_model.specs.Story.Leaves.{leaf_of}
 use Rattle.ink_model.specs.Story.Path.{read_path, target}
 use Rattle.ink_model.specs.Story.Places.{places, places_by_key, places_from}
 use Rattle.ink_model.specs.Run.Step.Diverts.{path_of}
 use Rattle.ink_model.specs.Story.Tree.{StoryTree, leaf, container, Trees, no_trees, tree, Keyed, no_keys, key, at, by_key, down, nth}
-use Rattle.ink_sound.proofs.Common.{Leaf, Part, Index, Name, Path}
+use Rattle.ink_sound.proofs.Common.{Leaf, Part, Index, Name, Path, slice_cmp, Each, Cause, InkVersion}
 use Rattle.ink_model.specs.declared.content.Leaf.TheVariants as leaves
-use Rattle.ink_model.specs.declared.fault.Cause.{Cause}
 use Rattle.ink_model.specs.declared.fault.ReadRefusal.{ReadRefusal}
 use Rattle.ink_model.specs.declared.limits.TheConstants.{MAX_STORY}
-use Rattle.ink_model.specs.declared.version.InkVersion.{InkVersion}
 use Rattle.ink_json.proofs.Narrow.{width_at}
 use Rattle.ink_json.proofs.Width.{story_narrow}
 use Rattle.ink_model.specs.Story.Narrow.{is_narrow}
@@ -42,12 +38,8 @@ leaf_or (Err c) h = tt
 
 mutual
   tree_fits : (version : InkVersion) (listed : Bool) (d : Data) → TreeFits (tree_of version listed d)
-  tree_fits version listed null = tt
-  tree_fits version listed (boolean b) = tt
-  tree_fits version listed (number n) = leaf_or (leaf_of version (number n)) (leaf_of_fits version (number n))
-  tree_fits version listed (string s) = leaf_or (leaf_of version (string s)) (leaf_of_fits version (string s))
-  tree_fits version listed (object ms) = leaf_or (leaf_of version (object ms)) (leaf_of_fits version (object ms))
   tree_fits version listed (array ds) = (content_fits version ds, keyed_fit version ds)
+  tree_fits version listed d = leaf_or (leaf_of version d) (leaf_of_fits version d)
 
   content_fits : (version : InkVersion) (ds : Items) → TreesFit (content_of version ds)
   content_fits version no_items = tt
@@ -68,20 +60,18 @@ mutual
 -- ---- what stands in a tree that fits
 
 nth_fits : (i : ℕ) (ts : Trees) → TreesFit ts → Finds TreeFits (nth i ts)
-nth_fits zero no_trees h = tt
-nth_fits (suc i) no_trees h = tt
 nth_fits zero (tree t ts) h = h.0
 nth_fits (suc i) (tree t ts) h = nth_fits i ts h.1
+nth_fits i ts h = tt
 
 key_fits : (k : List ℕ) (ks : Keyed) → KeyedFit ks → Finds TreeFits (by_key k ks)
 key_fits k no_keys h = tt
 key_fits k (key l t ks) h = in_order (Finds TreeFits) (slice_cmp nat_cmp k l) _ _ _ (λ _. key_fits k ks h.1) (λ _. h.0) (λ _. key_fits k ks h.1)
 
 down_fits : (p : Part) (t : StoryTree) → TreeFits t → Finds TreeFits (down p t)
-down_fits (Index i) (leaf l) h = tt
-down_fits (Name k) (leaf l) h = tt
 down_fits (Index i) (container name flags content named) h = nth_fits i content h.0
 down_fits (Name k) (container name flags content named) h = key_fits k named h.1
+down_fits p t h = tt
 
 at_fits : (p : List Part) (t : StoryTree) → TreeFits t → Finds TreeFits (at t p)
 at_fits [] t h = h
@@ -101,12 +91,9 @@ of_version_fits : (o : Option InkVersion) (d : Data) → Yields TreeFits (of_ver
 of_version_fits None d = tt
 of_version_fits (Some version) d = cond_both (not (is_blank_object (get (codes "listDefs") d))) _ _ (Yields TreeFits) (λ _. tt) (λ _. root_fits version (get (codes "root") d))
 
-value_fits : (d : Data) → Yields TreeFits (of_value d)
-value_fits d = cond_both (not (is_object d)) _ _ (Yields TreeFits) (λ _. tt) (λ _. of_version_fits (version_of d) d)
-
 json_fits : (o : Option Data) → Yields TreeFits (of_json o)
 json_fits None = tt
-json_fits (Some d) = value_fits d
+json_fits (Some d) = cond_both (not (is_object d)) _ _ (Yields TreeFits) (λ _. tt) (λ _. of_version_fits (version_of d) d)
 
 story_fits : (bytes : List ℕ) → Yields TreeFits (story bytes)
 unfolding story
@@ -180,15 +167,13 @@ same_target s p path e = rw e refl
 
 -- a target that is good is one that a value may hold
 path_fits : (s : StoryTree) (p : List Part) (text : List ℕ) → (is_absolute (read_path text) && is_some (leads s p text)) ≡ true → PathFits s (path_of text)
-path_fits s p text h = by (read_path text) refl h
-  where
-    good : (path : Path) → read_path text ≡ Some path → (b : Bool) → path.relative ≡ b → (not b && is_some (target s p path)) ≡ true → PathFits s path
-    good path is true e k = absurd (true≢false (sym k))
-    good path is false e k = record { absolute = e; leads = ap is_some (sym (same_target s p path e)) ∙ k; spelled = reads_back path text is }
-
-    by : (o : Option Path) → read_path text ≡ o → (is_absolute o && is_some (option_and_then (target s p) o)) ≡ true → PathFits s (unwrap_or o (record { relative = false; parts = [] }))
-    by None is k = absurd (true≢false (sym k))
-    by (Some path) is k = good path is path.relative refl k
+path_fits s p text h = (elim (read_path text) as (λ o. read_path text ≡ o → (is_absolute o && is_some (option_and_then (target s p) o)) ≡ true → PathFits s (unwrap_or o (record { relative = false; parts = [] }))) [
+  | None ↦ λ is k. absurd cc
+  | Some path ↦ λ is k.
+      let parts = and_parts (not path.relative) (is_some (target s p path)) k in
+      let absolute = not-true path.relative parts.0 in
+      record { absolute = absolute; leads = ap is_some (sym (same_target s p path absolute)) ∙ parts.1; spelled = reads_back path text is }
+]) refl h
 
 leaf_good : (s : StoryTree) (p : List Part) (l : Leaf) → TextsFit l → good_leaf s p l ≡ true → LeafFits s l
 leaf_good s p (leaves.Target text) h g = path_fits s p text g
@@ -197,17 +182,11 @@ leaf_good s p l h g = h
 -- a story whose texts fit and whose paths are all good
 good_fits : (s : StoryTree) → TreeFits s → is_narrow s ≡ true → bad_places s ≡ [] → StoryFits s
 unfolding bad_places
-good_fits s h narrow none = record { leaf_fits = λ p l e. leaf_good s p l (texts p l e) (good p l e); narrow = λ p. width_at s p narrow }
+good_fits s h narrow none = record { leaf_fits = λ p l e. leaf_good s p l (subst (Finds TreeFits) e (at_fits p s h)) (good p l e); narrow = λ p. width_at s p narrow }
   where
-    texts : (p : List Part) (l : Leaf) → at s p ≡ Some (leaf l) → TextsFit l
-    texts p l e = subst (Finds TreeFits) e (at_fits p s h)
-
-    each : Each (λ p. has_bad_path s p ≡ false) (places s)
-    each = none_passes (has_bad_path s) (places s) none
-
     good : (p : List Part) (l : Leaf) → at s p ≡ Some (leaf l) → good_leaf s p l ≡ true
     good p l e = true_from_ne_false (good_leaf s p l)
-        (λ bad. true≢false (sym (ap not bad) ∙ sym (ap (λ o. not (good_content s p o)) e) ∙ stands_each p (λ q. has_bad_path s q ≡ false) s each (ap is_some e)))
+        (λ bad. true≢false (sym (ap not bad) ∙ sym (ap (λ o. not (good_content s p o)) e) ∙ stands_each p (λ q. has_bad_path s q ≡ false) s (none_passes (has_bad_path s) (places s) none) (ap is_some e)))
 
 texts_prop : (l : Leaf) → IsProp (TextsFit l)
 texts_prop (leaves.Text t) = Bool-set _ _

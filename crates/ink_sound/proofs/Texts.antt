@@ -1,10 +1,10 @@
 -- What is written leaves no more sections open than may be; and the effects of values, evaluation mode, text, strings and tags.
 use Rattle.std.proofs.Common.{◌≡◌, refl, arith, ℕ, suc, ◌^◌, List, [], ◌∷◌, length, Bool, true, false, nat_lt, Option, Result, Ok, Err, if◌then◌else◌, Some, None, IsTrue, inl, inr, ◌≤◌}
-use Rattle.ink_sound.proofs.Common.{cond_both, cases_Bool, nat_tests, StoryTree, Fault, FrameKind, Function, fits_text, Value}
+use Rattle.ink_sound.proofs.Common.{cond_both, cases_Bool, nat_tests, StoryTree, Fault, FrameKind, Function, fits_text, Value, pushed, popped}
 use Rattle.ink_model.specs.Flow.Transfers.{Written, enter_for, leave_for, on_page, on_stack, void_for}
 use Rattle.ink_model.specs.Text.Output.{begins_function, ends_function, is_crowded, noted, noted_in, opens, with_next, writes_marks, closes_string, closes_string_of, closes_tag, closes_tag_of, is_string, is_text, let_through, prints_text, tagged, writes_glue, writes_newline, writes_printed, writes_tag, writes_text, writes_value}
 use Rattle.ink_model.specs.Text.Page.{Page, Section, SectionKind, string_section, tag_section}
-use Rattle.ink_model.specs.Values.Stack.{pushed, popped}
+use Rattle.ink_model.specs.declared.fault.Fault.TheVariants.{TooDeep}
 use Rattle.ink_model.specs.declared.limits.TheConstants.{MAX_SECTIONS}
 use Rattle.ink_model.specs.declared.mark.Mark.{Mark}
 use Rattle.ink_model.specs.declared.mark.Mark.TheVariants.{Enter, Leave}
@@ -67,11 +67,8 @@ TextFits r = IsTrue (fits_text r.0) × PageFits r.1
 
 string_fits : (page : Page) (xs : List Section) → length xs ≤ MAX_SECTIONS → Gives TextFits (closes_string_of page xs)
 string_fits page [] h = tt
-string_fits page (x ∷ rest) h = by x.kind x.marks
-  where
-    by : (k : SectionKind) (ms : List Mark) → Gives TextFits (closes_string_of page (record { kind = k; marks = ms } ∷ rest))
-    by string_section ms = cond_both (fits_text (shown_text ms)) _ _ (Gives TextFits) (λ e. (e, record { few = omega (arith, h) })) (λ _. tt)
-    by tag_section ms = tt
+string_fits page (x ∷ rest) h = elim x.kind as (λ k. Gives TextFits (closes_string_of page (record x { kind = k } ∷ rest)))
+    [ string_section ↦ cond_both (fits_text (shown_text x.marks)) _ _ (Gives TextFits) (λ e. (e, record { few = omega (arith, h) })) (λ _. tt) | tag_section ↦ tt ]
 
 -- a text within its limit, where there is one, and a page
 abbrev TagFits : Option (List ℕ) × Page → Type 0
@@ -86,17 +83,13 @@ tagged_fits t page e h = elim (cases_Bool (list_any is_string page.sections)) [
   ]
 ]
 
+cleaned_fits : (t : List ℕ) (page : Page) → PageFits page → Gives TagFits (if fits_text t then tagged t page else Err TooDeep)
+cleaned_fits t page h = cond_both (fits_text t) _ _ (Gives TagFits) (λ e. tagged_fits t page e h) (λ _. tt)
+
 tag_fits : (page : Page) (xs : List Section) → length xs ≤ MAX_SECTIONS → Gives TagFits (closes_tag_of page xs)
 tag_fits page [] h = tt
-tag_fits page (x ∷ rest) h = by x.kind x.marks
-  where
-    by : (k : SectionKind) (ms : List Mark) → Gives TagFits (closes_tag_of page (record { kind = k; marks = ms } ∷ rest))
-    by string_section ms = tt
-    by tag_section ms = cond_both (fits_text (clean (shown_text ms))) _ _ (Gives TagFits)
-        (λ e. tagged_fits (clean (shown_text ms)) (record page { sections = rest }) e (record { few = omega (arith, h) })) (λ _. tt)
-
-whole_tag_fits : (t : List ℕ) (page : Page) → PageFits page → Gives TagFits (writes_tag t page)
-whole_tag_fits t page h = cond_both (fits_text (clean t)) _ _ (Gives TagFits) (λ e. tagged_fits (clean t) page e h) (λ _. tt)
+tag_fits page (x ∷ rest) h = elim x.kind as (λ k. Gives TagFits (closes_tag_of page (record x { kind = k } ∷ rest)))
+    [ string_section ↦ tt | tag_section ↦ cleaned_fits (clean (shown_text x.marks)) (record page { sections = rest }) (record { few = omega (arith, h) }) ]
 
 module _ (s : StoryTree) where
   abbrev BothFit : List Value × Page → Type 0
@@ -157,13 +150,12 @@ module _ (s : StoryTree) where
   printed_fits fresh page (Err f) h = tt
 
   pub output_fits : (f : Fields) → FieldsFit s f → EffectFits s (output_value f)
-  output_fits f fits = by (popped f.stack) (popped_fits s f.stack fits.stack.each)
-    where
-      by : (o : Option (Value × List Value)) → Finds (TakenFits s f.stack) o → EffectFits s (output_popped o f)
-      by None h = fits
-      by (Some r) h = writing_text_fits (record f { stack = r.1 })
-          (record { stack = record { each = h.left; few = omega (arith, h.less, fits.stack.few) }; globals = fits.globals; page = fits.page })
-          (prints_text (printed r.0)) (writes_value (is_fresh f) r.0 f.page) (printed_fits (is_fresh f) f.page (printed r.0) fits.page)
+  output_fits f fits = (elim (popped f.stack) as (λ o. Finds (TakenFits s f.stack) o → EffectFits s (output_popped o f)) [
+    | None ↦ λ h. fits
+    | Some r ↦ λ h. writing_text_fits (record f { stack = r.1 })
+        (record { stack = record { each = h.left; few = omega (arith, h.less, fits.stack.few) }; globals = fits.globals; page = fits.page })
+        (prints_text (printed r.0)) (writes_value (is_fresh f) r.0 f.page) (printed_fits (is_fresh f) f.page (printed r.0) fits.page)
+  ]) (popped_fits s f.stack fits.stack.each)
 
   -- ---- strings and tags
 
@@ -185,5 +177,5 @@ module _ (s : StoryTree) where
 
   pub write_tag_fits : (f : Fields) → FieldsFit s f → (t : List ℕ) → EffectFits s (write_tag t f)
   write_tag_fits f fits t = or_fault_fits s BothFit (if in_tag f.page.sections then closed_tag f.stack f.page else Ok (f.stack, f.page)) _ (no_tag_fits f fits)
-      (λ r h. or_fault_fits s BothFit (keeps_tag r.0 (writes_tag t r.1)) _ (keeps_fits r.0 (writes_tag t r.1) h.0 (whole_tag_fits t r.1 h.1))
+      (λ r h. or_fault_fits s BothFit (keeps_tag r.0 (writes_tag t r.1)) _ (keeps_fits r.0 (writes_tag t r.1) h.0 (cleaned_fits (clean t) r.1 h.1))
       (λ q k. record { stack = k.0; globals = fits.globals; page = k.1 }))

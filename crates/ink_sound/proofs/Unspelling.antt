@@ -1,18 +1,15 @@
 -- A JSON value that is read as a game is its spelling.
 use Rattle.std.proofs.Common.{◌≡◌, ◌∙◌, ◌⊎◌, inl, inr, ap, sym, refl, subst, arith, ℕ, suc, ◌^◌, ℤ, pos, negsuc, List, [], ◌∷◌, map, reverse, codes, Bool, true, false, bytes_eq, nat_lt, ◌==◌, if◌then◌else◌, Option, Some, None, option_and_then}
-use Rattle.ink_sound.proofs.Common.{cases_Bool, nat_tests, bytes_eq-Decides, of_integer, items_of, is_small, empty_page, value_data, Base, Function, Tunnel, Part, Index, Name, Value}
+use Rattle.ink_sound.proofs.Common.{cases_Bool, nat_tests, bytes_eq-Decides, of_integer, items_of, is_small, empty_page, value_data, Base, Function, Tunnel, Part, Index, Name, Value, option_map, option_or, Configuration, FlowOf, Spells}
 use Rattle.std.proofs.lemmas.List.{reverse-reverse}
-use Rattle.std.specs.Option.{option_map, option_or}
 use Rattle.serde_json.specs.Data.{Num, unsigned, negative, Data, null, boolean, number, string, array, object, Items, no_items, item, Members, no_members, member}
-use Rattle.ink_model.specs.Run.Configuration.{ChoiceOf, Configuration, FlowOf}
 use Rattle.ink_model.specs.Run.Flows.{Game, all_flows, alone, current_name, holes}
 use Rattle.ink_model.specs.Flow.Frames.{FrameOf, ThreadOf, ThreadsOf}
 use Rattle.ink_model.specs.Variables.Named.{Rows, at}
 use Rattle.ink_model.specs.Story.Path.{path_text, read_path}
 use Rattle.ink_model.specs.declared.value.Value.TheVariants as value
-use Rattle.ink_model.specs.Save.Reads.{Spells}
-use Rattle.ink_model.specs.Save.Spelling.{choice_data, count_data, frame_data, global_data, kind_data, list_data, named_flow_data, old_spelling, part_data, place_data, place_or_null, row_data, spelling, temps_members, thread_data, threads_data}
-use Rattle.ink_model.specs.Save.Unspelled.{Layout, First, Second, Spelled, all_of, any_place_of, aside_but, choice_of, closed, count_of, format_of, frame_of, from_threads, from_turn, game_of, game_spelled, game_with, int_of, integer_of, kind_of, layout_by, list_of, named_flow_of, number_integer, pair_of, part_of, path_if, path_in, place_of, pointer_in, rows_of, small, spelled_by, tag_in, take, target_in, temps_of, text_of, thread_in, thread_with, threads_with, truth_of, unspelled, unspelled_by, value_of}
+use Rattle.ink_model.specs.Save.Spelling.{choice_data, count_data, frame_data, global_data, kind_data, list_data, named_flow_data, old_spelling, part_data, place_data, place_or_null, row_data, spelling, temps_members, thread_data}
+use Rattle.ink_model.specs.Save.Unspelled.{Layout, First, Second, Spelled, all_of, any_place_of, aside_but, choice_of, closed, count_of, format_of, frame_of, game_of, game_spelled, game_with, int_of, integer_of, kind_of, layout_by, list_of, named_flow_of, number_integer, pair_of, part_of, path_if, path_in, place_of, pointer_in, rows_of, small, spelled_by, tag_in, take, target_in, temps_of, text_of, thread_in, thread_with, threads_with, truth_of, unspelled, unspelled_by, value_of}
 use Rattle.ink_sound.proofs.Named.{same_name}
 
 -- ---- what was found
@@ -259,56 +256,6 @@ rows_of_counts = list_reading (pair_of place_of count_of) row_data (pair_reading
 globals_reading : Reading (list_of (pair_of text_of value_of)) (list_data global_data)
 globals_reading = list_reading (pair_of text_of value_of) global_data (pair_reading text_of value_of string value_data text_reading value_reading)
 
--- what the last members spell, and what was read before them
-record TurnRead (choices : List (ChoiceOf (List Part))) (globals : List (List ℕ × Value)) (safe : Bool) (stack : List Value) (threads : List (ThreadOf (List Part))) (ms : Members) (x : Configuration) : Type 0 where
-  is : ms ≡ member (codes "turn") (count_data x.shared.turn) (member (codes "turns") (list_data row_data x.shared.counts.turns)
-      (member (codes "visits") (list_data row_data x.shared.counts.visits) no_members))
-  choices_are : choices ≡ x.flow.choices
-  globals_are : globals ≡ x.shared.globals
-  safe_is : safe ≡ x.flow.safe
-  stack_is : stack ≡ x.flow.stack
-  threads_are : reverse threads ≡ x.flow.threads.thread ∷ x.flow.threads.below
-
-turn_read : (choices : List (ChoiceOf (List Part))) (globals : List (List ℕ × Value)) (safe : Bool) (stack : List Value) (threads : List (ThreadOf (List Part))) (ms : Members) (x : Configuration)
-    → from_turn choices globals safe stack threads ms ≡ Some x → TurnRead choices globals safe stack threads ms x
-turn_read choices globals safe stack threads ms x e =
-    let n = took count_of count_data (codes "turn") _ ms x count_reading e in
-    let m = took (list_of (pair_of place_of count_of)) (list_data row_data) (codes "turns") _ n.rest x rows_of_counts n.on in
-    let v = took (list_of (pair_of place_of count_of)) (list_data row_data) (codes "visits") _ m.rest x rows_of_counts m.on in
-    let found = bind_some (threads_with (reverse threads)) _ x v.on in
-    let z = closed_some _ x v.rest found.2 in
-    subst (TurnRead choices globals safe stack threads ms) z.1 (record {
-      is = puts n refl (puts m refl (puts v refl z.0));
-      choices_are = refl;
-      globals_are = refl;
-      safe_is = refl;
-      stack_is = refl;
-      threads_are = with_threads_reads (reverse threads) found.0 found.1;
-    })
-
-record ThreadsRead (choices : List (ChoiceOf (List Part))) (globals : List (List ℕ × Value)) (safe : Bool) (stack : List Value) (ms : Members) (x : Configuration) : Type 0 where
-  is : ms ≡ member (codes "threads") (threads_data x.flow.threads)
-      (member (codes "turn") (count_data x.shared.turn) (member (codes "turns") (list_data row_data x.shared.counts.turns)
-      (member (codes "visits") (list_data row_data x.shared.counts.visits) no_members)))
-  choices_are : choices ≡ x.flow.choices
-  globals_are : globals ≡ x.shared.globals
-  safe_is : safe ≡ x.flow.safe
-  stack_is : stack ≡ x.flow.stack
-
-threads_read : (choices : List (ChoiceOf (List Part))) (globals : List (List ℕ × Value)) (safe : Bool) (stack : List Value) (ms : Members) (x : Configuration)
-    → from_threads choices globals safe stack ms ≡ Some x → ThreadsRead choices globals safe stack ms x
-threads_read choices globals safe stack ms x e =
-    let t = took (list_of thread_in) (list_data thread_data) (codes "threads") _ ms x (list_reading thread_in thread_data thread_reading) e in
-    let r = turn_read choices globals safe stack t.x t.rest x t.on in
-    let all : t.x ≡ reverse (x.flow.threads.thread ∷ x.flow.threads.below) = turned t.x (x.flow.threads.thread ∷ x.flow.threads.below) r.threads_are in
-    record {
-      is = puts t all r.is;
-      choices_are = r.choices_are;
-      globals_are = r.globals_are;
-      safe_is = r.safe_is;
-      stack_is = r.stack_is;
-    }
-
 -- layout 1
 old_reads : (ms : Members) (x : Configuration) → unspelled_by ms ≡ Some x → object ms ≡ old_spelling x
 old_reads ms x e =
@@ -317,8 +264,14 @@ old_reads ms x e =
     let g = took (list_of (pair_of text_of value_of)) (list_data global_data) (codes "globals") _ b.rest x globals_reading b.on in
     let f = took truth_of boolean (codes "safe") _ g.rest x truth_reading g.on in
     let s = took (list_of value_of) (list_data value_data) (codes "stack") _ f.rest x (list_reading value_of value_data value_reading) f.on in
-    let r = threads_read a.x g.x f.x s.x s.rest x s.on in
-    ap object (puts a r.choices_are (puts b refl (puts g r.globals_are (puts f r.safe_is (puts s r.stack_is r.is)))))
+    let t = took (list_of thread_in) (list_data thread_data) (codes "threads") _ s.rest x (list_reading thread_in thread_data thread_reading) s.on in
+    let n = took count_of count_data (codes "turn") _ t.rest x count_reading t.on in
+    let m = took (list_of (pair_of place_of count_of)) (list_data row_data) (codes "turns") _ n.rest x rows_of_counts n.on in
+    let v = took (list_of (pair_of place_of count_of)) (list_data row_data) (codes "visits") _ m.rest x rows_of_counts m.on in
+    let found = bind_some (threads_with (reverse t.x)) _ x v.on in
+    let z = closed_some _ x v.rest found.2 in
+    let all : t.x ≡ reverse (found.0.thread ∷ found.0.below) = turned t.x (found.0.thread ∷ found.0.below) (with_threads_reads (reverse t.x) found.0 found.1) in
+    ap object (puts a refl (puts b refl (puts g refl (puts f refl (puts s refl (puts t all (puts n refl (puts m refl (puts v refl z.0))))))))) ∙ ap old_spelling z.1
 
 -- ---- flows
 

@@ -1,10 +1,7 @@
 -- Values that fit, on a stack and as they are made.
 use Rattle.std.proofs.Common.{◌≡◌, ap, refl, arith, suc, List, [], ◌∷◌, ◌++◌, length, length-append, nat_lt, Option, Some, None, option_and_then, Result, Ok, Err}
-use Rattle.ink_sound.proofs.Common.{cond_both, nat_tests, StoryTree, Fault, Value, EffectFits, FieldsFit, Finds, Gives, StackFits, ValueFits}
-use Rattle.std.specs.List.{AllByRecursion as Each}
-use Rattle.std.specs.Option.{option_map, option_or}
+use Rattle.ink_sound.proofs.Common.{cond_both, nat_tests, StoryTree, Fault, Value, EffectFits, FieldsFit, Finds, Gives, StackFits, ValueFits, Each, option_map, option_or, popped, pushed}
 use Rattle.ink_model.specs.Run.Effect.{Effect, Fields, Moves, or_else, or_fault, popping, pushing}
-use Rattle.ink_model.specs.Values.Stack.{popped, pushed}
 use Rattle.ink_model.specs.declared.fault.Fault.TheVariants.{StackEmpty}
 use Rattle.ink_model.specs.declared.limits.TheConstants.{MAX_STACK}
 
@@ -43,10 +40,18 @@ pub any_finds : {A : Type 0} (o : Option A) → Finds Any o
 any_finds (Some a) = tt
 any_finds None = tt
 
+pub map_found : {A B : Type 0} (Q : B → Type 0) (o : Option A) (so : A → B) → ((a : A) → o ≡ Some a → Q (so a)) → Finds Q (option_map so o)
+map_found Q None so k = tt
+map_found Q (Some a) so k = k a refl
+
 module _ {A : Type 0} (P : A → Type 0) where
   pub or_finds : (o p : Option A) → Finds P o → Finds P p → Finds P (option_or o p)
   or_finds None p h k = k
   or_finds (Some a) p h k = h
+
+  pub finds_of : (Q : A → Type 0) (o : Option A) → Finds P o → ((a : A) → P a → Q a) → Finds Q o
+  finds_of Q None h k = tt
+  finds_of Q (Some a) h k = k a h
 
   pub map_finds : {B : Type 0} (Q : B → Type 0) (o : Option A) (so : A → B) → Finds P o → ((a : A) → P a → Q (so a)) → Finds Q (option_map so o)
   map_finds Q None so h k = tt

@@ -1,19 +1,14 @@
 -- Variables that are read, assigned and declared, and pointers.
 use Rattle.std.proofs.Common.{◌≡◌, ap, refl, arith, ℕ, zero, suc, ◌+◌, ◌≤◌, ℤ, pos, negsuc, List, [], ◌∷◌, length, true, nat_eq, Option, Some, None, is_some, option_and_then, unwrap_or, Result, Ok, Err}
-use Rattle.ink_sound.proofs.Common.{cond_both, BaseFirst, Context, Fields, is_small, Values, store, stored, StoryTree, Fault, FrameKind, Part, Value, ContextFits, EffectFits, FieldsFit, Finds, Gives}
-use Rattle.std.proofs.lemmas.Cmp.{nat_list_cmp_total}
-use Rattle.std.specs.List.{AllByRecursion as Each}
+use Rattle.ink_sound.proofs.Common.{cond_both, BaseFirst, Context, Fields, is_small, Values, store, stored, StoryTree, Fault, FrameKind, Part, Value, ContextFits, EffectFits, FieldsFit, Finds, Gives, nat_list_cmp_total, Each, name_order, row, Global, Temporary, FrameFits, FrameStands, GlobalsFit, IsFrame, RowFits, ThreadStands, ValueFits}
 use Rattle.ink_model.specs.Flow.Frames.{FrameOf, ThreadOf, frame_numbered}
-use Rattle.ink_model.specs.Variables.Rows.{name_order, row}
 use Rattle.ink_model.specs.Run.Step.Evaluation.{push_value}
 use Rattle.ink_model.specs.Run.Step.Variables as step
 use Rattle.ink_model.specs.Flow.Threads.{changed, frame_count, with_row_in, with_temp}
 use Rattle.ink_model.specs.Variables.Access.{assign, assign_at, chain_end, declare, declared, held, kept, kept_pointer, last_pointer, named, on_pointer, point, read, stands, value_at, with_declared, with_held, with_named}
 use Rattle.ink_model.specs.declared.limits.TheConstants.{MAX_FRAMES}
 use Rattle.ink_model.specs.declared.scope.Scope.{Scope}
-use Rattle.ink_model.specs.declared.scope.Scope.TheVariants.{Global, Temporary}
 use Rattle.ink_model.specs.declared.value.Value.TheVariants.{Int, Pointer}
-use Rattle.ink_model.specs.Save.Sound.{FrameFits, FrameStands, GlobalsFit, IsFrame, RowFits, ThreadStands, ValueFits}
 use Rattle.ink_sound.proofs.Ints.{count_small}
 use Rattle.ink_sound.proofs.Rows.{each_put, each_stored, once_put, rise_put, row_finds, stored_finds}
 use Rattle.ink_sound.proofs.Values.{each_of, or_fault_fits, or_finds, popping_fits, pushing_fits}
@@ -53,9 +48,8 @@ module _ (s : StoryTree) where
 
   pointed : {X : Type 0} (Q : X → Type 0) (o : Option Value) (so : ℤ → List ℕ → X) (otherwise : X) → Finds (ValueFits s) o
       → ((frame : ℤ) (name : List ℕ) → IsFrame frame → Q (so frame name)) → Q otherwise → Q (on_pointer o so otherwise)
-  pointed Q None so otherwise h k q = q
   pointed Q (Some (Pointer frame name)) so otherwise h k q = k frame name h
-  pointed Q (Some v) so otherwise h k q = q
+  pointed Q o so otherwise h k q = q
 
   unwrap_fits : (o : Option Value) (d : Value) → Finds (ValueFits s) o → ValueFits s d → ValueFits s (unwrap_or o d)
   unwrap_fits None d h k = k

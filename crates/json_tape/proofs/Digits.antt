@@ -1,34 +1,13 @@
 -- The number that a single digit writes, and that which digits alone write.
-use Rattle.std.proofs.Common.{◌≡◌, ℕ, ◌+◌, ◌-◌, ◌^◌, ◌<◌, ◌≤◌, ◌==◌, refl, ap, sym, subst, ◌∙◌, arith, true, false, List, [], ◌∷◌, ◌++◌, length, get_or, zero, suc, Some, nat_lt, append-nil}
+use Rattle.std.proofs.Common.{◌≡◌, ℕ, ◌-◌, ◌^◌, ◌<◌, ◌≤◌, ◌==◌, refl, ap, sym, subst, ◌∙◌, arith, true, false, List, [], ◌∷◌, ◌++◌, length, get_or, Some, nat_lt, append-nil}
 use Rattle.std.proofs.lemmas.Bool.{lt-ltb, ne_eqb}
 use Rattle.std.proofs.lemmas.Str.Parse.{digit_from_value}
+use Rattle.std.proofs.lemmas.Str.{digit_value_digit}
 use Rattle.std.specs.Str.Parse.{AllDigits, IsNumeral, digits_value, without_leading_plus}
 use Rattle.fast_float.specs.Text.{Parts, IsWellFormed, scan}
 use Rattle.fast_float.proofs.Writing.{scan-text_of}
 use Rattle.serde_json.specs.Data.{unsigned}
-use Rattle.serde_json.specs.Read.{number_of, number_from}
-
-digit_number : (n : ℕ) → n < 10 → number_of ((48 + n) ∷ []) ≡ Some (unsigned n)
-unfolding number_of scan
-digit_number zero h = refl
-digit_number (suc zero) h = refl
-digit_number (suc (suc zero)) h = refl
-digit_number (suc (suc (suc zero))) h = refl
-digit_number (suc (suc (suc (suc zero)))) h = refl
-digit_number (suc (suc (suc (suc (suc zero))))) h = refl
-digit_number (suc (suc (suc (suc (suc (suc zero)))))) h = refl
-digit_number (suc (suc (suc (suc (suc (suc (suc zero))))))) h = refl
-digit_number (suc (suc (suc (suc (suc (suc (suc (suc zero)))))))) h = refl
-digit_number (suc (suc (suc (suc (suc (suc (suc (suc (suc zero))))))))) h = refl
-digit_number (suc (suc (suc (suc (suc (suc (suc (suc (suc (suc n)))))))))) h = absurd (omega arith)
-
-pub single_digit : (xs : List ℕ) → length xs ≡ 1 → 48 ≤ get_or xs 0 0 → get_or xs 0 0 ≤ 57 → number_of xs ≡ Some (unsigned (get_or xs 0 0 - 48))
-single_digit [] e low high = absurd (omega arith)
-single_digit (d ∷ []) e low high =
-    let n = d - 48 in
-    let is : 48 + n ≡ d = omega arith in
-    ap (λ x. number_of (x ∷ [])) (sym is) ∙ digit_number n (omega arith)
-single_digit (d ∷ x ∷ xs) e low high = absurd (omega arith)
+use Rattle.json_tape.proofs.Common.{number_of, number_from}
 
 -- ---- digits alone
 
@@ -56,6 +35,12 @@ natural_number (d ∷ ds) h small =
     let some : nat_lt 0 (length s) ≡ true = lt-ltb 0 (length s) (omega arith) in
     let number : number_from false (whole_alone s) ≡ Some (unsigned (digits_value 10 (s ++ []))) = rw (some, fits) refl in
     read ∙ ap (number_from false) (scanned s h.1) ∙ number ∙ ap (λ n. Some (unsigned n)) all
+
+pub single_digit : (xs : List ℕ) → length xs ≡ 1 → 48 ≤ get_or xs 0 0 → get_or xs 0 0 ≤ 57 → number_of xs ≡ Some (unsigned (get_or xs 0 0 - 48))
+single_digit (d ∷ []) e low high =
+    let value : digits_value 10 (d ∷ []) ≡ d - 48 = omega (arith, digit_value_digit d (low, high)) in
+    natural_number (d ∷ []) (omega arith, (omega arith, tt)) (omega arith) ∙ ap (λ n. Some (unsigned n)) value
+single_digit xs e low high = absurd (omega arith)
 
 -- the same of a text that may begin with a plus, but does not
 pub natural_alone : (ds : List ℕ) → 48 ≤ get_or ds 0 0 → (n : ℕ) → IsNumeral 10 (without_leading_plus ds) × (digits_value 10 (without_leading_plus ds) < 2 ^ 64) → n ≡ digits_value 10 (without_leading_plus ds)

@@ -1,19 +1,14 @@
 -- What a node tells of the value that begins at its place in a tape.
-use Rattle.std.proofs.Common.{◌≡◌, ℕ, ◌+◌, ◌<◌, ◌≤◌, List, [], ◌∷◌, length, drop, get_or, nat_eq, set, Bool, true, false, Option, Some, None, refl, sym, ap, ◌∙◌, subst, arith}
-use Rattle.std.proofs.lemmas.Bool.Decides.{nat_tests}
+use Rattle.std.proofs.Common.{inl, inr, ◌≡◌, ℕ, ◌+◌, ◌<◌, ◌≤◌, List, [], ◌∷◌, length, drop, get_or, set, Bool, true, false, Option, Some, None, refl, sym, ap, ◌∙◌, subst, arith}
+use Rattle.std.proofs.lemmas.Bool.{cases_eq}
 use Rattle.std.proofs.lemmas.Grind.{get_or-set_at}
 use Rattle.std.proofs.lemmas.List.{drop_all, drop-drop, get_or-set_other, length-drop}
-use Rattle.std.proofs.lemmas.Slice.Eq.{bytes_eq-Decides}
-use Rattle.std.specs.Borrow.{Bor}
+use Rattle.json_tape.proofs.Common.{bytes_eq-Decides, Bor, Token, node_token, Passes, Node, slot}
 use Rattle.std.specs.Str.{bytes_eq}
-use Rattle.json.specs.Token.{Token}
 use Rattle.json.specs.Json as json
 use Rattle.json.specs.Json.{Json, Items, Members, after_end_array, value}
-use Rattle.json.specs.Tape.{node_token, Passes}
 use Rattle.json.specs.Find.{BeginsWith, HasValue, InItems, InMembers, later_or, as_str, as_number, as_bool, as_array, as_object, get, get_member}
-use Rattle.json.specs.declared.tape.Node.{Node}
 use Rattle.json.specs.declared.tape.Node.TheVariants.{Object, EndObject, Array, EndArray, Key, String, Number, Bool as Truth}
-use Rattle.json_tape.specs.Marks.{slot}
 use Rattle.json.proofs.Found.{not_found, Some_inj, IsKey, one_reading, opened, not_empty, items_close, items_need_tokens, items_go_on, members_go_on, members_close, members_short}
 use Rattle.json.proofs.Grammar.{value_is, left_some}
 use Rattle.json_tape.proofs.Spelled.{mapped}
@@ -58,33 +53,24 @@ bool_in (Token.boolean b) = Some b
 bool_in t = None
 
 pub str_is : (ts : List Token) (n : Node) (j : Json) → ts ≡ node_token n ∷ drop 1 ts → BeginsWith ts j → str_in (node_token n) ≡ as_str j
-str_is ts n j first h = ap str_in (first_node ts n j first h) ∙ same j
-  where
-    same : (j : Json) → str_in (token_of j) ≡ as_str j
-    same (json.string s) = refl
-    same j = refl
+str_is ts n (json.string s) first h = ap str_in (first_node ts n (json.string s) first h)
+str_is ts n j first h = ap str_in (first_node ts n j first h)
 
 pub no_str : (n : Node) → ((s : Bor (List ℕ)) → n ≡ String s → ⊥) → None ≡ str_in (node_token n)
 no_str (String s) never = absurd (never s refl)
 no_str n never = refl
 
 pub number_is : (ts : List Token) (n : Node) (j : Json) → ts ≡ node_token n ∷ drop 1 ts → BeginsWith ts j → number_in (node_token n) ≡ as_number j
-number_is ts n j first h = ap number_in (first_node ts n j first h) ∙ same j
-  where
-    same : (j : Json) → number_in (token_of j) ≡ as_number j
-    same (json.number s) = refl
-    same j = refl
+number_is ts n (json.number s) first h = ap number_in (first_node ts n (json.number s) first h)
+number_is ts n j first h = ap number_in (first_node ts n j first h)
 
 pub no_number : (n : Node) → ((s : Bor (List ℕ)) → n ≡ Number s → ⊥) → None ≡ number_in (node_token n)
 no_number (Number s) never = absurd (never s refl)
 no_number n never = refl
 
 pub bool_is : (ts : List Token) (n : Node) (j : Json) → ts ≡ node_token n ∷ drop 1 ts → BeginsWith ts j → bool_in (node_token n) ≡ as_bool j
-bool_is ts n j first h = ap bool_in (first_node ts n j first h) ∙ same j
-  where
-    same : (j : Json) → bool_in (token_of j) ≡ as_bool j
-    same (json.boolean b) = refl
-    same j = refl
+bool_is ts n (json.boolean b) first h = ap bool_in (first_node ts n (json.boolean b) first h)
+bool_is ts n j first h = ap bool_in (first_node ts n j first h)
 
 pub no_bool : (n : Node) → ((b : Bool) → n ≡ Truth b → ⊥) → None ≡ bool_in (node_token n)
 no_bool (Truth b) never = absurd (never b refl)
@@ -228,15 +214,11 @@ other_key name key apart = by (bytes_eq key name) refl
 -- a name that has no mark once a key was marked had none before, and is not that key
 pub unmarked : (before after : List ℕ) (name key : List ℕ) → slot key < length before → after ≡ set before (slot key) 1 → get_or after (slot name) 0 ≡ 0
     → ((j : Json) (left : Members) → get_member name (json.member key j left) ≡ get_member name left) × (get_or before (slot name) 0 ≡ 0)
-unmarked before after name key within is none = by (nat_eq (slot name) (slot key)) refl
-  where
-    by : (b : Bool) → nat_eq (slot name) (slot key) ≡ b
-        → ((j : Json) (left : Members) → get_member name (json.member key j left) ≡ get_member name left) × (get_or before (slot name) 0 ≡ 0)
-    by true e =
-        let same : slot key ≡ slot name = grind (arith, nat_tests) in
-        let there : get_or after (slot name) 0 ≡ 1 = ap (λ xs. get_or xs (slot name) 0) is ∙ get_or-set_at before (slot key) (slot name) 1 0 (sym same) within in
-        absurd (omega (arith, there, none))
-    by false e =
-        let apart : slot name ≡ slot key → ⊥ = λ same. absurd (grind (arith, nat_tests, same, e)) in
-        let kept : get_or after (slot name) 0 ≡ get_or before (slot name) 0 = ap (λ xs. get_or xs (slot name) 0) is ∙ get_or-set_other before (slot key) (slot name) 1 0 apart in
-        (λ j left. rw (other_key name key apart) (or_nothing (get_member name left)), sym kept ∙ none)
+unmarked before after name key within is none = elim (cases_eq (slot name) (slot key)) [
+  | inl same ↦
+      let there : get_or after (slot name) 0 ≡ 1 = ap (λ xs. get_or xs (slot name) 0) is ∙ get_or-set_at before (slot key) (slot name) 1 0 same within in
+      absurd (omega (arith, there, none))
+  | inr apart ↦
+      let kept : get_or after (slot name) 0 ≡ get_or before (slot name) 0 = ap (λ xs. get_or xs (slot name) 0) is ∙ get_or-set_other before (slot key) (slot name) 1 0 apart in
+      (λ j left. rw (other_key name key apart) (or_nothing (get_member name left)), sym kept ∙ none)
+]

@@ -1,25 +1,15 @@
 -- What is left of an array or an object in which the names of each object rise.
-use Rattle.std.proofs.Common.{◌≡◌, ℕ, zero, suc, List, ◌∷◌, ◌++◌, true, Option, Some, None, option_map, option_and_then, Bor, IfNone, Ordering, Less, Equal, Greater, nat_cmp, is_lt, refl, sym, ap, ◌∙◌, subst, arith, append_assoc}
-use Rattle.std.proofs.lemmas.Bool.{and_from}
+use Rattle.std.proofs.Common.{◌≡◌, ℕ, zero, suc, List, ◌∷◌, ◌++◌, true, Option, Some, None, option_map, option_and_then, Bor, IfNone, Ordering, Less, nat_cmp, is_lt, refl, sym, ap, ◌∙◌, subst, arith, append_assoc}
+use Rattle.json_tape.proofs.Common.{and_parts, and_from, slice_cmp, Token, BeginsWith, InItems, InMembers, NextItem, NextMember, json_tokens, members_tokens, depth, value-json_tokens, value-json_tokens_back, Data, object, Members, no_members, member, put, of_json, of_members, Spells, is_readable, data_of}
 use Rattle.std.proofs.lemmas.Cmp.{nat_list_cmp_total}
-use Rattle.std.specs.Cmp.Lexicographic.{slice_cmp}
 use Rattle.std.specs.Ordering.{match_ordering, ordering_reverse}
-use Rattle.json.specs.Token.{Token}
 use Rattle.json.specs.Json as json
-use Rattle.json.specs.Find.{BeginsWith, InItems, InMembers, NextItem, NextMember}
-use Rattle.json.specs.Tree.{json_tokens, members_tokens, depth}
 use Rattle.json.specs.declared.tape.Node.TheVariants as nodes
 use Rattle.json.proofs.Found.{Some_inj, not_found, members_close, members_go_on}
 use Rattle.json.proofs.Grammar.{read_key_is}
-use Rattle.json.proofs.Printed.Trees.{value-json_tokens}
-use Rattle.json.proofs.Unique.Spelling.{value-json_tokens_back}
-use Rattle.serde_json.specs.Data.{Data, object, Members, no_members, member, put}
 use Rattle.serde_json.specs.Find.{as_object}
-use Rattle.serde_json.specs.Read.{of_json, of_members}
 use Rattle.json_tape.specs.Rise.{names_rise, is_ordered, are_items_ordered, are_members_ordered, begins_ordered}
-use Rattle.json_tape.specs.Spelled.{Spells, is_readable, data_of}
 use Rattle.json_tape.specs.Value.{members_of, members_at}
-use Rattle.json_tape.proofs.Conditions.{both}
 use Rattle.json_tape.proofs.Elements.{object_here}
 use Rattle.json_tape.proofs.Rise.{ordered_is}
 use Rattle.json_tape.proofs.Shapes.{form, inside, bracket_begins}
@@ -27,50 +17,34 @@ use Rattle.json_tape.proofs.Spelled.{mapped, chained, readable, spelled_data, sp
 
 -- ---- members of which the names rise
 
+less : (o : Ordering) → is_lt o ≡ true → o ≡ Less
+less Less h = refl
+less o h = absurd cc
+
 -- a name that comes first stays first
 kept : {A : Type 0} (k l : List ℕ) (a b c : A) → is_lt (slice_cmp nat_cmp k l) ≡ true → match_ordering (slice_cmp nat_cmp l k) a b c ≡ c
-kept k l a b c e = by (slice_cmp nat_cmp k l) (nat_list_cmp_total.antisymm l k) e
-  where
-    by : (o : Ordering) → slice_cmp nat_cmp l k ≡ ordering_reverse o → is_lt o ≡ true → match_ordering (slice_cmp nat_cmp l k) a b c ≡ c
-    by Less r h = rw r refl
-    by Equal r h = absurd cc
-    by Greater r h = absurd cc
-
-less : (k l : List ℕ) → is_lt (slice_cmp nat_cmp k l) ≡ true → slice_cmp nat_cmp k l ≡ Less
-less k l e = by (slice_cmp nat_cmp k l) refl e
-  where
-    by : (o : Ordering) → slice_cmp nat_cmp k l ≡ o → is_lt o ≡ true → slice_cmp nat_cmp k l ≡ Less
-    by Less r h = r
-    by Equal r h = absurd cc
-    by Greater r h = absurd cc
+kept k l a b c e = rw (nat_list_cmp_total.antisymm l k ∙ ap ordering_reverse (less _ e)) refl
 
 -- what rises behind a name rises behind each name before it
 earlier : (k l : List ℕ) (ms : json.Members) → is_lt (slice_cmp nat_cmp k l) ≡ true → names_rise (Some l) ms ≡ true → names_rise (Some k) ms ≡ true
 earlier k l json.no_members e h = refl
 earlier k l (json.member m j ms) e h =
-    let p = both _ _ h in
-    and_from _ _ (ap is_lt (nat_list_cmp_total.trans k l m (less k l e) (less l m p.0))) p.1
+    let p = and_parts _ _ h in
+    and_from _ _ (ap is_lt (nat_list_cmp_total.trans k l m (less _ e) (less _ p.0))) p.1
 
 freed : (k : List ℕ) (ms : json.Members) → names_rise (Some k) ms ≡ true → names_rise None ms ≡ true
 freed k json.no_members h = refl
-freed k (json.member l j ms) h = (both _ _ h).1
+freed k (json.member l j ms) h = (and_parts _ _ h).1
 
 -- members are put behind the one whose name comes before theirs
 put_behind : (k : List ℕ) (d : Data) (ms : json.Members) (found : Members) → names_rise (Some k) ms ≡ true → of_members ms (member k d found) ≡ option_map (member k d) (of_members ms found)
 put_behind k d json.no_members found h = refl
 put_behind k d (json.member l j ms) found h =
-    let p = both _ _ h in
-    by (of_json j) p.0 (λ after. put_behind k d ms after (earlier k l ms p.0 p.1))
-  where
-    by : (o : Option Data) → is_lt (slice_cmp nat_cmp k l) ≡ true → ((after : Members) → of_members ms (member k d after) ≡ option_map (member k d) (of_members ms after))
-        → option_and_then (λ e. of_members ms (put l e (member k d found))) o ≡ option_map (member k d) (option_and_then (λ e. of_members ms (put l e found)) o)
-    by None e more = refl
-    by (Some x) e more = ap (of_members ms) (kept k l _ _ _ e) ∙ more (put l x found)
+    let p = and_parts _ _ h in
+    elim (of_json j) as (λ o. option_and_then (λ e. of_members ms (put l e (member k d found))) o ≡ option_map (member k d) (option_and_then (λ e. of_members ms (put l e found)) o))
+    [ None ↦ refl | Some x ↦ ap (of_members ms) (kept k l _ _ _ p.0) ∙ put_behind k d ms (put l x found) (earlier k l ms p.0 p.1) ]
 
 -- ---- the tokens of an object
-
-pairs : (k l : List ℕ) (i j : json.Json) (ms ns : json.Members) → json.member k i ms ≡ json.member l j ns → (k ≡ l) × (i ≡ j) × (ms ≡ ns)
-pairs k l i j ms ns e = (cc, cc, cc)
 
 no_key : (ts : List Token) (ms : json.Members) → json.read_key ts ≡ None → InMembers ts ms → ⊥
 unfolding json.members
@@ -89,7 +63,7 @@ in_members_at json.no_members ts (Some (Some k, s)) e h =
 in_members_at (json.member l j ms) ts (Some (Some k, s)) e h =
     let named : ts ≡ Token.key k ∷ s = read_key_is ts (Some k) s e in
     let f = members_go_on k s (json.member l j ms) (subst (λ us. InMembers us (json.member l j ms)) named h) in
-    let same = pairs l k j f.1 ms f.3 f.5 in
+    let same : (l ≡ k) × (j ≡ f.1) × (ms ≡ f.3) = (cc f.5, cc f.5, cc f.5) in
     let more = in_members_at ms f.2 _ refl (subst (InMembers f.2) (sym same.2) f.6) in
     let here : s ≡ json_tokens j ++ f.2 = value-json_tokens_back f.0 s f.2 f.1 f.4 ∙ ap (λ i. json_tokens i ++ f.2) (sym same.1) in
     let all : s ≡ (json_tokens j ++ members_tokens ms) ++ more.0 = here ∙ ap (λ us. json_tokens j ++ us) more.1 ∙ sym (append_assoc (json_tokens j) (members_tokens ms) more.0) in
@@ -135,8 +109,8 @@ next_one old new e k h o steps =
     let first = chained (λ d. of_members s.1 (put k d no_members)) (of_json s.0) (members_at old) spelled in
     let rise : is_ordered (json.object (json.member k s.0 s.1)) ≡ true =
     ap (λ ms. is_ordered (json.object ms)) (sym s.2) ∙ sym (ordered_is (Token.begin_object ∷ old) (json.object all.0) (object_begins old all.0 all.1)) ∙ o in
-    let names = both (names_rise None (json.member k s.0 s.1)) (are_members_ordered (json.member k s.0 s.1)) rise in
-    let values = both (is_ordered s.0) (are_members_ordered s.1) names.1 in
+    let names = and_parts (names_rise None (json.member k s.0 s.1)) (are_members_ordered (json.member k s.0 s.1)) rise in
+    let values = and_parts (is_ordered s.0) (are_members_ordered s.1) names.1 in
     let behind : names_rise (Some k) s.1 ≡ true = names.0 in
     let more = mapped (member k first.0) (of_members s.1 no_members) (members_at old) (sym (put_behind k first.0 s.1 no_members behind) ∙ first.2) in
     let left = holds new s.1 more.0 s.4 more.1 in
@@ -170,7 +144,7 @@ next_ordered old new e h o steps =
     let s = steps js.0 js.1 in
     let rise : are_items_ordered (json.item s.0 s.1) ≡ true =
     ap are_items_ordered (sym s.2) ∙ sym (ordered_is (Token.begin_array ∷ old) (json.array js.0) (bracket_begins old js.0 js.1)) ∙ o in
-    let values = both (is_ordered s.0) (are_items_ordered s.1) rise in
+    let values = and_parts (is_ordered s.0) (are_items_ordered s.1) rise in
     (ordered_is e s.0 s.3 ∙ values.0, ordered_is (Token.begin_array ∷ new) (json.array s.1) (bracket_begins new s.1 s.4) ∙ values.1)
 
 pub items_left : (old new : List Token) (r : Option (List Token)) → is_readable (Token.begin_array ∷ old) ≡ true → begins_ordered (Token.begin_array ∷ old) ≡ true → NextItem old r new → IfNone r (new ≡ old)

@@ -1,3 +1,4 @@
+pub mod Common
 pub mod Size
 pub mod Conditions
 pub mod Spelled

@@ -2,14 +2,10 @@
 use Rattle.std.proofs.Common.{◌≡◌, ℕ, zero, suc, ◌+◌, ◌-◌, ◌<◌, ◌≤◌, ⊎_elim, List, [], ◌∷◌, ◌++◌, map, length, take, drop, get_or, slice_set, Option, Some, None, option_and_then, Result, Ok, Err, IfOk, MatchOption, IsSome, refl, sym, ap, ap₂, ◌∙◌, subst, arith}
 use Rattle.std.proofs.lemmas.List.{append_assoc, append-nil, map-append, length-map, length-append, length-set, take_at, take-take, take-set, drop_at, drop_more, get_or-map, get_or-take, get_or_push, get_or-set_same, get_or-set_other}
 use Rattle.std.proofs.lemmas.Bool.{cases_lt}
-use Rattle.std.specs.Borrow.{Bor}
+use Rattle.json_tape.proofs.Common.{Bor, tokens, skip_items, skip_members, HasValue, Node}
 use Rattle.json.specs.Token.{Token, begin_object, begin_array}
-use Rattle.json.specs.Lex.{tokens}
 use Rattle.json.specs.Json.{Json, after_end_array, read_key, items, members, value, skip_value, if_last, max_depth, document}
-use Rattle.json.specs.Reads.{skip_items, skip_members}
 use Rattle.json.specs.Tape.{node_token, Passes, LinkAt, Linked, Grown}
-use Rattle.json.specs.Find.{HasValue}
-use Rattle.json.specs.declared.tape.Node.{Node}
 use Rattle.json.specs.declared.tape.Node.TheVariants as nodes
 use Rattle.json.proofs.Grammar.{left, left-parse_map, left_some, read_key-shorter, read_key_is, closed_array, items_end, members_end, skip_item, skip_member, skip_value-shorter}
 use Rattle.json_tape.specs.Tape.{leading_to, Moves}
@@ -167,9 +163,8 @@ pub no_document : (text : List ℕ) (first : List Token) → first ≡ tokens te
 no_document text first same other = by (value max_depth (tokens text)) (λ e. other (ap (skip_value max_depth) same ∙ e))
   where
     by : (o : Option (Json × List Token)) → (left o ≡ Some [] → ⊥) → option_and_then (λ p. if_last p.0 p.1) o ≡ None
-    by None h = refl
     by (Some (j, [])) h = absurd (h refl)
-    by (Some (j, t ∷ ts)) h = refl
+    by o h = refl
 
 pub without : {A E : Type 0} {I P : Type 0} (Q : A → Type 0) (r : Result (Option A) E) → (I → P) → IfOk r (λ found. (found ≡ None) × I) → IfOk r (λ found. MatchOption found P Q)
 without Q (Ok found) f h = rw h.0 (f h.1)

@@ -1,55 +1,45 @@
 -- Members of other names than two.
-use Rattle.std.proofs.Common.{◌≡◌, ℕ, List, true, false, ◌||◌, Some, None, is_eq, Ordering, Less, Equal, Greater, nat_cmp, refl, sym, ap, ◌∙◌}
-use Rattle.std.proofs.lemmas.Bool.{or_right}
+use Rattle.std.proofs.Common.{◌≡◌, ℕ, List, Bool, true, false, ◌||◌, Some, None, is_eq, Less, Equal, Greater, nat_cmp, refl, sym, ap, ◌∙◌}
+use Rattle.std.proofs.lemmas.Bool.{or_parts, or_right}
 use Rattle.std.proofs.lemmas.Map.Text.{is_eq-slice_cmp}
-use Rattle.std.proofs.lemmas.Slice.Eq.{bytes_eq-Decides}
-use Rattle.std.specs.Cmp.Lexicographic.{slice_cmp}
-use Rattle.std.specs.Ordering.{match_ordering}
-use Rattle.json.specs.Token.{Token}
+use Rattle.json_tape.proofs.Common.{bytes_eq-Decides, slice_cmp, match_ordering, Token, BeginsWith, InMembers, NextMember, Data, Members, no_members, member, put, of_json, of_members, is_readable, data_of, members_of}
 use Rattle.json.specs.Json as json
 use Rattle.json.specs.Find as find
-use Rattle.json.specs.Find.{BeginsWith, InMembers, NextMember}
 use Rattle.json.proofs.Found.{Some_inj}
-use Rattle.serde_json.specs.Data.{Data, Members, no_members, member, put}
-use Rattle.serde_json.specs.Read.{of_json, of_members}
 use Rattle.json_tape.specs.Other.{is_other, has_other}
-use Rattle.json_tape.specs.Spelled.{is_readable, data_of}
-use Rattle.json_tape.specs.Value.{members_of}
-use Rattle.json_tape.proofs.Conditions.{neither, or_more}
 use Rattle.json_tape.proofs.Shapes.{AreLeft, members_begin, members_next, members_over, no_members_value}
 use Rattle.json_tape.proofs.Spelled.{chained}
 
 same_name : (k l : List ℕ) → slice_cmp nat_cmp k l ≡ Equal → k ≡ l
 same_name k l e = (bytes_eq-Decides k l).0 (sym (is_eq-slice_cmp k l) ∙ ap is_eq e)
 
+or_more : (a b c : Bool) → (b ≡ true → c ≡ true) → (a || b) ≡ true → (a || c) ≡ true
+or_more true b c more h = refl
+or_more false b c more h = more h
+
 -- ---- a member put among others
 
 put_known : (a b k : List ℕ) (d : Data) (ms : Members) → is_other a b k ≡ false → has_other a b ms ≡ false → has_other a b (put k d ms) ≡ false
 put_known a b k d no_members own none = rw own refl
-put_known a b k d (member l e ms) own none = let rest = neither (is_other a b l) (has_other a b ms) none in by (slice_cmp nat_cmp k l) rest.0 (put_known a b k d ms own rest.1)
-  where
-    by : (o : Ordering) → is_other a b l ≡ false → has_other a b (put k d ms) ≡ false → has_other a b (match_ordering o (member k d (member l e ms)) (member l d ms) (member l e (put k d ms))) ≡ false
-    by Less here later = rw own none
-    by Equal here later = none
-    by Greater here later = rw here later
+put_known a b k d (member l e ms) own none =
+    let rest = or_parts (is_other a b l) (has_other a b ms) none in
+    elim (slice_cmp nat_cmp k l) as (λ o. has_other a b (match_ordering o (member k d (member l e ms)) (member l d ms) (member l e (put k d ms))) ≡ false)
+    [ Less ↦ rw own none | Equal ↦ none | Greater ↦ rw rest.0 (put_known a b k d ms own rest.1) ]
 
 put_other : (a b k : List ℕ) (d : Data) (ms : Members) → is_other a b k ≡ true → has_other a b (put k d ms) ≡ true
 put_other a b k d no_members other = rw other refl
-put_other a b k d (member l e ms) other = by (slice_cmp nat_cmp k l) refl (put_other a b k d ms other)
-  where
-    by : (o : Ordering) → slice_cmp nat_cmp k l ≡ o → has_other a b (put k d ms) ≡ true → has_other a b (match_ordering o (member k d (member l e ms)) (member l d ms) (member l e (put k d ms))) ≡ true
-    by Less is later = rw other refl
-    by Equal is later = ap (λ n. is_other a b n || has_other a b ms) (sym (same_name k l is)) ∙ rw other refl
-    by Greater is later = or_right (is_other a b l) _ later
+put_other a b k d (member l e ms) other =
+    (elim (slice_cmp nat_cmp k l) as (λ o. slice_cmp nat_cmp k l ≡ o → has_other a b (match_ordering o (member k d (member l e ms)) (member l d ms) (member l e (put k d ms))) ≡ true) [
+      | Less ↦ λ is. rw other refl
+      | Equal ↦ λ is. ap (λ n. is_other a b n || has_other a b ms) (sym (same_name k l is)) ∙ rw other refl
+      | Greater ↦ λ is. or_right (is_other a b l) _ (put_other a b k d ms other)
+    ]) refl
 
 still_other : (a b k : List ℕ) (d : Data) (ms : Members) → has_other a b ms ≡ true → has_other a b (put k d ms) ≡ true
 still_other a b k d no_members has = absurd cc
-still_other a b k d (member l e ms) has = by (slice_cmp nat_cmp k l) (still_other a b k d ms)
-  where
-    by : (o : Ordering) → (has_other a b ms ≡ true → has_other a b (put k d ms) ≡ true) → has_other a b (match_ordering o (member k d (member l e ms)) (member l d ms) (member l e (put k d ms))) ≡ true
-    by Less later = or_right (is_other a b k) _ has
-    by Equal later = has
-    by Greater later = or_more (is_other a b l) (has_other a b ms) _ later has
+still_other a b k d (member l e ms) has =
+    elim (slice_cmp nat_cmp k l) as (λ o. has_other a b (match_ordering o (member k d (member l e ms)) (member l d ms) (member l e (put k d ms))) ≡ true)
+    [ Less ↦ or_right (is_other a b k) _ has | Equal ↦ has | Greater ↦ or_more (is_other a b l) (has_other a b ms) _ (still_other a b k d ms) has ]
 
 all_other : (a b : List ℕ) (ms : json.Members) (found all : Members) → has_other a b found ≡ true → of_members ms found ≡ Some all → has_other a b all ≡ true
 all_other a b json.no_members found all has e = ap (has_other a b) (sym (Some_inj _ _ e)) ∙ has

@@ -1,18 +1,11 @@
 -- What holds of values in which the names of each object rise.
 use Rattle.std.proofs.Common.{◌≡◌, ℕ, ◌+◌, List, ◌∷◌, ◌++◌, length, drop, Bool, true, false, ◌&&◌, Option, Some, None, option_map, option_and_then, unwrap_or, refl, sym, ap, ◌∙◌, subst, arith, append_assoc}
-use Rattle.std.proofs.lemmas.Bool.{and_from}
-use Rattle.json.specs.Token.{Token}
+use Rattle.json_tape.proofs.Common.{and_parts, and_from, Token, node_token, LinkAt, Passes, json_tokens, items_tokens, members_tokens, depth, Node, value-json_tokens, value-json_tokens_back}
 use Rattle.json.specs.Json as json
 use Rattle.json.specs.Find.{BeginsWith, InMembers, as_object}
-use Rattle.json.specs.Tape.{node_token, LinkAt, Passes}
-use Rattle.json.specs.Tree.{json_tokens, items_tokens, members_tokens, depth}
-use Rattle.json.specs.declared.tape.Node.{Node}
 use Rattle.json.specs.declared.tape.Node.TheVariants as nodes
 use Rattle.json.proofs.Grammar.{left_some}
-use Rattle.json.proofs.Printed.Trees.{value-json_tokens}
-use Rattle.json.proofs.Unique.Spelling.{value-json_tokens_back}
 use Rattle.json_tape.specs.Rise.{is_behind, names_rise, is_ordered, are_items_ordered, are_members_ordered, begins_ordered, first_rises, objects_rise}
-use Rattle.json_tape.proofs.Conditions.{both}
 use Rattle.json_tape.proofs.Elements.{object_here}
 use Rattle.json_tape.proofs.Spelled.{found_again}
 
@@ -56,16 +49,13 @@ begins_with j ts = (depth j, ts, value-json_tokens j (depth j) ts (omega arith))
 
 mutual
   value_ordered : (j : json.Json) (ts : List Token) → objects_rise (json_tokens j ++ ts) ≡ true → (is_ordered j ≡ true) × (objects_rise ts ≡ true)
-  value_ordered json.null ts h = (refl, h)
-  value_ordered (json.boolean b) ts h = (refl, h)
-  value_ordered (json.number s) ts h = (refl, h)
-  value_ordered (json.string s) ts h = (refl, h)
   value_ordered (json.array js) ts h = items_ordered js ts h
   value_ordered (json.object ms) ts h =
-      let here = both _ _ h in
+      let here = and_parts _ _ h in
       let begins = begins_with (json.object ms) ts in
       let inside = members_ordered ms ts here.1 in
       (and_from _ _ (sym (rises_is (json_tokens (json.object ms) ++ ts) ms begins) ∙ here.0) inside.0, inside.1)
+  value_ordered j ts h = (refl, h)
 
   items_ordered : (js : json.Items) (ts : List Token) → objects_rise (items_tokens js ++ ts) ≡ true → (are_items_ordered js ≡ true) × (objects_rise ts ≡ true)
   items_ordered json.no_items ts h = (refl, h)

@@ -1,23 +1,13 @@
 -- The data of a value, by the form that the value has in JSON.
 use Rattle.std.proofs.Common.{◌≡◌, ℕ, List, [], ◌∷◌, ◌++◌, Bool, true, false, cond, bytes_eq, not, is_some, Option, Some, None, option_map, option_and_then, Bor, MatchOption, IfNone, Ordering, Less, Equal, Greater, nat_cmp, refl, sym, ap, ◌∙◌, subst, arith, append_assoc}
-use Rattle.std.proofs.lemmas.Slice.Eq.{bytes_eq-Decides}
-use Rattle.std.specs.Cmp.Lexicographic.{slice_cmp}
-use Rattle.std.specs.Ordering.{match_ordering}
+use Rattle.json_tape.proofs.Common.{bytes_eq-Decides, slice_cmp, match_ordering, Token, BeginsWith, InItems, InMembers, NextItem, NextMember, Finds, later_or, json_tokens, items_tokens, depth, value-json_tokens, value-json_tokens_back, Data, Num, null, boolean, number, string, array, object, Items, no_items, item, Members, no_members, member, put, number_of, of_json, of_items, of_members, Spells, is_readable, data_of}
 use Rattle.std.specs.BTreeMap.{insert_entry}
-use Rattle.json.specs.Token.{Token}
 use Rattle.json.specs.Json as json
 use Rattle.json.specs.Find as find
-use Rattle.json.specs.Find.{BeginsWith, InItems, InMembers, NextItem, NextMember, Finds, later_or}
-use Rattle.json.specs.Tree.{json_tokens, items_tokens, depth}
 use Rattle.json.proofs.Found.{Some_inj, opened, items_close, items_go_on}
 use Rattle.json.proofs.Grammar.{closed_array}
-use Rattle.json.proofs.Printed.Trees.{value-json_tokens}
-use Rattle.json.proofs.Unique.Spelling.{value-json_tokens_back}
-use Rattle.serde_json.specs.Data.{Data, Num, null, boolean, number, string, array, object, Items, no_items, item, Members, no_members, member, put}
 use Rattle.serde_json.specs.Find.{get, get_member, as_bool, as_str, as_number, as_array, as_object}
-use Rattle.serde_json.specs.Read.{number_of, of_json, of_items, of_members}
 use Rattle.serde_json.proofs.Views.{get_member-put, get_member-put_other}
-use Rattle.json_tape.specs.Spelled.{Spells, is_readable, data_of}
 use Rattle.json_tape.specs.Value.{json_data, items_of, items_at, members_of, is_blank, Entry, members_data}
 use Rattle.json_tape.specs.declared.value.Value.{Value}
 use Rattle.json_tape.proofs.Spelled.{mapped, chained, readable, spelled_data, spelled_readable}
@@ -33,52 +23,40 @@ Form (json.array js) d = (ds : Items) × (of_items js ≡ Some ds) × (d ≡ arr
 Form (json.object ms) d = (ds : Members) × (of_members ms no_members ≡ Some ds) × (d ≡ object ds)
 
 pub form : (j : json.Json) (d : Data) → of_json j ≡ Some d → Form j d
-form json.null d e = sym (Some_inj _ _ e)
-form (json.boolean b) d e = sym (Some_inj _ _ e)
 form (json.number s) d e = let n = mapped number (number_of s) d e in (n.0, n.1, sym n.2)
-form (json.string s) d e = sym (Some_inj _ _ e)
 form (json.array js) d e = let ds = mapped array (of_items js) d e in (ds.0, ds.1, sym ds.2)
 form (json.object ms) d e = let ds = mapped object (of_members ms no_members) d e in (ds.0, ds.1, sym ds.2)
+form j d e = sym (Some_inj _ _ e)
 
 str_form : (j : json.Json) (d : Data) → Form j d → find.as_str j ≡ as_str d
-str_form json.null d f = ap as_str (sym f)
-str_form (json.boolean b) d f = ap as_str (sym f)
 str_form (json.number s) d f = ap as_str (sym f.2)
-str_form (json.string s) d f = ap as_str (sym f)
 str_form (json.array js) d f = ap as_str (sym f.2)
 str_form (json.object ms) d f = ap as_str (sym f.2)
+str_form j d f = ap as_str (sym f)
 
 bool_form : (j : json.Json) (d : Data) → Form j d → find.as_bool j ≡ as_bool d
-bool_form json.null d f = ap as_bool (sym f)
-bool_form (json.boolean b) d f = ap as_bool (sym f)
 bool_form (json.number s) d f = ap as_bool (sym f.2)
-bool_form (json.string s) d f = ap as_bool (sym f)
 bool_form (json.array js) d f = ap as_bool (sym f.2)
 bool_form (json.object ms) d f = ap as_bool (sym f.2)
+bool_form j d f = ap as_bool (sym f)
 
 number_form : (j : json.Json) (d : Data) → Form j d → option_and_then number_of (find.as_number j) ≡ as_number d
-number_form json.null d f = ap as_number (sym f)
-number_form (json.boolean b) d f = ap as_number (sym f)
 number_form (json.number s) d f = f.1 ∙ ap as_number (sym f.2)
-number_form (json.string s) d f = ap as_number (sym f)
 number_form (json.array js) d f = ap as_number (sym f.2)
 number_form (json.object ms) d f = ap as_number (sym f.2)
+number_form j d f = ap as_number (sym f)
 
 no_array : (j : json.Json) (d : Data) → Form j d → find.as_array j ≡ None → as_array d ≡ None
-no_array json.null d f none = ap as_array f
-no_array (json.boolean b) d f none = ap as_array f
 no_array (json.number s) d f none = ap as_array f.2
-no_array (json.string s) d f none = ap as_array f
 no_array (json.array js) d f none = absurd cc
 no_array (json.object ms) d f none = ap as_array f.2
+no_array j d f none = ap as_array f
 
 no_object : (j : json.Json) (d : Data) → Form j d → find.as_object j ≡ None → as_object d ≡ None
-no_object json.null d f none = ap as_object f
-no_object (json.boolean b) d f none = ap as_object f
 no_object (json.number s) d f none = ap as_object f.2
-no_object (json.string s) d f none = ap as_object f
 no_object (json.array js) d f none = ap as_object f.2
 no_object (json.object ms) d f none = absurd cc
+no_object j d f none = ap as_object f
 
 -- ---- a readable value's tokens
 
@@ -100,9 +78,6 @@ module _ (ts : List Token) (h : is_readable ts ≡ true) where
 
 -- ---- the items of an array
 
-first_of : (j k : json.Json) (js ks : json.Items) → json.item j js ≡ json.item k ks → (j ≡ k) × (js ≡ ks)
-first_of j k js ks e = (cc, cc)
-
 in_items_at : (js : json.Items) (ts : List Token) (o : Option (List Token)) → json.after_end_array ts ≡ o → InItems ts js → (rest : List Token) × (ts ≡ items_tokens js ++ rest)
 in_items_at js ts (Some r) e h =
     let closed : ts ≡ Token.end_array ∷ r = closed_array ts r e in
@@ -111,7 +86,7 @@ in_items_at js ts (Some r) e h =
 in_items_at json.no_items ts None e h = let f = items_go_on ts json.no_items e h in absurd cc
 in_items_at (json.item j js) ts None e h =
     let f = items_go_on ts (json.item j js) e h in
-    let same = first_of j f.1 js f.3 f.5 in
+    let same : (j ≡ f.1) × (js ≡ f.3) = (cc f.5, cc f.5) in
     let more = in_items_at js f.2 _ refl (subst (InItems f.2) (sym same.1) f.6) in
     let here : ts ≡ json_tokens j ++ f.2 = value-json_tokens_back f.0 ts f.2 f.1 f.4 ∙ ap (λ k. json_tokens k ++ f.2) (sym same.0) in
     (more.0, here ∙ ap (λ us. json_tokens j ++ us) more.1 ∙ sym (append_assoc (json_tokens j) (items_tokens js) more.0))
@@ -127,12 +102,8 @@ pub bracketed : (ts : List Token) (js : json.Items) (ds : Items) → InItems ts 
 bracketed ts js ds h e = (json.array js, bracket_begins ts js h, ap (option_map array) e)
 
 array_begins : (j : json.Json) (ts rest : List Token) → Token.begin_array ∷ ts ≡ json_tokens j ++ rest → (js : json.Items) × (j ≡ json.array js)
-array_begins json.null ts rest e = absurd cc
-array_begins (json.boolean b) ts rest e = absurd cc
-array_begins (json.number s) ts rest e = absurd cc
-array_begins (json.string s) ts rest e = absurd cc
 array_begins (json.array js) ts rest e = (js, refl)
-array_begins (json.object ms) ts rest e = absurd cc
+array_begins j ts rest e = absurd cc
 
 pub inside : (ts : List Token) → is_readable (Token.begin_array ∷ ts) ≡ true → (js : json.Items) × InItems ts js × (of_items js ≡ Some (items_at ts))
 inside ts h =
@@ -196,12 +167,10 @@ gets k (json.member l j ms) found ds e =
     gets_later k l j first.0 found ds (bytes_eq l k) (find.get_member k ms) refl first.1 (gets k ms (put l first.0 found) ds first.2)
 
 get_form : (k : List ℕ) (j : json.Json) (d : Data) → Form j d → Gets (find.get k j) None (get k d)
-get_form k json.null d f = ap (get k) f
-get_form k (json.boolean b) d f = ap (get k) f
 get_form k (json.number s) d f = ap (get k) f.2
-get_form k (json.string s) d f = ap (get k) f
 get_form k (json.array js) d f = ap (get k) f.2
 get_form k (json.object ms) d f = rw f.2 (gets k ms no_members f.0 f.1)
+get_form k j d f = ap (get k) f
 
 pub found_member : (k : List ℕ) (ts e : List Token) → is_readable ts ≡ true → ((j : json.Json) → BeginsWith ts j → Finds (Some e) (find.get k j)) → (is_readable e ≡ true) × (Some (data_of e) ≡ get k (data_of ts))
 found_member k ts e h is =
@@ -222,14 +191,9 @@ abbrev IsFilled : Members → Type 0
 IsFilled no_members = ⊥
 IsFilled (member k d ms) = Unit {0}
 
-filled_by : (o : Ordering) (a b c : Members) → IsFilled a → IsFilled b → IsFilled c → IsFilled (match_ordering o a b c)
-filled_by Less a b c p q r = p
-filled_by Equal a b c p q r = q
-filled_by Greater a b c p q r = r
-
 put_fills : (k : List ℕ) (d : Data) (ms : Members) → IsFilled (put k d ms)
 put_fills k d no_members = tt
-put_fills k d (member l e ms) = filled_by (slice_cmp nat_cmp k l) _ _ _ tt tt tt
+put_fills k d (member l e ms) = elim (slice_cmp nat_cmp k l) as (λ o. IsFilled (match_ordering o (member k d (member l e ms)) (member l d ms) (member l e (put k d ms)))) [ Less ↦ tt | Equal ↦ tt | Greater ↦ tt ]
 
 stays_filled : (ms : json.Members) (found ds : Members) → IsFilled found → of_members ms found ≡ Some ds → IsFilled ds
 stays_filled json.no_members found ds h e = subst IsFilled (Some_inj _ _ e) h
@@ -242,12 +206,8 @@ filled_is no_members h = absurd h
 filled_is (member k d ms) h = refl
 
 not_blank : (d : Data) → as_object d ≡ None → is_blank d ≡ false
-not_blank null e = refl
-not_blank (boolean b) e = refl
-not_blank (number n) e = refl
-not_blank (string s) e = refl
-not_blank (array ds) e = refl
 not_blank (object ms) e = absurd cc
+not_blank d e = refl
 
 module _ (ts : List Token) (h : is_readable ts ≡ true) where
   object_of : (rest : List Token) → ((j : json.Json) → BeginsWith ts j → (ms : json.Members) × (j ≡ json.object ms) × InMembers rest ms)
@@ -288,12 +248,8 @@ abbrev pub AreLeft : List Token → Members → Members → Type 0
 AreLeft rest found all = (ms : json.Members) × InMembers rest ms × (of_members ms found ≡ Some all)
 
 no_members_of : (d : Data) → as_object d ≡ None → members_of d ≡ no_members
-no_members_of null e = refl
-no_members_of (boolean b) e = refl
-no_members_of (number n) e = refl
-no_members_of (string s) e = refl
-no_members_of (array ds) e = refl
 no_members_of (object ms) e = absurd cc
+no_members_of d e = refl
 
 pub members_begin : (ts rest : List Token) → is_readable ts ≡ true → ((j : json.Json) → BeginsWith ts j → (ms : json.Members) × (j ≡ json.object ms) × InMembers rest ms) → AreLeft rest no_members (members_of (data_of ts))
 members_begin ts rest h is = let all = object_of ts h rest is in (all.0, all.1, all.3 ∙ ap (λ d. Some (members_of d)) (sym all.4))
@@ -323,8 +279,7 @@ key_cmp x y = slice_cmp nat_cmp x.now y.now
 
 members_data-match_ordering : (o : Ordering) (a b c : List Entry) → members_data (match_ordering o a b c) ≡ match_ordering o (members_data a) (members_data b) (members_data c)
 members_data-match_ordering Less a b c = refl
-members_data-match_ordering Equal a b c = refl
-members_data-match_ordering Greater a b c = refl
+members_data-match_ordering o a b c = refl
 
 members_data-insert_entry : (es : List Entry) (k : Bor (List ℕ)) (v : Value) → members_data (insert_entry key_cmp es k v) ≡ put k.now (json_data v) (members_data es)
 members_data-insert_entry [] k v = refl
@@ -348,6 +303,5 @@ module _ (ts : List Token) (h : is_readable ts ≡ true) where
   pub blank_value : (b : Bool) (rest new : List Token) (r : Option (Bor (List ℕ) × List Token)) → ((j : json.Json) → BeginsWith ts j → (ms : json.Members) × (j ≡ json.object ms) × InMembers rest ms)
       → NextMember rest (option_map (λ m. (m.0.now, m.1)) r) new → is_some r ≡ not b → b ≡ is_blank (data_of ts)
   blank_value true rest new None is steps e = blank_object ts h rest new is steps
-  blank_value false rest new None is steps e = absurd cc
-  blank_value true rest new (Some m) is steps e = absurd cc
   blank_value false rest new (Some m) is steps e = filled_object ts h rest new (m.0.now, m.1) is steps
+  blank_value b rest new r is steps e = absurd cc

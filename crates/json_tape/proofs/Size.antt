@@ -1,14 +1,11 @@
 -- A JSON text is made of no more values than it has bytes, and one.
 use Rattle.std.proofs.Common.{◌≡◌, ℕ, zero, suc, ◌+◌, ◌≤◌, List, [], ◌∷◌, length, Option, Some, None, option_map, option_and_then, Ordering, Less, Equal, Greater, refl, subst, arith}
 use Rattle.std.specs.Prelude.{⊤}
-use Rattle.std.specs.Ordering.{match_ordering}
-use Rattle.json.specs.Token.{Token}
-use Rattle.json.specs.Lex.{tokens}
+use Rattle.json_tape.proofs.Common.{match_ordering, Token, tokens, number_of, of_json, of_items, of_members, max_depth, read}
 use Rattle.json.specs.Json as json
 use Rattle.json.specs.Json.{Parse, parse_map, after_end_array, read_key, items_step, members_step, value_with}
 use Rattle.json.proofs.Grammar.{after_end_array-shorter, read_key-shorter}
 use Rattle.serde_json.specs.Data as d
-use Rattle.serde_json.specs.Read.{number_of, of_json, of_items, of_members, max_depth, read}
 use Rattle.json_tape.specs.Size.{size, items_size, members_size}
 use Rattle.json_tape.proofs.Tokens.{fewer_tokens}
 
@@ -16,12 +13,9 @@ use Rattle.json_tape.proofs.Tokens.{fewer_tokens}
 
 abbrev mutual
   weight : json.Json → ℕ
-  weight json.null = 1
-  weight (json.boolean b) = 1
-  weight (json.number s) = 1
-  weight (json.string s) = 1
   weight (json.array js) = items_weight js + 1
   weight (json.object ms) = members_weight ms + 1
+  weight j = 1
 
   items_weight : json.Items → ℕ
   items_weight json.no_items = 0
@@ -73,17 +67,13 @@ module _ (p : Parse json.Json) (within : Within weight p) where
   Within-members (suc n) ts = member_turn (json.members p n) (Within-members n) ts (read_key ts) refl
 
 one_level : (a : Parse json.Items) (o : Parse json.Members) → Within items_weight a → Within members_weight o → Within weight (value_with a o)
-one_level a o p q [] = tt
 one_level a o p q (Token.begin_object ∷ ts) = mapped members_weight weight (length ts) (suc (length ts)) json.object (λ x l y. omega arith) (o ts) (q ts)
-one_level a o p q (Token.end_object ∷ ts) = tt
 one_level a o p q (Token.begin_array ∷ ts) = mapped items_weight weight (length ts) (suc (length ts)) json.array (λ x l y. omega arith) (a ts) (p ts)
-one_level a o p q (Token.end_array ∷ ts) = tt
-one_level a o p q (Token.key s ∷ ts) = tt
 one_level a o p q (Token.string s ∷ ts) = omega arith
 one_level a o p q (Token.number s ∷ ts) = omega arith
 one_level a o p q (Token.boolean b ∷ ts) = omega arith
 one_level a o p q (Token.null ∷ ts) = omega arith
-one_level a o p q (Token.bad ∷ ts) = tt
+one_level a o p q ts = tt
 
 Within-value : (n : ℕ) → Within weight (json.value n)
 unfolding json.value
@@ -122,12 +112,10 @@ put_at_most k x (d.member l e ms) =
 
 mutual
   of_json_at_most : (j : json.Json) (n : ℕ) → weight j ≤ n → AtMost size n (of_json j)
-  of_json_at_most json.null n h = omega arith
-  of_json_at_most (json.boolean b) n h = omega arith
   of_json_at_most (json.number s) n h = AtMost-map (λ _. 0) size 0 n d.number (λ a x. omega arith) (number_of s) (flat _)
-  of_json_at_most (json.string s) n h = omega arith
   of_json_at_most (json.array js) n h = AtMost-map items_size size (items_weight js) n d.array (λ a x. omega arith) _ (of_items_at_most js _ (omega arith))
   of_json_at_most (json.object ms) n h = AtMost-map members_size size (members_weight ms) n d.object (λ a x. omega arith) _ (of_members_at_most ms d.no_members _ (omega arith))
+  of_json_at_most j n h = omega arith
 
   of_items_at_most : (js : json.Items) (n : ℕ) → items_weight js ≤ n → AtMost items_size n (of_items js)
   of_items_at_most json.no_items n h = omega arith
@@ -140,9 +128,8 @@ mutual
       AtMost-and_then size members_size (weight j) n _ (λ x p. of_members_at_most ms (d.put name x found) n (omega (arith, put_at_most name x found))) _ (of_json_at_most j _ (omega arith))
 
 last_at_most : (o : Option (json.Json × List Token)) (n : ℕ) → Spends weight n o → AtMost weight n (option_and_then (λ p. json.if_last p.0 p.1) o)
-last_at_most None n h = tt
 last_at_most (Some (j, [])) n h = omega arith
-last_at_most (Some (j, t ∷ r)) n h = tt
+last_at_most o n h = tt
 
 pub read_size : (text : List ℕ) (x : d.Data) → read text ≡ Some x → size x ≤ suc (length text)
 read_size text x e =

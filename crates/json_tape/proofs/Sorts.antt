@@ -1,6 +1,6 @@
 -- What a value is, where it is known as one of the kinds.
 use Rattle.std.proofs.Common.{◌≡◌, Bool, false, List, ℕ, None, Option, Some, is_some, refl}
-use Rattle.serde_json.specs.Data.{Data, Items, Members, Num, array, boolean, null, number, object, string}
+use Rattle.json_tape.proofs.Common.{Data, Items, Members, Num, array, boolean, null, number, string}
 use Rattle.serde_json.specs.Find.{as_array, as_bool, as_number, as_object, as_str}
 
 pub is_string : (d : Data) (s : List ℕ) → Some s ≡ as_str d → d ≡ string s
@@ -21,11 +21,7 @@ is_bool d b h = absurd (cc)
 
 pub is_null : (d : Data) → None ≡ as_str d → None ≡ as_array d → None ≡ as_object d → None ≡ as_number d → None ≡ as_bool d → d ≡ null
 is_null null a b c e f = refl
-is_null (boolean t) a b c e f = absurd (cc)
-is_null (number n) a b c e f = absurd (cc)
-is_null (string s) a b c e f = absurd (cc)
-is_null (array its) a b c e f = absurd (cc)
-is_null (object ms) a b c e f = absurd (cc)
+is_null d a b c e f = absurd (cc)
 
 pub no_object : (o : Option Members) → false ≡ is_some o → None ≡ o
 no_object None h = refl

@@ -1,19 +1,12 @@
 -- What tokens spell: a whole text, and the data of one value.
-use Rattle.std.proofs.Common.{◌≡◌, ℕ, suc, ◌+◌, ◌-◌, ◌<◌, ◌≤◌, List, [], ◌∷◌, ◌++◌, length, Bool, true, false, ◌&&◌, nat_lt, is_some, if◌then◌else◌, Option, Some, None, option_map, option_and_then, unwrap_or, refl, sym, ap, ◌∙◌, arith, append_assoc, length-append}
-use Rattle.std.proofs.lemmas.Bool.{and_from, ltb-true, lt-ltb}
-use Rattle.json.specs.Token.{Token}
-use Rattle.json.specs.Lex.{tokens}
+use Rattle.std.proofs.Common.{◌≡◌, ℕ, suc, ◌+◌, ◌-◌, ◌<◌, ◌≤◌, List, [], ◌++◌, length, Bool, true, false, ◌&&◌, nat_lt, is_some, if◌then◌else◌, Option, Some, None, option_map, option_and_then, unwrap_or, refl, sym, ap, ◌∙◌, arith, append_assoc, length-append}
+use Rattle.std.proofs.lemmas.Bool.{and_parts, and_from, ltb-true, lt-ltb}
+use Rattle.json_tape.proofs.Common.{Token, tokens, BeginsWith, HasValue, value-json_tokens, value-json_tokens_back, Data, null, boolean, number, string, array, object, Items, no_items, item, Members, no_members, put, number_of, of_json, of_items, of_members, max_depth, read}
 use Rattle.json.specs.Json as json
-use Rattle.json.specs.Find.{BeginsWith, HasValue}
 use Rattle.json.specs.Tree.{json_tokens, items_tokens, members_tokens, depth, items_depth, members_depth}
 use Rattle.json.proofs.Nesting.{value-depth}
 use Rattle.json.proofs.Found.{Some_inj, document-BeginsWith}
-use Rattle.json.proofs.Printed.Trees.{value-json_tokens}
-use Rattle.json.proofs.Unique.Spelling.{value-json_tokens_back}
-use Rattle.serde_json.specs.Data.{Data, null, boolean, number, string, array, object, Items, no_items, item, Members, no_members, put}
-use Rattle.serde_json.specs.Read.{number_of, of_json, of_items, of_members, max_depth, read}
 use Rattle.json_tape.specs.Spelled.{Spells, spelled, is_readable, data_of, are_sound, held}
-use Rattle.json_tape.proofs.Conditions.{both}
 
 -- ---- what an option holds
 
@@ -33,12 +26,9 @@ there (Some a) e = (a, refl)
 
 mutual
   pub depth_length : (j : json.Json) → depth j ≤ length (json_tokens j)
-  depth_length json.null = omega arith
-  depth_length (json.boolean b) = omega arith
-  depth_length (json.number s) = omega arith
-  depth_length (json.string s) = omega arith
   depth_length (json.array js) = omega (arith, items_depth_length js)
   depth_length (json.object ms) = omega (arith, members_depth_length ms)
+  depth_length j = omega arith
 
   items_depth_length : (js : json.Items) → items_depth js ≤ length (items_tokens js)
   items_depth_length json.no_items = omega arith
@@ -83,7 +73,7 @@ up : (levels : ℕ) (ts : List Token) → are_sound (suc levels - 1) ts ≡ are_
 up levels ts = let e : suc levels - 1 ≡ levels = omega arith in ap (λ n. are_sound n ts) e
 
 begun : (levels : ℕ) (ts : List Token) → (nat_lt levels max_depth && are_sound (suc levels) ts) ≡ true → (levels < max_depth) × (are_sound (suc levels) ts ≡ true)
-begun levels ts h = let p = both _ _ h in (ltb-true levels max_depth p.0, p.1)
+begun levels ts h = let p = and_parts _ _ h in (ltb-true levels max_depth p.0, p.1)
 
 mutual
   sound_value : (j : json.Json) (levels : ℕ) (ts : List Token) → levels ≤ max_depth → are_sound levels (json_tokens j ++ ts) ≡ true
@@ -91,7 +81,7 @@ mutual
   sound_value json.null levels ts h s = (omega arith, s, null, refl)
   sound_value (json.boolean b) levels ts h s = (omega arith, s, boolean b, refl)
   sound_value (json.number t) levels ts h s =
-      let p = both _ _ s in
+      let p = and_parts _ _ s in
       let n = there (number_of t) p.0 in
       (omega arith, p.1, number n.0, ap (option_map number) n.1)
   sound_value (json.string t) levels ts h s = (omega arith, s, string t, refl)
@@ -123,16 +113,14 @@ mutual
 
 mutual
   value_sound : (j : json.Json) (d : Data) (levels : ℕ) (ts : List Token) → levels + depth j ≤ max_depth → of_json j ≡ Some d → are_sound levels ts ≡ true → are_sound levels (json_tokens j ++ ts) ≡ true
-  value_sound json.null d levels ts h e s = s
-  value_sound (json.boolean b) d levels ts h e s = s
   value_sound (json.number t) d levels ts h e s = let n = mapped number (number_of t) d e in and_from _ _ (ap is_some n.1) s
-  value_sound (json.string t) d levels ts h e s = s
   value_sound (json.array js) d levels ts h e s =
       let inside = mapped array (of_items js) d e in
       and_from _ _ (lt-ltb levels max_depth (omega arith)) (items_sound js inside.0 levels ts (omega arith) inside.1 s)
   value_sound (json.object ms) d levels ts h e s =
       let inside = mapped object (of_members ms no_members) d e in
       and_from _ _ (lt-ltb levels max_depth (omega arith)) (members_sound ms no_members inside.0 levels ts (omega arith) inside.1 s)
+  value_sound j d levels ts h e s = s
 
   items_sound : (js : json.Items) (ds : Items) (levels : ℕ) (ts : List Token) → suc levels + items_depth js ≤ max_depth → of_items js ≡ Some ds → are_sound levels ts ≡ true
       → are_sound (suc levels) (items_tokens js ++ ts) ≡ true
@@ -154,9 +142,8 @@ mutual
 -- ---- a whole text
 
 last : (o : Option (json.Json × List Token)) (j : json.Json) → option_and_then (λ p. json.if_last p.0 p.1) o ≡ Some j → o ≡ Some (j, [])
-last None j e = absurd cc
 last (Some (i, [])) j e = ap (λ x. Some (x, [])) (Some_inj i j e)
-last (Some (i, t ∷ ts)) j e = absurd cc
+last o j e = absurd cc
 
 read_is : (text : List ℕ) (j : json.Json) → json.value max_depth (tokens text) ≡ Some (j, []) → read text ≡ of_json j
 read_is text j e = ap (λ o. option_and_then of_json (option_and_then (λ p. json.if_last p.0 p.1) o)) e

@@ -1,26 +1,17 @@
 -- A text has no more tokens than bytes.
 use Rattle.std.proofs.Common.{◌≡◌, ℕ, suc, ◌+◌, ◌≤◌, List, [], ◌∷◌, length, Bool, true, false, refl, arith}
-use Rattle.json.specs.Token.{Token, begin_object, end_object, begin_array, end_array, key, string, number, boolean, null, bad}
-use Rattle.json.specs.Lex.{tokens, lex, lex_byte, class, Class, quote, backslash, operator, space, other, Mode, between, in_word, in_string, in_escape, Lexeme, token, comma, colon, punctuate, place_token, if_allowed, may_begin, may_close, begins_colon, Place, fresh, after_value, after_comma, after_key}
+use Rattle.json.specs.Token.{Token, begin_object, end_object, begin_array, end_array, key, string, bad}
+use Rattle.json.specs.Lex.{tokens, lex, lex_byte, class, Class, quote, operator, Mode, between, in_word, in_string, in_escape, Lexeme, token, comma, colon, punctuate, place_token, if_allowed, may_begin, may_close, begins_colon, Place, fresh, after_value, after_comma, after_key}
 
 -- ---- a lexeme takes a byte
 
 lexemes : (m : Mode) (c : Class) (x : ℕ) (xs : List ℕ) (k : Mode → List Lexeme) (n : ℕ) → ((next : Mode) → length (k next) ≤ n) → length (lex_byte m c x xs k) ≤ suc n
 lexemes between quote x xs k n h = omega (arith, h in_string)
-lexemes between backslash x xs k n h = omega (arith, h in_word)
-lexemes between operator x xs k n h = omega (arith, h between)
-lexemes between space x xs k n h = omega (arith, h between)
-lexemes between other x xs k n h = omega (arith, h in_word)
-lexemes in_word quote x xs k n h = omega (arith, h in_word)
-lexemes in_word backslash x xs k n h = omega (arith, h in_word)
+lexemes between c x xs k n h = omega (arith, h between, h in_word)
 lexemes in_word operator x xs k n h = omega (arith, h between)
-lexemes in_word space x xs k n h = omega (arith, h between)
-lexemes in_word other x xs k n h = omega (arith, h in_word)
+lexemes in_word c x xs k n h = omega (arith, h between, h in_word)
 lexemes in_string quote x xs k n h = omega (arith, h between)
-lexemes in_string backslash x xs k n h = omega (arith, h in_escape)
-lexemes in_string operator x xs k n h = omega (arith, h in_string)
-lexemes in_string space x xs k n h = omega (arith, h in_string)
-lexemes in_string other x xs k n h = omega (arith, h in_string)
+lexemes in_string c x xs k n h = omega (arith, h in_string, h in_escape)
 lexemes in_escape c x xs k n h = omega (arith, h in_string)
 
 lex_length : (xs : List ℕ) (m : Mode) → length (lex m xs) ≤ length xs
@@ -42,18 +33,14 @@ placed p begin_array b k n f v h = allowed (may_begin p) begin_array k fresh n f
 placed p end_array b k n f v h = allowed (may_close p) end_array k after_value n v
 placed p (key s) b k n f v h = omega arith
 placed p (string s) true k n f v h = allowed (may_begin p) (key s) k after_key n (h refl)
-placed p (string s) false k n f v h = allowed (may_begin p) (string s) k after_value n v
-placed p (number s) b k n f v h = allowed (may_begin p) (number s) k after_value n v
-placed p (boolean x) b k n f v h = allowed (may_begin p) (boolean x) k after_value n v
-placed p null b k n f v h = allowed (may_begin p) null k after_value n v
 placed p bad b k n f v h = omega arith
+placed p t b k n f v h = allowed (may_begin p) t k after_value n v
 
 -- behind a comma or a key a text may end with one bad token more
 abbrev more : Place → ℕ
-more fresh = 0
-more after_value = 0
 more after_comma = 1
 more after_key = 1
+more p = 0
 
 one_token : (ls : List Lexeme) (p : Place) (t : Token) → length (punctuate fresh ls) ≤ length ls + 0 → length (punctuate after_value ls) ≤ length ls + 0 → (begins_colon ls ≡ true → length (punctuate after_key ls) ≤ length ls)
     → length (place_token p t (begins_colon ls) (λ next. punctuate next ls)) ≤ suc (length ls)
@@ -64,27 +51,14 @@ mutual
 
   punctuated : (ls : List Lexeme) (p : Place) → length (punctuate p ls) ≤ length ls + more p
   punctuated [] fresh = omega arith
-  punctuated [] after_value = omega arith
-  punctuated [] after_comma = omega arith
-  punctuated [] after_key = omega arith
-  punctuated (token t ∷ ls) fresh = omega (arith, one_token ls fresh t (punctuated ls fresh) (punctuated ls after_value) (before_colon ls))
-  punctuated (token t ∷ ls) after_value = omega (arith, one_token ls after_value t (punctuated ls fresh) (punctuated ls after_value) (before_colon ls))
-  punctuated (token t ∷ ls) after_comma = omega (arith, one_token ls after_comma t (punctuated ls fresh) (punctuated ls after_value) (before_colon ls))
-  punctuated (token t ∷ ls) after_key = omega (arith, one_token ls after_key t (punctuated ls fresh) (punctuated ls after_value) (before_colon ls))
-  punctuated (comma ∷ ls) fresh = omega arith
+  punctuated (token t ∷ ls) p = omega (arith, one_token ls p t (punctuated ls fresh) (punctuated ls after_value) (before_colon ls))
   punctuated (comma ∷ ls) after_value = omega (arith, punctuated ls after_comma)
-  punctuated (comma ∷ ls) after_comma = omega arith
-  punctuated (comma ∷ ls) after_key = omega arith
-  punctuated (colon ∷ ls) fresh = omega arith
-  punctuated (colon ∷ ls) after_value = omega arith
-  punctuated (colon ∷ ls) after_comma = omega arith
   punctuated (colon ∷ ls) after_key = omega (arith, punctuated ls fresh)
+  punctuated ls p = omega arith
 
   before_colon : (ls : List Lexeme) → begins_colon ls ≡ true → length (punctuate after_key ls) ≤ length ls
-  before_colon [] h = absurd cc
-  before_colon (token t ∷ ls) h = absurd cc
-  before_colon (comma ∷ ls) h = absurd cc
   before_colon (colon ∷ ls) h = omega (arith, punctuated ls fresh)
+  before_colon ls h = absurd cc
 
 pub fewer_tokens : (text : List ℕ) → length (tokens text) ≤ length text
 fewer_tokens text = omega (arith, punctuated (lex between text) fresh, lex_length text between)

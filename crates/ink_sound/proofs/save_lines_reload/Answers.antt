@@ -1,5 +1,5 @@
 use Rattle.std.proofs.Common.{refl}
-use Rattle.ink_model.specs.Save.Spelling.{spelling}
+use Rattle.ink_sound.proofs.Common.{spelling}
 use Rattle.ink_sound.proofs.Orderly.{load_line, saved_answer, spelled_back}
 use Rattle.ink_sound.proofs.save_lines_reload.Goals as goal
 

@@ -1,6 +1,5 @@
 use Rattle.std.proofs.Common.{inl, refl, subst}
-use Rattle.ink_sound.proofs.Common.{Game, spelling}
-use Rattle.ink_model.specs.Save.Reads.{Reads}
+use Rattle.ink_sound.proofs.Common.{Game, spelling, Reads}
 use Rattle.ink_sound.specs.Kept.{ConditionFits}
 use Rattle.ink_sound.proofs.Respelling.{reads_back}
 use Rattle.ink_sound.proofs.Sessions.{session_states}

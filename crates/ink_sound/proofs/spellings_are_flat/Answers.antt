@@ -1,5 +1,5 @@
-use Rattle.ink_sound.proofs.Orderly.{spelling_deep}
+use Rattle.ink_sound.proofs.Flat.{spelling_flat}
 use Rattle.ink_sound.proofs.spellings_are_flat.Goals as goal
 
 pub returns : goal.returns
-returns c = spelling_deep
+returns c = λ g. (spelling_flat g).0

@@ -1,6 +1,6 @@
 use Rattle.std.proofs.Common.{sym, ap, ◌∙◌, subst, arith, ⊎_elim}
 use Rattle.json.specs.Json.{value}
-use Rattle.json.specs.Tape.{LinkAt}
+use Rattle.json_tape.proofs.Common.{LinkAt}
 use Rattle.json_tape.proofs.Elements.{ends_by_link, ends_alone}
 use Rattle.json_tape.proofs.element.behind.Goals as goal
 

@@ -1,6 +1,6 @@
 use Rattle.std.proofs.Common.{refl, sym, ap, ◌∙◌}
 use Rattle.json_tape.proofs.Rise.{goes_on, falls}
-use Rattle.json_tape.specs.Rise.{names_rise}
+use Rattle.json_tape.proofs.Common.{names_rise}
 use Rattle.json_tape.proofs.element.names_rise.Goals as goal
 
 pub loop-name-init : goal.loop-name-init

@@ -1,7 +1,6 @@
 use Rattle.std.proofs.Common.{◌≡◌, length, None, option_map}
 use Rattle.json.specs.Json.{Members}
-use Rattle.json.specs.Find.{InMembers}
-use Rattle.json_tape.specs.Rise.{names_rise}
+use Rattle.json_tape.proofs.Common.{InMembers, names_rise}
 use Rattle.json_tape.proofs.element.names_rise.Given as goal
 
 -- all rise where those that are left do, behind the one before them

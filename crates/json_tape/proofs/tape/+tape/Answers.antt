@@ -1,12 +1,10 @@
-use Rattle.std.proofs.Common.{◌≡◌, ◌-◌, [], ◌∷◌, length, Some, None, Result, Ok, Err, OnOk, sym, ap, ap₂, ◌∙◌, subst, arith}
-use Rattle.std.proofs.lemmas.List.{length-append}
-use Rattle.json.specs.Token.{Token}
+use Rattle.std.proofs.Common.{◌≡◌, ◌-◌, [], ◌∷◌, length, Some, None, sym, ap, ap₂, ◌∙◌, subst, arith}
+use Rattle.std.proofs.lemmas.Result.{on_ok_weaker}
+use Rattle.json_tape.proofs.Common.{length-append, Token, token_of, skip_items, skip_members, Moves}
 use Rattle.json.specs.Json.{after_end_array, read_key, value, skip_value}
-use Rattle.json.specs.Reads.{token_of, skip_items, skip_members}
 use Rattle.json.specs.Tape.{Grown}
 use Rattle.json.specs.declared.tape.Node.TheVariants.{Object, Array, Key}
 use Rattle.json.proofs.Grammar.{left, left-parse_map, left_none, value_is, value-begin_array, value-begin_object, after_end_array-shorter, read_key-shorter, items_fail, members_no_key, members_fail}
-use Rattle.json_tape.specs.Tape.{Moves}
 use Rattle.json_tape.proofs.Moves.{grown_length, item_turn, member_turn, items_closed, members_closed}
 use Rattle.json_tape.proofs.tape.+tape.Goals as goal
 
@@ -142,17 +140,13 @@ value-returns-then-depth-eq0-clause-invalid t c invalid =
     let none : c.args.depth ≡ 0 = omega arith in
     ap₂ skip_value none (c.in-Some.ensures.value ∙ ap (λ k. token_of k ∷ c.next.new.self) c.in-BeginArray.is)
 
-on_ok : {A E : Type 0} (r : Result A E) {P Q : Type 0} → (P → Q) → OnOk r P → OnOk r Q
-on_ok (Ok a) f h = f h
-on_ok (Err e) f h = h
-
 pub value-returns-else-depth-eq0-clause-ok : goal.value-returns-else-depth-eq0-clause-ok
 value-returns-else-depth-eq0-clause-ok t c =
     let inner = c.next.new.self in
     let r = c.items.new.reader in
     let opened : c.args.reader.now ≡ Token.begin_array ∷ inner = c.in-Some.ensures.value ∙ ap (λ k. token_of k ∷ inner) c.in-BeginArray.is in
     let same : skip_value c.args.depth c.args.reader.now ≡ skip_items (c.args.depth - 1) inner = ap (skip_value c.args.depth) opened ∙ ap left (value-begin_array c.args.depth inner (omega arith)) ∙ left-parse_map _ _ in
-    on_ok c.items.result (λ h. (subst (λ ts. Grown c.args.nodes.now ts c.items.new.nodes r) (sym opened) h.0, same ∙ h.1)) c.items.ensures.ok
+    on_ok_weaker c.items.result (λ h. (subst (λ ts. Grown c.args.nodes.now ts c.items.new.nodes r) (sym opened) h.0, same ∙ h.1)) c.items.ensures.ok
 
 pub value-returns-else-depth-eq0-clause-invalid : goal.value-returns-else-depth-eq0-clause-invalid
 value-returns-else-depth-eq0-clause-invalid t c invalid =
@@ -172,7 +166,7 @@ value-returns-else-depth-eq0-2-clause-ok t c =
     let r = c.members.new.reader in
     let opened : c.args.reader.now ≡ Token.begin_object ∷ inner = c.in-Some.ensures.value ∙ ap (λ k. token_of k ∷ inner) c.in-BeginObject.is in
     let same : skip_value c.args.depth c.args.reader.now ≡ skip_members (c.args.depth - 1) inner = ap (skip_value c.args.depth) opened ∙ ap left (value-begin_object c.args.depth inner (omega arith)) ∙ left-parse_map _ _ in
-    on_ok c.members.result (λ h. (subst (λ ts. Grown c.args.nodes.now ts c.members.new.nodes r) (sym opened) h.0, same ∙ h.1)) c.members.ensures.ok
+    on_ok_weaker c.members.result (λ h. (subst (λ ts. Grown c.args.nodes.now ts c.members.new.nodes r) (sym opened) h.0, same ∙ h.1)) c.members.ensures.ok
 
 pub value-returns-else-depth-eq0-2-clause-invalid : goal.value-returns-else-depth-eq0-2-clause-invalid
 value-returns-else-depth-eq0-2-clause-invalid t c invalid =

@@ -1,10 +1,8 @@
 use Rattle.std.proofs.Common.{◌≡◌, ◌∷◌, true, false, sym, ap, ◌∙◌, subst, arith}
-use Rattle.json.specs.Reads.{token_of}
-use Rattle.json.specs.Token.{Token}
+use Rattle.json_tape.proofs.Common.{token_of, Token, Moves}
 use Rattle.json.specs.declared.token.Token.TheVariants as tokens
 use Rattle.json.specs.declared.tape.Node.TheVariants.{String, Number, Bool, Null}
 use Rattle.json.proofs.Grammar.{left, value_is}
-use Rattle.json_tape.specs.Tape.{Moves}
 use Rattle.json_tape.proofs.Moves.{moved}
 use Rattle.json_tape.proofs.tape.leaf.Goals as goal
 

@@ -1,5 +1,5 @@
 use Rattle.std.proofs.Common.{◌≡◌, drop}
-use Rattle.json_tape.specs.Spelled.{are_sound}
+use Rattle.json_tape.proofs.Common.{are_sound}
 use Rattle.json_tape.proofs.value.are_sound.Given as goal
 
 -- all are sound where those that are left are

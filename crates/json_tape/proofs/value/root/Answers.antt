@@ -1,5 +1,5 @@
 use Rattle.std.proofs.Common.{◌≡◌, true, sym, ap, ◌∙◌}
-use Rattle.json_tape.specs.Spelled.{are_sound}
+use Rattle.json_tape.proofs.Common.{are_sound}
 use Rattle.json_tape.proofs.Spelled.{sound_readable}
 use Rattle.json_tape.proofs.value.root.Goals as goal
 

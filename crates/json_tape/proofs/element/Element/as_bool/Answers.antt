@@ -1,5 +1,5 @@
 use Rattle.std.proofs.Common.{sym, ap, ◌∙◌}
-use Rattle.json.specs.Tape.{node_token}
+use Rattle.json_tape.proofs.Common.{node_token}
 use Rattle.json_tape.proofs.Elements.{bool_in, bool_is, no_bool}
 use Rattle.json_tape.proofs.element.Element.as_bool.Goals as goal
 

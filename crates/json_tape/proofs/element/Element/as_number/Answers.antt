@@ -1,5 +1,5 @@
 use Rattle.std.proofs.Common.{sym, ap, ◌∙◌}
-use Rattle.json.specs.Tape.{node_token}
+use Rattle.json_tape.proofs.Common.{node_token}
 use Rattle.json_tape.proofs.Elements.{number_in, number_is, no_number}
 use Rattle.json_tape.proofs.element.Element.as_number.Goals as goal
 

@@ -1,5 +1,5 @@
 use Rattle.std.proofs.Common.{sym, ap, ◌∙◌}
-use Rattle.json.specs.Tape.{node_token}
+use Rattle.json_tape.proofs.Common.{node_token}
 use Rattle.json_tape.proofs.Elements.{str_in, str_is, no_str}
 use Rattle.json_tape.proofs.element.Element.as_str.Goals as goal
 

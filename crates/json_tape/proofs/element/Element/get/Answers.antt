@@ -1,5 +1,5 @@
 use Rattle.std.proofs.Common.{None, Some, refl, sym, ap, ◌∙◌, subst, arith}
-use Rattle.json.specs.Find.{Finds, later_or, get_member, get}
+use Rattle.json_tape.proofs.Common.{Finds, later_or, get_member, get}
 use Rattle.json_tape.proofs.Elements.{get_nothing, or_nothing, found_now, passed_by}
 use Rattle.json_tape.proofs.element.Element.get.Goals as goal
 

@@ -1,6 +1,6 @@
 use Rattle.std.proofs.Common.{◌≡◌, length, Option}
 use Rattle.json.specs.Json.{Json, Members}
-use Rattle.json.specs.Find.{BeginsWith, InMembers, Finds, later_or, get_member, get}
+use Rattle.json_tape.proofs.Common.{BeginsWith, InMembers, Finds, later_or, get_member, get}
 use Rattle.json_tape.proofs.element.Element.get.Given as goal
 
 -- what is found among those that are left, or before them

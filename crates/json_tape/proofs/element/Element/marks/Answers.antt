@@ -1,5 +1,5 @@
 use Rattle.std.proofs.Common.{◌∙◌, ap}
-use Rattle.json.specs.Find.{get, get_member}
+use Rattle.json_tape.proofs.Common.{get, get_member}
 use Rattle.json_tape.proofs.Elements.{get_nothing, unmarked}
 use Rattle.json_tape.proofs.element.Element.marks.Goals as goal
 

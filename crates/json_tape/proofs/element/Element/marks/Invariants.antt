@@ -1,7 +1,6 @@
 use Rattle.std.proofs.Common.{◌≡◌, ℕ, List, get_or, length}
 use Rattle.json.specs.Json.{Json, Members}
-use Rattle.json.specs.Find.{BeginsWith, InMembers, get_member, get}
-use Rattle.json_tape.specs.Marks.{slot}
+use Rattle.json_tape.proofs.Common.{BeginsWith, InMembers, get_member, get, slot}
 use Rattle.json_tape.proofs.element.Element.marks.Given as goal
 
 -- a name without a mark is looked for among those that are left

@@ -1,5 +1,5 @@
 use Rattle.std.proofs.Common.{refl, sym, ap, ◌∙◌}
-use Rattle.json_tape.specs.Rise.{objects_rise}
+use Rattle.json_tape.proofs.Common.{objects_rise}
 use Rattle.json_tape.proofs.Rise.{object_rises, no_object_rises}
 use Rattle.json_tape.proofs.element.Element.objects_rise.Goals as goal
 use Rattle.json_tape.proofs.element.Element.objects_rise.Goals.{in-Object+else-not-names_rise, in_default}

@@ -1,5 +1,5 @@
 use Rattle.std.proofs.Common.{◌≡◌, drop}
-use Rattle.json_tape.specs.Rise.{objects_rise}
+use Rattle.json_tape.proofs.Common.{objects_rise}
 use Rattle.json_tape.proofs.element.Element.objects_rise.Given as goal
 
 -- the names rise in all objects where they do in those that are left

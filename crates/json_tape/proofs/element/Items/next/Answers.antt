@@ -1,5 +1,5 @@
 use Rattle.std.proofs.Common.{sym, subst, arith}
-use Rattle.json.specs.Find.{InItems}
+use Rattle.json_tape.proofs.Common.{InItems}
 use Rattle.json_tape.proofs.Elements.{fewer, item_over, no_item_here, item_next}
 use Rattle.json_tape.proofs.element.Items.next.Goals as goal
 

@@ -1,5 +1,5 @@
 use Rattle.std.proofs.Common.{refl, sym, subst, arith}
-use Rattle.json.specs.Find.{InMembers}
+use Rattle.json_tape.proofs.Common.{InMembers}
 use Rattle.json_tape.proofs.Elements.{fewer, member_over, no_member_here, member_next}
 use Rattle.json_tape.proofs.element.Members.next.Goals as goal
 

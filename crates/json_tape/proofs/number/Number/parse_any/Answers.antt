@@ -1,6 +1,6 @@
 use Rattle.std.proofs.Common.{◌≡◌, drop, get_or, true, false, ◌==◌, sym, ap, ◌∙◌, arith, take_all, length-drop}
 use Rattle.fast_float.specs.Text.{scan}
-use Rattle.serde_json.specs.Read.{number_of, number_from}
+use Rattle.json_tape.proofs.Common.{number_of, number_from}
 use Rattle.json_tape.proofs.number.Number.parse_any.Goals as goal
 
 pub returns-then-has_minus : goal.returns-then-has_minus

@@ -1,5 +1,4 @@
-use Rattle.json_tape.specs.Number.{num}
-use Rattle.json_tape.specs.Value.{json_data}
+use Rattle.json_tape.proofs.Common.{num, json_data}
 use Rattle.json_tape.proofs.Sorts.{is_bool, is_null, is_number, is_string}
 use Rattle.json_tape.proofs.ordered.OrderedJson.kind.Goals as goal
 

@@ -1,6 +1,5 @@
 use Rattle.std.proofs.Common.{◌≡◌, ◌+◌, ◌++◌, ◌∷◌, [], get_or, length, slice_set, ap, ap₂, ◌∙◌, sym, subst, arith}
-use Rattle.std.proofs.lemmas.List.{length-append}
-use Rattle.json.specs.declared.tape.Node.TheVariants.{Null}
+use Rattle.json_tape.proofs.Common.{length-append, Null}
 use Rattle.json_tape.specs.Tape.{node_of, nodes_of, IsOpening, leading_to}
 use Rattle.json_tape.proofs.Taped.{many_nodes, as_many, opening_within, still_opening, led_nodes, led_is}
 use Rattle.json_tape.proofs.tape.Entries.close.Goals as goal

@@ -1,5 +1,5 @@
 use Rattle.std.proofs.Common.{◌<◌, length, get_or, ap, ap₂, ◌∙◌, sym, arith}
-use Rattle.json.specs.declared.tape.Node.TheVariants.{Null}
+use Rattle.json_tape.proofs.Common.{Null}
 use Rattle.json_tape.specs.Tape.{node_of, has_text}
 use Rattle.json_tape.proofs.Taped.{many_nodes, as_many, node_at}
 use Rattle.json_tape.proofs.tape.Entries.node.Goals as goal

@@ -1,6 +1,6 @@
 use Rattle.std.proofs.Common.{◌<◌, length, ap, arith}
 use Rattle.std.proofs.lemmas.List.{length-map}
-use Rattle.json.specs.Tape.{node_token}
+use Rattle.json_tape.proofs.Common.{node_token}
 use Rattle.json_tape.proofs.Moves.{here}
 use Rattle.json_tape.proofs.tape.Tape.node.Goals as goal
 

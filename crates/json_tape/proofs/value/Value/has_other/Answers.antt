@@ -1,5 +1,5 @@
 use Rattle.std.proofs.Common.{sym, ◌∙◌}
-use Rattle.json_tape.specs.Value.{json_data, members_of}
+use Rattle.json_tape.proofs.Common.{json_data, members_of}
 use Rattle.json_tape.proofs.Others.{none_at_first, none_after, one_now, none_at_all, none_inside}
 use Rattle.json_tape.proofs.value.Value.has_other.Goals as goal
 

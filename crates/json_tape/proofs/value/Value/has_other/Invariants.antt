@@ -1,5 +1,5 @@
 use Rattle.std.proofs.Common.{length}
-use Rattle.json_tape.specs.Value.{json_data, members_of}
+use Rattle.json_tape.proofs.Common.{json_data, members_of}
 use Rattle.json_tape.proofs.Others.{NoneYet}
 use Rattle.json_tape.proofs.value.Value.has_other.Given as goal
 

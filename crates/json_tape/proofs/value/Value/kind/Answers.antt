@@ -1,5 +1,4 @@
-use Rattle.json_tape.specs.Number.{num}
-use Rattle.json_tape.specs.Value.{items_left, json_data}
+use Rattle.json_tape.proofs.Common.{num, items_left, json_data}
 use Rattle.json_tape.proofs.Sorts.{is_array, is_bool, is_null, is_number, is_string, no_object}
 use Rattle.json_tape.proofs.value.Value.kind.Goals as goal
 

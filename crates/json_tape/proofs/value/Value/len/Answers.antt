@@ -1,6 +1,6 @@
 use Rattle.std.proofs.Common.{ap, arith}
 use Rattle.json_tape.specs.Size.{items_size}
-use Rattle.json_tape.specs.Value.{json_data, items_left, items_count}
+use Rattle.json_tape.proofs.Common.{json_data, items_left, items_count}
 use Rattle.json_tape.proofs.Counts.{items_are, count_within}
 use Rattle.json_tape.proofs.value.Value.len.Goals as goal
 

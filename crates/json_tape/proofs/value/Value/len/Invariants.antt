@@ -1,5 +1,5 @@
 use Rattle.std.proofs.Common.{◌≡◌, ◌+◌, ◌<◌, ◌^◌, length}
-use Rattle.json_tape.specs.Value.{json_data, items_left, items_of, items_count}
+use Rattle.json_tape.proofs.Common.{json_data, items_left, items_of, items_count}
 use Rattle.json_tape.proofs.value.Value.len.Given as goal
 
 -- those that were counted, and those that are left

@@ -1,4 +1,4 @@
-use Rattle.json_tape.specs.Value.{json_data, members_of, members_data}
+use Rattle.json_tape.proofs.Common.{json_data, members_of, members_data}
 use Rattle.json_tape.proofs.Shapes.{members_all, no_members_in, members_next, members_over, members_put}
 use Rattle.json_tape.proofs.value.Value.members.Goals as goal
 

@@ -1,5 +1,5 @@
 use Rattle.std.proofs.Common.{length}
-use Rattle.json_tape.specs.Value.{json_data, members_of, members_data}
+use Rattle.json_tape.proofs.Common.{json_data, members_of, members_data}
 use Rattle.json_tape.proofs.Shapes.{AreLeft}
 use Rattle.json_tape.proofs.value.Value.members.Given as goal
 
