@@ -20,10 +20,11 @@ module _ (s : StoryTree) (p : List Part) where
         let stands : is_some (at s (p ++ Name name ∷ [])) ≡ true = ap (λ q. is_some (at s q)) (sym is) ∙ node_stands s n rise in
         ap Some is ∙ rw stands refl
 
+    -- a name that leads not up
     pub key_step : (r : Option NodeId) → keys_rise s ≡ true → is_up name ≡ false → IfSome r (λ n. Finds s (p ++ Name name ∷ []) (Some n))
         → IfSome r (λ n. Some (node_place s n) ≡ stepped s p (Name name))
-    key_step None rise below found = found
-    key_step (Some n) rise below (within, is) = rw below (key_found n rise is)
+    key_step None rise not_up found = found
+    key_step (Some n) rise not_up (within, is) = rw not_up (key_found n rise is)
 
     module _ (o : Option StoryTree) (e : o ≡ at s p) where
       not_by_key : at s (p ++ Name name ∷ []) ≡ None → by_name s p name ≡ option_map (λ i. p ++ Index i ∷ []) (listed_index name o)

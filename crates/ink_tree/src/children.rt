@@ -200,7 +200,7 @@ fn mix_words(container: usize, name: &[u8]) -> usize {
 }
 
 fn mix(mixed: usize, part: usize) -> usize {
-    mixed.wrapping_mul(31).wrapping_add(part)
+    mixed.wrapping_mul(37).wrapping_add(part)
 }
 
 // Counts one more at an index, and answers the count before; the length, where there is no such index.
