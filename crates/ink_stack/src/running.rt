@@ -450,6 +450,7 @@ impl<P: Copy> Running<P> {
 /// A text is written where so many sections are open: of the function frames that come last here, those that were pushed
 /// there are fresh no more. Answers a number of sections, where there is one: those that are fresh then were pushed where fewer were
 /// open.
+#[inline(never)]
 fn end_freshness_of<P: Copy>(frames: &mut Frames<P>, depth: usize) -> Option<usize>
     ensures run { reverse frames.new.items ≡ stale_run depth (reverse frames.old.items) }
     ensures quiet { IfSome result (λ n. IsQuiet n (reverse frames.new.items)) }
