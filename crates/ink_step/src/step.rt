@@ -609,8 +609,7 @@ impl Machine {
         match transfer {
             Transfer::Store(to) => {
                 let value = mem::replace(&mut to.value, Value::Void);
-                let number = to.name.number();
-                self.shared.globals.put(to.name.as_str(), number, value)?;
+                self.shared.globals.put_named(&to.name, value)?;
                 Ok(end)
             }
             _ => Ok(end),
