@@ -5,7 +5,6 @@ pub use Rattle.ink_flows.specs.Standing.{aside_of, flow_of}
 use Rattle.ink_flows.specs.declared.flow.Flow.{Flow}
 use Rattle.ink_model.specs.Run.Configuration.{Configuration, SharedOf}
 use Rattle.ink_model.specs.Run.Flows.{AsideOf, Game}
-use Rattle.ink_model.specs.Story.Places.{places}
 use Rattle.ink_model.specs.Variables.Store.{Values}
 use Rattle.ink_model.specs.Story.Tree.{StoryTree}
 use Rattle.ink_model.specs.declared.place.Part.{Part}
