@@ -1,5 +1,5 @@
 -- What a jump comes to.
-use Rattle.std.proofs.Common.{◌≡◌, ◌∙◌, ◌||◌, ◌*◌, ap, refl, subst, sym, inl, inr, ℕ, List, [], Bool, true, false, Option, None, Some, Err}
+use Rattle.std.proofs.Common.{◌≡◌, ◌∙◌, ◌||◌, ◌*◌, ap, refl, subst, sym, inl, inr, ℕ, List, [], Bool, true, false, Option, None, Some, Ok, Err}
 use Rattle.ink_model.specs.Protocol.Answer.{Reply, Acts, Refuses}
 use Rattle.ink_model.specs.Choices.Choosing.{jump_place, jumped}
 use Rattle.ink_model.specs.Run.Configuration.{Configuration}
@@ -15,12 +15,19 @@ use Rattle.ink_model.specs.declared.fault.Refusal.TheVariants as refusal
 use Rattle.ink_model.specs.declared.place.Part.{Part}
 use Rattle.ink_step.specs.Marks.{Stood, lacks, stood_of, turn_lacks, unmarked}
 use Rattle.ink_step.specs.declared.machine.Machine.{Machine}
+use Rattle.ink_tree.specs.Nodes.{place_of}
+use Rattle.ink_tree.specs.declared.spot.Spot.{Spot}
 use Rattle.ink_commands.specs.Paths.{FindsPlace, JumpsTo}
 use Rattle.ink_commands.specs.States.{at_stamp, condition_by}
+use Rattle.ink_commands.proofs.Paths.{was_found, was_not_found}
 
 -- no room is lacked where no mark stands
 none_lack : (p q r t n : ℕ) (st : Stood) → st ≡ unmarked → lacks st.threads p 2 || (lacks st.choices q 2 || (lacks st.own r 2 || lacks st.counts t (4 * n))) ≡ false
 none_lack p q r t n st e = ap (λ (x : Stood). lacks x.threads p 2 || (lacks x.choices q 2 || (lacks x.own r 2 || lacks x.counts t (4 * n)))) e
+
+-- where a spot is found, a path lands there
+pub lands-at : (s : StoryTree) (path : List ℕ) (spot : Spot) → FindsPlace s path (Ok spot) → jump_place s path ≡ Some (place_of s spot)
+lands-at s path spot h = let place = was_found path _ (jump_place s path) spot h in place.1 ∙ ap Some (sym place.2)
 
 pub turn_free : (n : ℕ) (m : Machine) → stood_of m ≡ unmarked → turn_lacks n m ≡ false
 turn_free n m free = none_lack _ _ _ _ n (stood_of m) free
@@ -41,8 +48,10 @@ module _ (s : StoryTree) (path : List ℕ) (c : Configuration) (a : Aside) (n : 
 
     -- it lands nowhere, or memory was refused for the path
     pub jumps-nowhere : (r : Refusal) → FindsPlace s path (Err r) → JumpsTo s path old (Refuses r) old
-    jumps-nowhere r (inl none) = from_place (Refuses r) old (subst (λ o. JumpsBy s o c old (Refuses r) old) (sym none.1) (ap Refuses none.0, refl))
-    jumps-nowhere r (inr short) = inr (subst (λ x. ReadsPath path (condition_by x c)) (sym free) short.1, (ap Refuses short.0, refl))
+    jumps-nowhere r h = elim (was_not_found path _ (jump_place s path) r h) [
+      | inl none ↦ from_place (Refuses r) old (subst (λ o. JumpsBy s o c old (Refuses r) old) (sym none.1) (ap Refuses none.0, refl))
+      | inr short ↦ inr (subst (λ x. ReadsPath path (condition_by x c)) (sym free) short.1, (ap Refuses short.0, refl))
+    ]
 
     module _ (d : Configuration) (q : List Part) (leads : jump_place s path ≡ Some q) where
       abbrev new : State

@@ -1,4 +1,4 @@
-mod Paths
+pub mod Paths
 pub mod Tellings
 mod Going
 pub mod Jumps

@@ -15,9 +15,10 @@ use Rattle.ink_model.specs.Protocol.Session.{BeginsAnew, Load, Save, condition_t
 use Rattle.ink_model.specs.Protocol.State.{State, Ready, globals_of}
 use Rattle.ink_model.specs.declared.fault.Refusal.TheVariants as refusal
 use Rattle.ink_model.specs.declared.fault.Halt.{Halt}
+use Rattle.ink_save.specs.declared.loading.SaveRefusal.TheVariants as save
 use Rattle.ink_sound.proofs.Orderly.{spelled_back}
 use Rattle.ink_sound.proofs.Respelling.{reads_one}
-use Rattle.ink_player.specs.Saving.{IsOldSave, IsSave, IsSaveText, LoadsAs, NotLoaded, ReadsAsState, StandsIn}
+use Rattle.ink_player.specs.Saving.{FindsSave, IsOldSave, IsSave, IsSaveText, LoadsAs, ReadsAsState, StandsIn}
 use Rattle.ink_protocol.specs.Plain.{IsPlain}
 use Rattle.ink_protocol.specs.Replies.{IsTextOf, reply_of_json, reply_of_text}
 use Rattle.ink_sound.proofs.Plain.{spelling_plain}
@@ -124,9 +125,9 @@ module _ (s : StoryTree) (h : Bindings) (j : Data) (old : State) where
     tells = subst (λ vs. BeginsAnew (told h.watches vs g.now.shared.globals) g es old reply new) (sym were) p;
   })
 
-  pub load-refused : (r : Refusal) → NotLoaded s j r → Load s h [] (Some j) old (Refuses r) old
-  load-refused r (inl x) = inr (inl (x.1, refl, (ap (λ y. Refuses y) x.0, refl)))
-  load-refused r (inr x) = inr (inr (x.1, refl, (ap (λ y. Refuses y) x.0, refl)))
+  pub load-refused : (r : Refusal) → FindsSave s j (Err r) → Load s h [] (Some j) old (Refuses r) old
+  load-refused r (save.BadSave, is, none) = inr (inl (none, refl, (ap (λ y. Refuses y) is, refl)))
+  load-refused r (save.OutOfMemory, is, asks) = inr (inr (asks, refl, (ap (λ y. Refuses y) is, refl)))
 
   -- ---- what is there then
 

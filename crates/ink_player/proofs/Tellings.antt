@@ -2,6 +2,7 @@
 use Rattle.std.proofs.Common.{◌≡◌, ◌≢◌, ◌⊎◌, ◌∙◌, ap, sym, refl, subst, inl, inr, ℕ, ℤ, List, [], ◌∷◌, ◌++◌, Bool, true, false, bytes_eq, ◌||◌, if◌then◌else◌, Option, Some, None, IfSome, is_some, Result, Ok, Err, IfOk, OnOk, OnErr, is_ok, MatchBool, append-nil}
 use Rattle.ink_commands.specs.States.{at_stamp, condition_by}
 use Rattle.ink_commands.specs.Visits.{FindsVisits, TellsVisits}
+use Rattle.ink_commands.proofs.Paths.{was_found, was_not_found}
 use Rattle.ink_host.specs.Desk.{DeskView, Grew, Resting, Rows, at, bound_by, each, put, watches, without}
 use Rattle.ink_player.proofs.Common.{Called, Extent, Bindings, value_given, Values, store, stored, StoryTree, Fault, OutOfMemory, Refusal, Change, Event, Given, Machine}
 use Rattle.ink_effects.proofs.Bools.{same_fault}
@@ -16,6 +17,7 @@ use Rattle.ink_model.specs.Run.Flows.{Aside}
 use Rattle.ink_model.specs.Choices.Making.{has_any}
 use Rattle.ink_model.specs.Protocol.Passage.{passage, passage_asks}
 use Rattle.ink_model.specs.Run.Moments as run
+use Rattle.ink_model.specs.Run.Visits.{visits_by}
 use Rattle.ink_model.specs.Protocol.Session as rules
 use Rattle.ink_model.specs.Protocol.Session.{BreaksBy, FailsAllocation, OnlyRefuses, RunsTo, Set, SetsIn, TellsDone, TellsOrKeeps, condition_told, reply_told, settable, telling}
 use Rattle.ink_model.specs.Protocol.State.{State, Condition, Ready, Broken, globals_of}
@@ -379,9 +381,11 @@ module _ (h : Bindings) (name : List ℕ) (c : Configuration) (b : Option Fault)
 
 visits-unbroken : (s : StoryTree) (path : List ℕ) (c : Configuration) (a : Aside) (n : ℕ) (r : Result ℤ Refusal) → FindsVisits s path c r → TellsVisits s path (at_stamp (Ready c) a n) (reply_of_visits r) (at_stamp (Ready c) a n)
 visits-unbroken s path c a n (Ok v) h =
-    let st = at_stamp (Ready c) a n in inl (subst (λ o. rules.VisitsBy o st (Counts v) st) (sym h) (refl, refl))
+    let st = at_stamp (Ready c) a n in
+    let is = was_found path _ (visits_by s path c) v h in
+    inl (subst (λ o. rules.VisitsBy o st (Counts v) st) (sym is.1) (ap Counts is.2, refl))
 visits-unbroken s path c a n (Err r) h =
-    let st = at_stamp (Ready c) a n in elim h [
+    let st = at_stamp (Ready c) a n in elim (was_not_found path _ (visits_by s path c) r h) [
       | inl none ↦ inl (subst (λ o. rules.VisitsBy o st (Refuses r) st) (sym none.1) (ap Refuses none.0, refl))
       | inr short ↦ inr (short.1, (ap Refuses short.0, refl))
     ]

@@ -7,9 +7,10 @@ use Rattle.ink_model.specs.Save.Reads.{Reads}
 use Rattle.ink_model.specs.Protocol.Session.{Load}
 use Rattle.ink_model.specs.declared.fault.Halt.{Halt}
 use Rattle.ink_model.specs.declared.fault.Refusal.TheVariants as refusal
+use Rattle.ink_save.specs.declared.loading.SaveRefusal.TheVariants as save
 use Rattle.ink_player.specs.Loading.{LoadsText, TextReads, TextReadsAsState}
 use Rattle.ink_player.proofs.Saves.{load-reads, load-refused, load-stands}
-use Rattle.ink_player.specs.Saving.{FindsText, LoadsAs, ReadsAsState}
+use Rattle.ink_player.specs.Saving.{FindsText, LoadsAs, ReadsAsState, refusal_of}
 
 module _ (s : StoryTree) (text : List ℕ) where
   -- what a machine was made of
@@ -25,12 +26,14 @@ module _ (s : StoryTree) (text : List ℕ) where
 
     -- what makes no machine is refused
     pub text-refused : (r : Refusal) → FindsText s text (Err r) → LoadsText s h [] text old (Refuses r) old
-    text-refused r (inl x) = text-loads x.0 [] (Refuses r) old x.1 (load-refused s h x.0 old r x.2)
-    text-refused r (inr (inl x)) =
-        let same : r ≡ refusal.BadSave = cc in
+    text-refused r (why, is, inl x) = text-loads x.0 [] (Refuses r) old x.1 (load-refused s h x.0 old r (why, is, x.2))
+    text-refused r (why, is, inr (inl x)) =
+        let bad : why ≡ save.BadSave = let same = x.1 in cc in
+        let same : r ≡ refusal.BadSave = is ∙ ap refusal_of bad in
         inl (subst (λ o. Load s h [] o old (Refuses r) old) (sym x.0) (subst (λ q. Load s h [] None old (Refuses q) old) (sym same) (refl, (refl, refl))))
-    text-refused r (inr (inr x)) =
-        let same : r ≡ refusal.OutOfMemory = cc in
+    text-refused r (why, is, inr (inr x)) =
+        let short : why ≡ save.OutOfMemory = let same = x.1 in cc in
+        let same : r ≡ refusal.OutOfMemory = is ∙ ap refusal_of short in
         inr (x.0, refl, (ap (λ q. Refuses q) same, refl))
 
   same_json : (j k : Data) → json_of text ≡ Some j → json_of text ≡ Some k → k ≡ j
@@ -54,7 +57,7 @@ module _ (s : StoryTree) (text : List ℕ) where
     text-reads es reply new story (inr fails) g x = subst (λ y. LoadsAs g y new) (sym fails.2.0) refl
 
   pub refused-reads : (g : Game) (r : Refusal) (new : State) → FindsText s text (Err r) → TextReads s text g → LoadsAs g (Refuses r) new
-  refused-reads g r new (inl (j, is, inl x)) t = absurd (x.1 g (subst (λ d. Reads s d g) (same_json j t.0 is t.1) t.2))
-  refused-reads g r new (inl (j, is, inr x)) t = x.0
-  refused-reads g r new (inr (inl x)) t = absurd (let never : Some t.0 ≡ None = sym t.1 ∙ x.0 in cc)
-  refused-reads g r new (inr (inr x)) t = let same : r ≡ refusal.OutOfMemory = cc in same
+  refused-reads g r new (save.OutOfMemory, short, found) t = short
+  refused-reads g r new (save.BadSave, bad, inl (j, is, none)) t = absurd (none g (subst (λ d. Reads s d g) (same_json j t.0 is t.1) t.2))
+  refused-reads g r new (save.BadSave, bad, inr (inl x)) t = absurd (let never : Some t.0 ≡ None = sym t.1 ∙ x.0 in cc)
+  refused-reads g r new (save.BadSave, bad, inr (inr x)) t = absurd (let never = x.1 in cc)

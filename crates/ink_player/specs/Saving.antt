@@ -1,15 +1,12 @@
 -- What a machine is saved as, and what a save is loaded as (docs/SAVES.md).
-use Rattle.std.specs.Prelude.{◌≡◌, ◌⊎◌, ℕ, List, true, None, Some, Result, Ok, Err}
+use Rattle.std.specs.Prelude.{◌≡◌, ℕ, List, Result, Ok, Err}
 use Rattle.serde_json.specs.Data.{Data}
 use Rattle.serde_json.specs.View.{view}
 use Rattle.serde_json.specs.Written.{compact_text}
 use Rattle.serde_json.specs.declared.value.Value.{Value}
 use Rattle.ink_model.specs.Protocol.Answer.{Reply, Acts, Breaks, Refuses}
-use Rattle.ink_model.specs.Text.Bytes.{is_filled}
-use Rattle.ink_model.specs.Protocol.Command.{json_of}
 use Rattle.ink_model.specs.Run.Configuration.{Configuration}
 use Rattle.ink_model.specs.Run.Flows.{Game, one_flow}
-use Rattle.ink_model.specs.Save.Asks.{load_asks}
 use Rattle.ink_model.specs.Save.Reads.{Reads}
 use Rattle.ink_model.specs.Save.Spelling.{old_spelling, spelling}
 use Rattle.ink_model.specs.Protocol.State.{State, Ready, Broken}
@@ -17,7 +14,9 @@ use Rattle.ink_model.specs.Story.Tree.{StoryTree}
 use Rattle.ink_model.specs.declared.fault.Fault.TheVariants as fault
 use Rattle.ink_model.specs.declared.fault.Refusal.{Refusal}
 use Rattle.ink_model.specs.declared.fault.Refusal.TheVariants as refusal
-use Rattle.ink_step.specs.Standing.{game_of}
+use Rattle.ink_save.specs.Loads.{ReadsAs, ReadsText}
+use Rattle.ink_save.specs.declared.loading.SaveRefusal.{SaveRefusal}
+use Rattle.ink_save.specs.declared.loading.SaveRefusal.TheVariants as save
 use Rattle.ink_step.specs.declared.machine.Machine.{Machine}
 
 -- the value that a game is spelled as; or memory was refused
@@ -30,19 +29,23 @@ abbrev pub IsSaveText : Game → Result (List ℕ) Refusal → Type 0
 IsSaveText g (Ok text) = text ≡ compact_text (spelling g)
 IsSaveText g (Err r) = r ≡ refusal.OutOfMemory
 
--- why no machine was made of a value: it reads as no game, or something of it is kept, and memory was refused
-abbrev pub NotLoaded : StoryTree → Data → Refusal → Type 0
-NotLoaded s j r = ((r ≡ refusal.BadSave) × ((g : Game) → Reads s j g → ⊥)) ⊎ ((r ≡ refusal.OutOfMemory) × (load_asks j ≡ true))
+-- why no machine was read, among the refusals of all commands
+abbrev pub refusal_of : SaveRefusal → Refusal
+refusal_of save.BadSave = refusal.BadSave
+refusal_of save.OutOfMemory = refusal.OutOfMemory
 
--- the machine as whose game a value reads; or why there is none
+-- the machine that is read so; or that refusal
+abbrev pub FindsBy : (Result Machine SaveRefusal → Type 0) → Result Machine Refusal → Type 0
+FindsBy reads (Ok m) = reads (Ok m)
+FindsBy reads (Err r) = (why : SaveRefusal) × (r ≡ refusal_of why) × reads (Err why)
+
+-- the machine of a value
 abbrev pub FindsSave : StoryTree → Data → Result Machine Refusal → Type 0
-FindsSave s j (Ok m) = Reads s j (game_of s m)
-FindsSave s j (Err r) = NotLoaded s j r
+FindsSave s j result = FindsBy (ReadsAs s j) result
 
--- The same of the JSON that a text spells; or it spells none; or memory was refused to read it, and it is not empty.
+-- the machine of a text
 abbrev pub FindsText : StoryTree → List ℕ → Result Machine Refusal → Type 0
-FindsText s text result = ((j : Data) × (json_of text ≡ Some j) × FindsSave s j result)
-    ⊎ (((json_of text ≡ None) × (result ≡ Err refusal.BadSave)) ⊎ ((is_filled text ≡ true) × (result ≡ Err refusal.OutOfMemory)))
+FindsText s text result = FindsBy (ReadsText s text) result
 
 -- a player is ready in this game
 abbrev pub StandsIn : Game → State → Type 0

@@ -8,7 +8,7 @@ use Rattle.ink_step.specs.Standing.{aside_in, aside_of, config_of}
 use Rattle.ink_tree.specs.Nodes.{place_of}
 use Rattle.ink_commands.specs.Paths.{JumpsTo}
 use Rattle.ink_commands.specs.States.{at_stamp, condition_by, state_in}
-use Rattle.ink_commands.proofs.Jumps.{jumps-broken, jumps-nowhere, jumps-short, jumps-there, lacks_none}
+use Rattle.ink_commands.proofs.Jumps.{jumps-broken, jumps-nowhere, jumps-short, jumps-there, lacks_none, lands-at}
 use Rattle.ink_commands.proofs.jumping.jump.Goals as goal
 
 pub returns-in-Some-clause-does : goal.returns-in-Some-clause-does
@@ -32,7 +32,7 @@ returns-in_default-jump-clause-does c = λ n.
     let there = jumped (place_of s c.in-Ok.place) (config_of s m) in
     let asks = lacks_none (length (around s there.flow.threads)) left (entering_asks s there) (c.jump.ensures.mark ∙ c.requires.unmarked) c.in_default-jump.ensures.memory in
     subst (λ r. JumpsTo s c.args.path.now (state_in s c.args.broken m n) (Refuses refusal.OutOfMemory) (at_stamp (condition_by c.args.broken (config_of s left)) (aside_of s r) n)) (sym c.jump.ensures.aside)
-    (jumps-short s c.args.path.now (config_of s m) (aside_of s (aside_in m)) n c.args.broken c.in_default.is (config_of s left) (place_of s c.in-Ok.place) c.in-Ok.ensures c.in_default-jump.ensures.err asks)
+    (jumps-short s c.args.path.now (config_of s m) (aside_of s (aside_in m)) n c.args.broken c.in_default.is (config_of s left) (place_of s c.in-Ok.place) (lands-at s c.args.path.now c.in-Ok.place c.in-Ok.ensures) c.in_default-jump.ensures.err asks)
 
 pub returns-clause-does : goal.returns-clause-does
 returns-clause-does c = λ n.
@@ -40,4 +40,4 @@ returns-clause-does c = λ n.
     let m = c.args.machine.now in
     let left = c.jump.new.self in
     subst (λ r. JumpsTo s c.args.path.now (state_in s c.args.broken m n) (Acts []) (at_stamp (condition_by c.args.broken (config_of s left)) (aside_of s r) n)) (sym c.jump.ensures.aside)
-    (jumps-there s c.args.path.now (config_of s m) (aside_of s (aside_in m)) n c.args.broken c.in_default.is (config_of s left) (place_of s c.in-Ok.place) c.in-Ok.ensures c.in-Ok-jump.ensures.ok)
+    (jumps-there s c.args.path.now (config_of s m) (aside_of s (aside_in m)) n c.args.broken c.in_default.is (config_of s left) (place_of s c.in-Ok.place) (lands-at s c.args.path.now c.in-Ok.place c.in-Ok.ensures) c.in-Ok-jump.ensures.ok)

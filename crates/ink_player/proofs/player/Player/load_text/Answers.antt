@@ -1,5 +1,6 @@
-use Rattle.std.proofs.Common.{[], IfOk, ap, subst, sym}
+use Rattle.std.proofs.Common.{[], Err, IfOk, ap, subst, sym}
 use Rattle.ink_player.proofs.Common.{story_tree, reply_of_events, TextReadsAsState, PlayerView, bindings, desk_of, state_of, story_of, config_of, game_of, globals_of}
+use Rattle.ink_player.specs.Saving.{FindsText}
 use Rattle.ink_player.proofs.Saves.{load-read}
 use Rattle.ink_player.proofs.Standing.{game-as}
 use Rattle.ink_player.proofs.Tellings.{globals-by, once-none}
@@ -56,4 +57,4 @@ returns-in-Ok-clause-reads g c = λ x reads.
 pub returns-in-Err-clause-reads : goal.returns-in-Err-clause-reads
 returns-in-Err-clause-reads g c = λ x reads.
     let p = c.args.self.now in
-    refused-reads (story_of p) c.args.text.now x c.in-Err.cause (state_of p) (rw (sym c.self.view_is) c.in-Err.ensures.finds) reads
+    refused-reads (story_of p) c.args.text.now x c.in-Err.cause (state_of p) (subst (λ q. FindsText (story_of q) c.args.text.now (Err c.in-Err.cause)) c.self.view_is c.in-Err.ensures.finds) reads
