@@ -10,7 +10,7 @@ use Rattle.ink_model.specs.declared.fault.Refusal.TheVariants as refusal
 use Rattle.ink_save.specs.declared.loading.SaveRefusal.TheVariants as save
 use Rattle.ink_player.specs.Loading.{LoadsText, TextReads, TextReadsAsState}
 use Rattle.ink_player.proofs.Saves.{load-reads, load-refused, load-stands}
-use Rattle.ink_player.specs.Saving.{FindsText, LoadsAs, ReadsAsState, refusal_of}
+use Rattle.ink_player.specs.Saving.{FindsText, LoadsAs, ReadsAsState, save_refusal}
 
 module _ (s : StoryTree) (text : List ℕ) where
   -- what a machine was made of
@@ -29,11 +29,11 @@ module _ (s : StoryTree) (text : List ℕ) where
     text-refused r (why, is, inl x) = text-loads x.0 [] (Refuses r) old x.1 (load-refused s h x.0 old r (why, is, x.2))
     text-refused r (why, is, inr (inl x)) =
         let bad : why ≡ save.BadSave = let same = x.1 in cc in
-        let same : r ≡ refusal.BadSave = is ∙ ap refusal_of bad in
+        let same : r ≡ refusal.BadSave = is ∙ ap save_refusal bad in
         inl (subst (λ o. Load s h [] o old (Refuses r) old) (sym x.0) (subst (λ q. Load s h [] None old (Refuses q) old) (sym same) (refl, (refl, refl))))
     text-refused r (why, is, inr (inr x)) =
         let short : why ≡ save.OutOfMemory = let same = x.1 in cc in
-        let same : r ≡ refusal.OutOfMemory = is ∙ ap refusal_of short in
+        let same : r ≡ refusal.OutOfMemory = is ∙ ap save_refusal short in
         inr (x.0, refl, (ap (λ q. Refuses q) same, refl))
 
   same_json : (j k : Data) → json_of text ≡ Some j → json_of text ≡ Some k → k ≡ j

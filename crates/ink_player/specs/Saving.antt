@@ -30,22 +30,22 @@ IsSaveText g (Ok text) = text ≡ compact_text (spelling g)
 IsSaveText g (Err r) = r ≡ refusal.OutOfMemory
 
 -- why no machine was read, among the refusals of all commands
-abbrev pub refusal_of : SaveRefusal → Refusal
-refusal_of save.BadSave = refusal.BadSave
-refusal_of save.OutOfMemory = refusal.OutOfMemory
+abbrev pub save_refusal : SaveRefusal → Refusal
+save_refusal save.BadSave = refusal.BadSave
+save_refusal save.OutOfMemory = refusal.OutOfMemory
 
 -- the machine that is read so; or that refusal
-abbrev pub FindsBy : (Result Machine SaveRefusal → Type 0) → Result Machine Refusal → Type 0
-FindsBy reads (Ok m) = reads (Ok m)
-FindsBy reads (Err r) = (why : SaveRefusal) × (r ≡ refusal_of why) × reads (Err why)
+abbrev pub FindsMachine : (Result Machine SaveRefusal → Type 0) → Result Machine Refusal → Type 0
+FindsMachine reads (Ok m) = reads (Ok m)
+FindsMachine reads (Err r) = (why : SaveRefusal) × (r ≡ save_refusal why) × reads (Err why)
 
 -- the machine of a value
 abbrev pub FindsSave : StoryTree → Data → Result Machine Refusal → Type 0
-FindsSave s j result = FindsBy (ReadsAs s j) result
+FindsSave s j result = FindsMachine (ReadsAs s j) result
 
 -- the machine of a text
 abbrev pub FindsText : StoryTree → List ℕ → Result Machine Refusal → Type 0
-FindsText s text result = FindsBy (ReadsText s text) result
+FindsText s text result = FindsMachine (ReadsText s text) result
 
 -- a player is ready in this game
 abbrev pub StandsIn : Game → State → Type 0

@@ -3,7 +3,7 @@
 ghost use Rattle.std.specs.Prelude.{◌≡◌, IfOk};
 ghost use Rattle.serde_json.specs.View.{view};
 ghost use Rattle.ink_check.specs.Standing.{story_tree};
-ghost use Rattle.ink_player.specs.Saving.{FindsSave, FindsText, IsSave, IsSaveText, refusal_of};
+ghost use Rattle.ink_player.specs.Saving.{FindsSave, FindsText, IsSave, IsSaveText, save_refusal};
 ghost use Rattle.ink_sound.specs.Kept.{StoryFits};
 ghost use Rattle.ink_step.specs.Marks.{stood_of, unmarked};
 ghost use Rattle.ink_step.specs.Standing.{game_of};
@@ -44,7 +44,7 @@ pub(crate) fn loaded(alloc: Global, story: &Story, json: &Json) -> Result<Machin
 {
     match read(alloc, story, json) {
         Ok(machine) => Ok(machine),
-        Err(cause) => Err(refusal_of(cause)),
+        Err(cause) => Err(save_refusal(cause)),
     }
 }
 
@@ -56,13 +56,13 @@ pub(crate) fn loaded_text(alloc: Global, story: &Story, text: &str) -> Result<Ma
 {
     match read_text(alloc, story, text) {
         Ok(machine) => Ok(machine),
-        Err(cause) => Err(refusal_of(cause)),
+        Err(cause) => Err(save_refusal(cause)),
     }
 }
 
 // Why no machine was read, among the refusals of all commands.
-fn refusal_of(cause: SaveRefusal) -> Refusal
-    ensures { result ≡ refusal_of cause }
+fn save_refusal(cause: SaveRefusal) -> Refusal
+    ensures { result ≡ save_refusal cause }
 {
     match cause {
         SaveRefusal::BadSave => Refusal::BadSave,
