@@ -21,7 +21,7 @@ use Rattle.ink_sound.proofs.Respelling.{reads_one}
 use Rattle.ink_player.specs.Saving.{FindsSave, IsOldSave, IsSave, IsSaveText, LoadsAs, ReadsAsState, StandsIn}
 use Rattle.ink_protocol.specs.Plain.{IsPlain}
 use Rattle.ink_protocol.specs.Replies.{IsTextOf, reply_of_json, reply_of_text}
-use Rattle.ink_sound.proofs.Plain.{spelling_plain}
+use Rattle.ink_sound.proofs.Flat.{spelling_flat}
 
 module _ (c : Configuration) (a : Aside) where
   abbrev game : Game
@@ -32,7 +32,7 @@ module _ (c : Configuration) (a : Aside) where
 
   -- a save has no float
   pub plain-save : (r : Result Value Refusal) → IsSave game r → IfOk r IsPlain
-  plain-save (Ok json) h = ap has_float h ∙ spelling_plain game
+  plain-save (Ok json) h = ap has_float h ∙ (spelling_flat game).1
   plain-save (Err r) h = tt
 
   saves-ready : (n : ℕ) (r : Result Value Refusal) → IsSave game r → Save (at_stamp (Ready c) a n) (reply_of_json r) (at_stamp (Ready c) a n)

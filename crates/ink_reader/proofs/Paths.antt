@@ -20,7 +20,7 @@ use Rattle.ink_model.specs.declared.place.Part.TheVariants.{Index, Name}
 use Rattle.ink_sound.specs.Kept.{ConditionFits, StoryFits}
 use Rattle.ink_sound.proofs.Named.{its_name, same_name}
 use Rattle.ink_sound.proofs.Narrow.{PartNarrow, place_narrow}
-use Rattle.ink_sound.proofs.Rows.{one, two}
+use Rattle.std.proofs.lemmas.Bool.{and_parts}
 use Rattle.ink_reader.specs.Whereabouts.{SavesTellPlaces, flow_named, last_in, last_item, path_of, path_to, stands_at, top_frame}
 
 -- ---- the current flow
@@ -46,8 +46,8 @@ flow_found f ((n, None) ∷ rows) names h =
     ap (λ b. if b then Some (named_flow_data (n, f)) else flow_named n (items_of (map named_flow_data (all_flows f rows)))) (its_name n)
 flow_found f ((n, Some x) ∷ rows) names h =
     ap (λ b. if b then Some (named_flow_data (n, x)) else flow_named (current_name rows) (items_of (map named_flow_data (all_flows f rows))))
-    (other n rows (one (is_none (at n rows)) (once rows) names) h)
-    ∙ flow_found f rows (two (is_none (at n rows)) (once rows) names) h
+    (other n rows (and_parts (is_none (at n rows)) (once rows) names).0 h)
+    ∙ flow_found f rows (and_parts (is_none (at n rows)) (once rows) names).1 h
 
 -- ---- what is last
 
