@@ -1,5 +1,5 @@
 -- What reading functions return, beside the definition of the story that bytes spell.
-use Rattle.std.specs.Prelude.{◌≡◌, ℕ, ◌+◌, ◌-◌, ◌*◌, ◌%◌, ◌^◌, drop, List, [], ◌∷◌, length, Bool, true, false, not, ◌&&◌, nat_lt, bytes_eq, Option, option_map, is_some, if◌then◌else◌, Result, Ok, Err}
+use Rattle.std.specs.Prelude.{◌≡◌, ◌⊎◌, ℕ, ◌+◌, ◌-◌, ◌*◌, ◌%◌, ◌^◌, drop, List, [], ◌∷◌, length, Bool, true, false, not, ◌&&◌, nat_lt, bytes_eq, Option, option_map, is_some, if◌then◌else◌, Result, Ok, Err}
 use Rattle.std.specs.Borrow.{Bor}
 use Rattle.std.specs.BTreeSet.{contains_by}
 use Rattle.std.specs.Cmp.Lexicographic.{slice_cmp}
@@ -16,6 +16,7 @@ use Rattle.ink_json.specs.declared.own.Label.{Label}
 use Rattle.ink_model.specs.declared.limits.TheConstants.{MAX_STORY}
 use Rattle.ink_model.specs.declared.fault.Cause.{Cause}
 use Rattle.ink_model.specs.declared.fault.Cause.TheVariants.{Shape}
+use Rattle.ink_model.specs.declared.fault.Cause.TheVariants as cause
 use Rattle.ink_model.specs.declared.fault.Failure.{Failure}
 use Rattle.ink_model.specs.declared.fault.Failure.TheVariants.{OutOfMemory, Refused}
 use Rattle.ink_model.specs.declared.fault.ReadRefusal.{ReadRefusal}
@@ -56,6 +57,10 @@ Fails e read = FailsOr (takes_memory read) e read
 
 abbrev pub Reads : {X A : Type 0} → (X → A) → Result X (Failure ReadRefusal) → Result A ReadRefusal → Type 0
 Reads view result read = ReadsOr (takes_memory read) view result read
+
+-- Bytes are refused, as the rule refuses them; or memory was refused, where they are parsed.
+abbrev pub IsRefusedBy : {A : Type 0} → Result A ReadRefusal → List ℕ → ReadRefusal → Type 0
+IsRefusedBy rule bytes r = ((r ≡ here cause.OutOfMemory) × (is_parsed bytes ≡ true)) ⊎ (rule ≡ Err r)
 
 -- a failure is the first of the faults, or memory was refused
 abbrev pub IsFirst : Failure ReadRefusal → List ReadRefusal → Type 0

@@ -1,13 +1,13 @@
 //! Reading a story.
 
-ghost use Rattle.std.specs.Prelude.{◌≡◌, ◌⊎◌, ◌≤◌, ◌<◌, ◌^◌, true, length, IfOk, IfErr, Ok, Err, Some, None, codes, if◌then◌else◌};
+ghost use Rattle.std.specs.Prelude.{◌≡◌, ◌≤◌, ◌<◌, ◌^◌, true, length, IfOk, IfErr, Ok, Err, Some, None, codes, if◌then◌else◌};
 ghost use Rattle.serde_json.specs.Find.{get};
 ghost use Rattle.json_tape.specs.Size.{size};
 ghost use Rattle.json_tape.specs.Spelled.{are_sound, data_of};
 ghost use Rattle.json_tape.specs.Value.{json_data};
 ghost use Rattle.ink_model.specs.Story.Grammar.{here, story, unmarked, json, of_json, of_value, root_of, is_blank_object, version_of};
 ghost use Rattle.ink_json.specs.Listing.{IsListed, rebuilt};
-ghost use Rattle.ink_json.specs.Reading.{Reads, ReadsOr, is_parsable, is_parsed};
+ghost use Rattle.ink_json.specs.Reading.{IsRefusedBy, Reads, ReadsOr, is_parsable, is_parsed};
 ghost use Rattle.ink_json.specs.Story.{tree};
 
 use crate::container::{Context, Position, read_container};
@@ -28,7 +28,7 @@ use std::alloc::Global;
 /// stands behind the byte order mark are refused as such, whatever memory there is.
 pub fn read_story(alloc: Global, bytes: &[u8]) -> Result<RawStory, ReadRefusal>
     ensures ok { IfOk result (λ s. story bytes.now ≡ Ok (tree s)) }
-    ensures err { IfErr result (λ r. ((r ≡ here Cause.OutOfMemory) × (is_parsed bytes.now ≡ true)) ⊎ (story bytes.now ≡ Err r)) }
+    ensures err { IfErr result (IsRefusedBy (story bytes.now) bytes.now) }
 {
     match read_nodes(alloc, bytes) {
         Ok(nodes) => Ok(RawStory { nodes }),

@@ -1,6 +1,7 @@
 -- What a running command comes to, from the run that it makes.
 use Rattle.std.proofs.Common.{◌≡◌, ◌∙◌, ◌⊎◌, ap, sym, refl, subst, inl, inr, List, [], true, false, true≢false, Some, Result, Ok, Err}
-use Rattle.ink_look.specs.Ends.{RunsThrough}
+use Rattle.ink_look.specs.Extents.{RunsBy}
+use Rattle.ink_look.specs.declared.passages.Extent.TheVariants.{Stop}
 use Rattle.ink_look.proofs.Common.{said, said_asks, Said, Bound, StoryTree, Fault, OutOfMemory}
 use Rattle.ink_model.specs.Run.Configuration.{Configuration, begun, settled}
 use Rattle.ink_model.specs.Memory.Refusals.{CallsAt, FallsShort, GetsTo}
@@ -10,7 +11,7 @@ use Rattle.ink_step.specs.Runs.{RunFalls}
 
 module _ (s : StoryTree) (b : Bound) (made : List Made) (c begin : Configuration) (begins : begin ≡ begun c) where
   abbrev Ran : Configuration → Result Said Fault → Type 0
-  Ran new result = RunsThrough said said_asks s b c made new result
+  Ran new result = RunsBy said said_asks Stop s b c made new result
 
   ended : (m : Moment) → cut_off (moment s b begin (answers_of made) MAX_STEPS) ≡ m → through s b c (answers_of made) ≡ m
   ended m h = ap (λ d. cut_off (moment s b d (answers_of made) MAX_STEPS)) (sym begins) ∙ h

@@ -1,13 +1,10 @@
--- How running commands end, with the calls that they made.
-use Rattle.std.specs.Prelude.{◌≡◌, ◌⊎◌, List, Bool, false, Result, Ok, Err}
+-- How running commands end, and what they hand out there.
+use Rattle.std.specs.Prelude.{◌≡◌, Bool, false, Result, Ok, Err}
 use Rattle.ink_model.specs.Run.Configuration.{Configuration, settled}
-use Rattle.ink_model.specs.Host.Bindings.{Bound}
-use Rattle.ink_model.specs.Memory.Refusals.{ByRule, FallsShort, LacksMemory}
-use Rattle.ink_model.specs.Run.Moments.{Broke, EndsThrough, Kept, Made, RunEnd}
+use Rattle.ink_model.specs.Memory.Refusals.{ByRule, LacksMemory}
+use Rattle.ink_model.specs.Run.Moments.{Broke, Kept, RunEnd}
 use Rattle.ink_model.specs.Variables.Store.{Values}
-use Rattle.ink_model.specs.Story.Tree.{StoryTree}
 use Rattle.ink_model.specs.declared.fault.Fault.{Fault}
-use Rattle.ink_model.specs.declared.fault.Fault.TheVariants.{OutOfMemory}
 
 -- the configuration that is kept, or the fault
 abbrev pub end_result : RunEnd → Result Configuration Fault
@@ -30,8 +27,3 @@ module _ {A : Type 0} (hands : Configuration → A) (asks : Configuration → Bo
   abbrev pub EndsWith : RunEnd → Configuration → Result A Fault → Type 0
   EndsWith end new result = ByRule (LacksMemory (handing_asks end)) (λ c handed. (handed ≡ hands c) × (new ≡ settled c))
       (λ why. why × (new.shared.globals ≡ end_globals end)) (end_result end) result
-
-  -- A running command, with these calls made, comes to its end; or memory was refused to its run, and it leaves these globals.
-  abbrev pub RunsThrough : StoryTree → Bound → Configuration → List Made → Configuration → Result A Fault → Type 0
-  RunsThrough s b old made new result = ((end : RunEnd) × EndsThrough s b old made end × EndsWith end new result)
-      ⊎ ((result ≡ Err OutOfMemory) × FallsShort s b old made new.shared.globals)

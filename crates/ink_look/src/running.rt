@@ -4,8 +4,9 @@ ghost use Rattle.std.specs.Prelude.{◌≡◌, List};
 ghost use Rattle.ink_check.specs.Standing.{story_tree};
 ghost use Rattle.ink_host.specs.Desk.{Grew, bound_by};
 ghost use Rattle.ink_host.specs.Telling.{log_of};
-ghost use Rattle.ink_look.specs.Ends.{RunsThrough};
+ghost use Rattle.ink_look.specs.Extents.{RunsBy};
 ghost use Rattle.ink_look.specs.Said.{said, said_asks};
+ghost use Rattle.ink_look.specs.declared.passages.Extent.TheVariants.{Stop};
 ghost use Rattle.ink_model.specs.Host.Events.{Made, calls};
 ghost use Rattle.ink_step.specs.Marks.{stood_of, unmarked};
 ghost use Rattle.ink_effects.specs.Refusals.{RunStopsAtRefusal};
@@ -28,7 +29,7 @@ pub fn through<P: PureFn, F: TurnFn, O: Watcher>(
     desk: &mut Desk<P, F, O>,
 ) -> Result<Said, Fault>
     ensures runs { let s = story_tree story.now in let b = bound_by P.meaning desk.old.functions in
-        (made : List Made) × Grew F.log (log_of O.state) desk.old (calls desk.old.next made) desk.new × RunsThrough said said_asks s b (config_of s machine.old) made (config_of s machine.new) result }
+        (made : List Made) × Grew F.log (log_of O.state) desk.old (calls desk.old.next made) desk.new × RunsBy said said_asks Stop s b (config_of s machine.old) made (config_of s machine.new) result }
     ensures refusals { RunStopsAtRefusal F.refusals desk.old desk.new result }
     ensures watchers { desk.new.watchers ≡ desk.old.watchers }
     ensures start { start_of machine.new ≡ globals_of machine.old }

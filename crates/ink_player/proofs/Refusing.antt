@@ -3,7 +3,7 @@ use Rattle.std.proofs.Common.{◌≡◌, ◌∙◌, ◌⊎◌, ap, refl, inl, in
 use Rattle.std.specs.Str.{is_utf8}
 use Rattle.serde_json.proofs.OnLiterals.{serde_json_on_literals}
 use Rattle.serde_json.specs.Read.{read}
-use Rattle.ink_json.specs.Reading.{is_parsed}
+use Rattle.ink_json.specs.Reading.{IsRefusedBy, is_parsed}
 use Rattle.ink_model.specs.Story.Acceptance.{accepted, accepted_story, and_then}
 use Rattle.ink_model.specs.Text.Bytes.{is_filled}
 use Rattle.ink_model.specs.Story.Grammar.{here, of_json, story, unmarked}
@@ -24,7 +24,7 @@ parsed_by false true [] t e = absurd (cc (ap of_json nothing_read))
 parsed_by false true (c ∷ cs) t e = refl
 
 module _ (line : List ℕ) where
-  pub unread : (r : ReadRefusal) → ((r ≡ here OutOfMemory) × (is_parsed line ≡ true)) ⊎ (story line ≡ Err r) → IsRefused line r
+  pub unread : (r : ReadRefusal) → IsRefusedBy (story line) line r → IsRefused line r
   unfolding accepted_story
   unread r (inl short) = inl short
   unread r (inr h) = inr (ap (λ o. and_then accepted o) h)

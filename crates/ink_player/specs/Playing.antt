@@ -1,7 +1,7 @@
 -- What playing a story over bytes does, and how it may end (docs/PROTOCOL.md, "Playing").
-use Rattle.std.specs.Prelude.{◌≡◌, ◌<◌, ◌≤◌, ◌+◌, ◌-◌, ℕ, List, [], ◌∷◌, ◌++◌, length, true, false, ◌⊎◌, Option, Result, Ok, Err}
+use Rattle.std.specs.Prelude.{◌≡◌, ◌<◌, ◌≤◌, ◌+◌, ◌-◌, ℕ, List, [], ◌∷◌, ◌++◌, length, false, ◌⊎◌, Option, Result, Ok, Err}
 use Rattle.std.specs.Io.KnownBytes.{Appends, Consumes, IsAtEnd}
-use Rattle.ink_json.specs.Reading.{is_parsed}
+use Rattle.ink_json.specs.Reading.{IsRefusedBy}
 use Rattle.ink_model.specs.Text.Bytes.{has_newline}
 use Rattle.ink_model.specs.Story.Grammar.{here}
 use Rattle.ink_model.specs.declared.limits.TheConstants.{MAX_STORY, MAX_INPUT}
@@ -46,9 +46,9 @@ pub record EndsEarly (bytes written : List ℕ) : Type 0 where
   pub nothing : written ≡ []
   pub bound : length bytes ≤ MAX_STORY + 1
 
--- the story is not accepted; or memory was refused, where it is parsed
+-- the story is not accepted
 abbrev pub IsRefused : List ℕ → ReadRefusal → Type 0
-IsRefused line r = ((r ≡ here cause.OutOfMemory) × (is_parsed line ≡ true)) ⊎ (accepted_story line ≡ Err r)
+IsRefused line r = IsRefusedBy (accepted_story line) line r
 
 -- The story was refused. Where it is over its limit, it is refused for that; and where memory was refused for a byte of it, for
 -- that.

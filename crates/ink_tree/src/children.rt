@@ -56,6 +56,7 @@ impl Children {
     }
 
     /// The number that is noted at the slot of a container and a name.
+    #[inline(always)]
     pub(crate) fn noted(&self, container: usize, name: &str) -> usize {
         match self.slots.get(slot(container, name, self.slots.len())) {
             Some(number) => *number as usize,

@@ -242,6 +242,7 @@ impl Tree {
     }
 
     /// The part that leads from a node to the content of a number; none where that does not stand one part down.
+    #[inline(always)]
     pub(crate) fn part_in(&self, holder: NodeId, number: usize) -> Option<Key<'_>>
         ensures { LeadsTo (story_tree self.now) (node_place (story_tree self.now) holder) number result }
     {

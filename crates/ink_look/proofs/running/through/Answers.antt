@@ -2,7 +2,8 @@ use Rattle.std.proofs.Common.{◌≡◌, ◌∙◌, ap, false, rules, subst, sym
 use Rattle.ink_look.proofs.Common.{story_tree, bound_by, said, said_asks, OutOfMemory, RunStopsAtRefusal}
 use Rattle.ink_look.proofs.Comes.{comes_to, comes_to_fault, falls_after}
 use Rattle.ink_look.proofs.running.through.Goals as goal
-use Rattle.ink_look.specs.Ends.{RunsThrough}
+use Rattle.ink_look.specs.Extents.{RunsBy}
+use Rattle.ink_look.specs.declared.passages.Extent.TheVariants.{Stop}
 use Rattle.ink_step.specs.Marks.{Stood, keeps_mark, pressed, stood_of}
 use Rattle.ink_step.proofs.Marks.{not_pressed}
 use Rattle.ink_step.specs.Runs.{RunFalls}
@@ -18,7 +19,7 @@ returns-in_err-run-clause-runs g c =
     let is : c.from_residual.result ≡ Err c.in_err-run.field-0.0 = search rules in (
       ran.0,
       ran.1,
-      subst (RunsThrough said said_asks s b old ran.0 new) (sym is)
+      subst (RunsBy said said_asks Stop s b old ran.0 new) (sym is)
           (comes_to_fault s b ran.0 old (config_of s c.begin.new.self) (c.begin.ensures.begun s) new c.in_err-run.field-0.0
           (subst (λ pressed. RunFalls s b false pressed (config_of s c.begin.new.self) ran.0 new.shared.globals c.in_err-run.field-0.0) (not_pressed s c.run.new.self (c.in_err-run.ensures.mark ∙ c.begin.ensures.mark))
           (subst (λ (t : Stood). RunFalls s b (keeps_mark t) (pressed s c.run.new.self) (config_of s c.begin.new.self) ran.0 new.shared.globals c.in_err-run.field-0.0) c.begin.ensures.mark ran.2))),
@@ -35,7 +36,7 @@ returns-in_err-said-clause-runs g c =
       ran.0,
       ran.1,
       rw c.said_by.ensures.same
-          (subst (RunsThrough said said_asks s b old ran.0 new) (sym is) (falls_after s b ran.0 old (config_of s c.begin.new.self) (c.begin.ensures.begun s) new ran.2 (c.in_err-said.ensures.memory s))),
+          (subst (RunsBy said said_asks Stop s b old ran.0 new) (sym is) (falls_after s b ran.0 old (config_of s c.begin.new.self) (c.begin.ensures.begun s) new ran.2 (c.in_err-said.ensures.memory s))),
     )
 
 pub returns-clause-runs : goal.returns-clause-runs
