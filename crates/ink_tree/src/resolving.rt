@@ -1,7 +1,7 @@
 //! Where paths lead (docs/STORY_FORMAT.md, "Paths").
 
 ghost use Rattle.std.specs.Prelude.{◌≡◌, List, Some, IfSome, option_map};
-ghost use Rattle.ink_model.specs.Story.Path.{by_name, stepped, stepped_last, target, walked};
+ghost use Rattle.ink_model.specs.Story.Path.{by_name, is_up, stepped, stepped_last, target, walked};
 ghost use Rattle.ink_path.specs.Components.{part_of};
 ghost use Rattle.ink_model.specs.declared.place.Part.{Part as Way};
 ghost use Rattle.ink_model.specs.declared.place.Part.TheVariants.{Index, Name};
@@ -47,7 +47,7 @@ impl Tree {
         ensures { IfSome result (λ node. Some (node_place (story_tree self.now) node)
             ≡ stepped (story_tree self.now) (node_place (story_tree self.now) here) (Name name.now)) }
     {
-        if name == "^" {
+        if is_up(name) {
             return None;
         }
         self.noted_child(here, name)
@@ -99,7 +99,7 @@ impl Tree {
         ensures { option_map (node_place (story_tree self.now)) result
             ≡ stepped (story_tree self.now) (node_place (story_tree self.now) here) (Name name.now) }
     {
-        if name == "^" {
+        if is_up(name) {
             return self.holder(here);
         }
         self.step_by_name(here, name)
@@ -188,4 +188,12 @@ fn component_of(part: &Part) -> Component<'_>
         Part::Index(index) => Component::Index(*index),
         Part::Name(name) => Component::Name(name.as_str()),
     }
+}
+
+// Whether a name leads one part up. Most do not, which their length tells.
+#[inline(always)]
+fn is_up(name: &str) -> bool
+    ensures { result ≡ is_up name.now }
+{
+    name.len() == 1 && name == "^"
 }

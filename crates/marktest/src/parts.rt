@@ -6,7 +6,7 @@
 //! - `threads`: `go:PLACE`, `put:PLACE`, `mode:EVALUATING`, `number:NUMBER`, `text:DEPTH`, which ends freshness, `call:DEPTH`,
 //!   `tunnel:DEPTH`, `return:DEPTH`, `leave:DEPTH`, `fork`, `drop`, `temp:FRAME:NAME=VALUE`, `own:FRAME:NAME=VALUE`, which is
 //!   the same of a name that can be shared, `alone`, by which a copy of the top thread becomes the only one, and `reset`
-//! - `globals`: `NAME=VALUE`
+//! - `globals`: `NAME=VALUE`, and `room:COUNT`, which gives up those that are there for none with room for so many
 //! - `counts`: `visit:CONTAINER:FLAGS` at its start, and `again:CONTAINER`, which puts back what is known of it
 //! - `choices`: `add:TEXT`, `take:NUMBER` and `clear`
 
@@ -85,7 +85,7 @@ impl Parts {
             let (word, rest) = call.split_once(':').unwrap_or((call, ""));
             match part {
                 "threads" => call_threads(alloc, &mut self.threads, word, rest)?,
-                "globals" => put_global(alloc, &mut self.globals, call)?,
+                "globals" => call_globals(alloc, &mut self.globals, call)?,
                 "counts" => call_counts(&mut self.counts, word, rest)?,
                 "choices" => call_choices(alloc, &mut self.choices, word, rest)?,
                 _ => return Err(NoAnswer::NoQuestion),
@@ -221,6 +221,16 @@ fn set_temp(
 }
 
 // ---- globals and counts
+
+fn call_globals(alloc: Global, globals: &mut Globals, call: &str) -> Result<(), NoAnswer> {
+    match call.strip_prefix("room:") {
+        Some(count) => {
+            *globals = Globals::with_room(alloc, number(count)?)?;
+            Ok(())
+        }
+        None => put_global(alloc, globals, call),
+    }
+}
 
 fn put_global(alloc: Global, globals: &mut Globals, call: &str) -> Result<(), NoAnswer> {
     let (name, value) = call.split_once('=').unwrap_or((call, ""));
