@@ -1,7 +1,7 @@
 #!/usr/bin/env python3
 """Feeds the program stories, saves and lines of the tables in which bytes and values are others, and looks for what no host may see.
 
-    tests/mutate.py [--minutes N] [--seed N] [--prog PROGRAM]      30 minutes, seed 1 and ./inkplay unless other ones are named
+    tests/mutate.py [--minutes N] [--seed N] [--program PROGRAM]      30 minutes, seed 1 and ./inkplay unless other ones are named
 
 Each run takes a story of the tables of cases (docs/TABLES.md) with the lines of its session or some turns, and mostly changes it:
 bytes are flipped, doubled, taken out, repeated many times, or replaced by what is
@@ -27,7 +27,6 @@ import json
 import os
 import random
 import re
-import subprocess
 import sys
 import time
 
@@ -414,13 +413,12 @@ def main():
     parser.add_argument("--minutes", type=float, default=30)
     parser.add_argument("--seed", type=int, default=1)
     parser.add_argument("--folder", default="/tmp", help="where the inputs of wrong runs are kept")
-    parser.add_argument("--prog", default=os.path.join(toolchain.TOP, "out/inkplay/inkplay/crates/inkplay/out/inkplay"))
+    parser.add_argument("--program")
     words = parser.parse_args()
-    if not os.path.exists(words.prog):
-        subprocess.run([os.path.join(toolchain.TOP, "inkplay")], input=b'{"inkVersion":21,"root":["done",null]}\n', check=True)  # built
+    program = os.path.realpath(words.program or toolchain.player())
     end = time.monotonic() + words.minutes * 60
     with launch.Launcher() as launcher:
-        fuzzer = Fuzzer(launcher, os.path.realpath(words.prog), words.seed, words.folder)
+        fuzzer = Fuzzer(launcher, program, words.seed, words.folder)
         print("plain: start %.1f ms, %.0f ns a byte, %.0f ms a loop to the limit of steps" % (fuzzer.costs.start * 1e3, fuzzer.costs.byte * 1e9, fuzzer.costs.run * 1e3), flush=True)
         while time.monotonic() < end:
             fuzzer.one()

@@ -26,8 +26,8 @@ import tempfile
 import time
 from concurrent.futures import ThreadPoolExecutor
 
-import model
 import toolchain
+from given_saves import flow, frame, save, save_1, thread
 
 SHIM = r"""
 #define _GNU_SOURCE
@@ -129,32 +129,13 @@ SAVED = json.dumps({"inkVersion": 21, "root": [["^a", "\n", ["^b", {"#n": "g", "
     "global decl": ["ev", 1, {"VAR=": "x"}, "/ev", "end", None]}]})
 
 
-def frame(kind, place, evaluating=False, **temps):
-    return {"depth": 0, "eval": evaluating, "fresh": False, "kind": kind, "place": place, "temps": temps}
-
-
-def thread(previous, *frames):
-    return {"frames": list(frames), "previous": previous}
-
-
-def save_1(**other):
-    """A save of that story in layout 1, with these in the place of what it has at its start."""
-    return dict({"choices": [], "format": 1, "globals": [["x", 1]], "safe": False, "stack": [], "threads": [thread(None, frame("base", [0, 0]))],
-                 "turn": 0, "turns": [], "visits": []}, **other)
-
-
-def line_of(save):
-    return "load " + json.dumps(save, separators=(",", ":"), sort_keys=True)
+def line_of(given):
+    return "load " + json.dumps(given, separators=(",", ":"), sort_keys=True)
 
 
 def load(**other):
     """A line that loads such a save in layout 2."""
-    return line_of(model.in_layout_2(save_1(**other)))
-
-
-def flow(name, **other):
-    """A flow of a save in layout 2."""
-    return dict(model.in_layout_2(save_1(**other))["flows"][0], name=name)
+    return line_of(save(**other))
 
 
 STAY = thread([0, 2], frame("base", [0, 2, 0], a="z", b={"ci": 1, "var": "a"}))
@@ -165,13 +146,13 @@ SAVES = (
         {"hidden": False, "tags": ["one", "two"], "target": ["t", "in", 0], "text": "go", "thread": STAY},
         {"hidden": True, "tags": [], "target": ["f", 0], "text": "", "thread": STAY}]),
     load(turns=[[[0, 2], 3], [["t", "in"], 2]], visits=[[[0], 1], [[0, 2], 4], [["t"], 2147483647]], turn=7),
-    load(stack=["", "word", {"tag": "t"}, {"->": "t.in"}, "a", "b"], threads=[thread(None, frame("base", ["s", 0], True))],
+    load(stack=["", "word", {"tag": "t"}, {"->": "t.in"}, "a", "b"], threads=[thread(None, frame("base", ["s", 0], evaluating=True))],
          globals=[["y", "text"], ["x", {"ci": 0, "var": "y"}], ["z", {"tag": "t"}]]),
     # one in layout 1
     line_of(save_1(threads=[STAY, thread(["t", 1], frame("base", [0, 2]), frame("tunnel", ["t", 0]))], globals=[["x", "a"]], visits=[[["t"], 2]], choices=[
         {"hidden": False, "tags": ["one"], "target": ["t", "in", 0], "text": "go", "thread": STAY}])),
     # and one of three flows
-    line_of(dict(model.in_layout_2(save_1(turn=1, visits=[[[0], 1]])), current="side", flows=[
+    line_of(dict(save(turn=1, visits=[[[0], 1]]), current="side", flows=[
         flow("DEFAULT_FLOW", threads=[thread([0, 3], frame("base", None))], choices=[{"hidden": False, "tags": ["t"], "target": ["t", "in", 0], "text": "go", "thread": STAY}]),
         flow("side", threads=[STAY, thread(["t", 1], frame("base", [0, 2]), frame("tunnel", ["t", 0], p="word"))]), flow("é", stack=["a", {"tag": "t"}])])),
 )
@@ -467,17 +448,17 @@ def wrong_requests(worker, table, shim, seconds, jobs):
 def main():
     parser = argparse.ArgumentParser()
     parser.add_argument("--seconds", type=float, default=480)
-    parser.add_argument("--program", default=os.path.join(toolchain.TOP, "out/inkplay/inkplay/crates/inkplay/out/inkplay"))
+    parser.add_argument("--program")
     parser.add_argument("tables", nargs="*")
     words = parser.parse_args()
-    subprocess.run([os.path.join(toolchain.TOP, "inkplay")], input=(HELLO + "\n").encode(), check=True)  # built
+    program = words.program or toolchain.player()
     workers = toolchain.table_programs()
     folders = [os.path.join(toolchain.TOP, "crates", name, "data") for name in workers]
     tables = words.tables or [os.path.join(data, name) for data in folders for name in sorted(os.listdir(data)) if not name.startswith("twins")]
     jobs = os.cpu_count() or 1
     with tempfile.TemporaryDirectory() as folder:
         shim = shim_in(folder)
-        runs, wrong = wrong_stories(words.program, shim)
+        runs, wrong = wrong_stories(program, shim)
         print("stories: %d requests refused, %d wrong" % (runs, wrong), flush=True)
         for table in tables:
             more, failed = wrong_requests(workers[toolchain.program_of(table)], table, shim, words.seconds / len(tables), jobs)

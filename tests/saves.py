@@ -22,6 +22,7 @@ import sys
 
 import model
 import toolchain
+from given_saves import choice, flow, frame, save, save_1, thread
 
 MOST_INPUT = 48 << 20
 # so many lines of a session have a save before each; of more lines every k-th has one
@@ -174,34 +175,6 @@ def wrong_stories(program):
 STORY = {"inkVersion": 21, "root": [["^a", "\n", ["^b", {"#n": "g", "#f": 3}], "done", {"#f": 5}], "done", {
     "f": ["^f", "nop", {"#f": 1, "in": ["^i", {"#f": 7}]}], "t": [["^t", {"#f": 2}], "ev", "void", "/ev", "->->", {"#f": 3}],
     "global decl": ["ev", 1, {"VAR=": "x"}, "/ev", "end", None]}]}
-
-
-def frame(kind, place, depth=0, evaluating=False, fresh=False, **temps):
-    return {"depth": depth, "eval": evaluating, "fresh": fresh, "kind": kind, "place": place, "temps": temps}
-
-
-def thread(previous, *frames):
-    return {"frames": list(frames), "previous": previous}
-
-
-def choice(text, target, stands, hidden=False, *tags):
-    return {"hidden": hidden, "tags": list(tags), "target": target, "text": text, "thread": stands}
-
-
-def save_1(**other):
-    """A save of the story in layout 1, with these in the place of what it has at its start."""
-    return dict({"choices": [], "format": 1, "globals": [["x", 1]], "safe": False, "stack": [], "threads": [thread(None, frame("base", [0, 0]))],
-                 "turn": 0, "turns": [], "visits": []}, **other)
-
-
-def save(**other):
-    """The same in layout 2."""
-    return model.in_layout_2(save_1(**other))
-
-
-def flow(name, **other):
-    """A flow of a save, with these in the place of what it has at its start."""
-    return dict(save(**other)["flows"][0], name=name)
 
 
 SAVES = {

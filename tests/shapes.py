@@ -1,7 +1,7 @@
 #!/usr/bin/env python3
 """Plays shapes of stories, saves and command lines that are made to take long or much, beside plain ones of their size or number of steps.
 
-    tests/shapes.py [--prog PROGRAM] [--size MIB] [--seconds N] [--space GIB] [NAME..]
+    tests/shapes.py [--program PROGRAM] [--size MIB] [--seconds N] [--space GIB] [NAME..]
         ./inkplay, stories of 16 MiB, 20 seconds, 3 GiB and all shapes, unless others are named; names may be parts of names
 
 The shapes stand in hostile.py. Each is one run of the program. Its row has the bytes that are read, the processor time, how often
@@ -14,7 +14,6 @@ takes. The status is 0 only where no row is marked.
 """
 import argparse
 import os
-import subprocess
 import sys
 
 import launch
@@ -98,18 +97,17 @@ def shapes(names, size):
 
 def main():
     parser = argparse.ArgumentParser()
-    parser.add_argument("--prog", default=os.path.join(toolchain.TOP, "out/inkplay/inkplay/crates/inkplay/out/inkplay"))
+    parser.add_argument("--program")
     parser.add_argument("--size", type=float, default=16)
     parser.add_argument("--seconds", type=int, default=20)
     parser.add_argument("--space", type=float, default=3)
     parser.add_argument("names", nargs="*")
     words = parser.parse_args()
-    if not os.path.exists(words.prog):
-        subprocess.run([os.path.join(toolchain.TOP, "inkplay")], input=b'{"inkVersion":21,"root":["done",null]}\n', check=True)  # built
+    program = os.path.realpath(words.program or toolchain.player())
     tried = marked = 0
     with launch.Launcher() as launcher:
         def run(text, program_words=()):
-            return launcher.run([os.path.realpath(words.prog), *program_words], text.encode(errors="surrogateescape"), words.seconds, int(words.space * 1024) * MIB)
+            return launcher.run([program, *program_words], text.encode(errors="surrogateescape"), words.seconds, int(words.space * 1024) * MIB)
 
         measure = Measure(run)
         plain = measure.plain

@@ -29,6 +29,14 @@ def program(crate, words=()):
     return built
 
 
+def player():
+    """The path of the program that plays stories, which ./inkplay proves and builds first where something has changed."""
+    done = subprocess.run([os.path.join(TOP, "inkplay")], input=b'{"inkVersion":21,"root":["done",null]}\n', stdout=subprocess.DEVNULL)
+    if done.returncode:
+        sys.exit("%s: inkplay is not built" % os.path.basename(sys.argv[0]))
+    return os.path.join(TOP, "out/inkplay/inkplay/crates/inkplay/out/inkplay")
+
+
 # Which program runs the tables whose names begin so (docs/TABLES.md).
 OF_TABLES = {"boxes": "playtest", "marks": "marktest", "parts": "marktest", "players": "playtest", "sessions": "playtest", "twins": "twintest"}
 
