@@ -248,8 +248,22 @@ def cuts(program, at):
     os.remove(at.save)
 
 
+def story_of_long_texts():
+    """A story with so many globals of one long text that its save has more than 64 MiB."""
+    declared = ["ev", "str", "^" + "a" * MIB, "/str", {"VAR=": "a"}]
+    for number in range(64):
+        declared += [{"VAR?": "a"}, {"VAR=": "a%d" % number}]
+    return {"inkVersion": 21, "root": [["^Long.", "\n", "done", None], "done", {"global decl": declared + ["/ev", "end", None]}]}
+
+
 def refusals(program, at):
     """Where the save cannot be written, what was saved stays."""
+    long = os.path.join(at.path, "long.json")
+    write(long, json.dumps(story_of_long_texts()).encode())
+    told = "The save would be longer than 64 MiB; what was saved before stays.\n"
+    yield "a save that would be too long", read(program, [long, "--no-autosave"], "s\nq\n"), ("Long.\nThe story ends here.\n> " + told + "> ", "", 0)
+    yield "nothing of it is kept", at.files(), ["long.json", "loop.json"]
+    os.remove(long)
     os.mkdir(at.save)
     yield "a folder as the save", read(program, [at.story], "\ns\n1\nq\n"), (GOES_ON + "The save could not be read; it stays as it is.\nRound 1.\n" + CHOICES + NOT_WRITTEN + "> Round 2.\n" + CHOICES, "", 0)
     yield "the folder stays", at.files(), ["loop.json", "loop.json.save"]
