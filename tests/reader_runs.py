@@ -66,6 +66,21 @@ FAULTS = (
         "a\x1b[31mb\x9b2Jc": ["^One.", "\n"] + DIVIDES + ["done", None]}], "One.\n", "a [31mb 2Jc.2"),
 )
 
+# Stories that call a function, words, what is typed, and what is printed.
+CALLS = ["ev", {"x()": "f"}, "out", "/ev", "\n", "done", None]
+THREE = "3\nThe story ends here.\n> "
+QUESTIONS = (
+    ("a function that is a knot", [CALLS, "done", {"f": ["ev", 3, "/ev", "~ret", None]}], [], "", THREE),
+    ("a function that a word binds", [CALLS, "done", {}], ["--answer", "f=[3]"], "", THREE),
+    ("a function that a word binds by a table", [CALLS, "done", {}], ["--table", 'f={"[]":3}'], "", THREE),
+    ("a function that a word binds, beside one that asks", [["ev", {"x()": "g"}, "out", "/ev"] + CALLS, "done", {}], ["--answer", "f=[3]"], "2\n", "g() = 2" + THREE),
+    ("a function at the end of the input", [CALLS, "done", {}], [], "",
+     "f() = A function had no answer to give.\n%sThe line that broke off began at 0.\n> " % BROKE_OFF),
+    ("a question with control characters", [
+        ["ev", "str", "^\x9b2Jc", "/str", {"x()": "a\x1b[31mb\x9b2J", "exArgs": 1}, "out", "/ev", "\n", "done", None], "done", {}], [], "3\n",
+     'a [31mb 2J(" 2Jc") = ' + THREE),
+)
+
 
 def run(program, folder, words, typed, **env):
     """What a reading prints, its standard error and its status."""
@@ -113,6 +128,10 @@ def runs(program, folder):
             json.dump(dict(STORY, root=root), out)
         told = "%s%s%sThe line that broke off began at %s.\n> " % (lines, DIVIDED, BROKE_OFF, path)
         yield name, run(program, folder, ["fault.json", "--no-autosave"], ""), (told, "", 0)
+    for name, root, words, typed, printed in QUESTIONS:
+        with open(os.path.join(folder, "calls.json"), "w", encoding="utf-8") as out:
+            json.dump(dict(STORY, root=root), out)
+        yield name, run(program, folder, ["calls.json", "--no-autosave"] + words, typed), (printed, "", 0)
     with open(os.path.join(folder, "fault.json"), "w", encoding="utf-8") as out:
         json.dump(dict(STORY, root=[["ev", "str", "^On.", "/str", "/ev", {"*": "knot", "flg": 4}, "done", None], "done", {"knot": ["^One.", "\n"] + DIVIDES + ["done", None]}]), out)
     run(program, folder, ["fault.json", "--save", "other"], "q\n")
@@ -128,6 +147,10 @@ def runs(program, folder):
     with open(os.path.join(folder, "bad.json"), "w", encoding="utf-8") as out:
         json.dump(dict(STORY, root=["done", {"k": ["^a", 1.5, None]}]), out)
     yield "a story that is refused", run(program, folder, ["bad.json"], ""), ("", BAD, 2)
+    with open(os.path.join(folder, "bad.json"), "w", encoding="utf-8") as out:
+        json.dump(dict(STORY, root=["done", {"k\x1b[31m\x9b2J": ["^a", "b\x9b2J", None]}]), out)
+    told = BAD.replace("k.1", "k [31m 2J.1").replace("1.5", '"b 2J"')
+    yield "a refused story with control characters", run(program, folder, ["bad.json"], ""), ("", told, 2)
     with open(os.path.join(folder, "marked.json"), "w", encoding="utf-8-sig") as out:
         json.dump(dict(STORY, root=["done", {"k": ["^a", 1.5, None]}]), out)
     yield "a refused story behind a byte order mark", run(program, folder, ["marked.json"], ""), ("", BAD, 2)

@@ -9,7 +9,7 @@ ghost use Rattle.ink_json.specs.Story.{tree};
 ghost use Rattle.ink_model.specs.Story.Acceptance.{accepted, bad_places, counted_container, written_target};
 ghost use Rattle.ink_model.specs.Story.Grammar.{here};
 ghost use Rattle.ink_model.specs.Story.Places.{places};
-ghost use Rattle.ink_model.specs.Story.Tree.{StoryTree, at};
+ghost use Rattle.ink_model.specs.Story.Tree.{at};
 ghost use Rattle.ink_model.specs.declared.fault.Cause.TheVariants.{OutOfMemory};
 ghost use Rattle.ink_tree.specs.Nodes as nodes;
 
@@ -100,7 +100,7 @@ fn refusal(alloc: Global, tree: &Tree, failure: Failure<NodeId>) -> ReadRefusal
 {
     let place = match failure {
         Failure::OutOfMemory => None,
-        Failure::Refused(node) => tree.place(spot_of(node)).ok(),
+        Failure::Refused(node) => tree.place(Spot::of(node)).ok(),
     };
     match place {
         Some(place) => ReadRefusal {
@@ -108,15 +108,5 @@ fn refusal(alloc: Global, tree: &Tree, failure: Failure<NodeId>) -> ReadRefusal
             place,
         },
         None => ReadRefusal::at_root(alloc, Cause::OutOfMemory),
-    }
-}
-
-// The content itself, as a place.
-fn spot_of(node: NodeId) -> Spot
-    ensures { (s : StoryTree) → nodes.place_of s result ≡ nodes.node_place s node }
-{
-    Spot {
-        holder: node,
-        index: None,
     }
 }

@@ -60,9 +60,9 @@ fn written(leaf: &Leaf) -> Option<(&str, Purpose)>
     match leaf {
         Leaf::Target(text) => Some((text.as_str(), Purpose::Value)),
         Leaf::Count(text) => Some((text.as_str(), Purpose::Count)),
-        Leaf::Divert { to, .. } => destination(to),
-        Leaf::Call { to, .. } => destination(to),
-        Leaf::Tunnel { to, .. } => destination(to),
+        Leaf::Divert { to, .. } | Leaf::Call { to, .. } | Leaf::Tunnel { to, .. } => {
+            destination(to)
+        }
         Leaf::Choice { target, flags } => Some((target.as_str(), choice_purpose(*flags))),
         _ => None,
     }

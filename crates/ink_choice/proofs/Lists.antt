@@ -1,6 +1,6 @@
 -- Lists of choices, seen one after another.
-use Rattle.std.proofs.Common.{◌≡◌, ◌≢◌, ◌⊎◌, ◌∙◌, ℕ, zero, suc, ◌+◌, ◌<◌, ◌≤◌, Bool, true, false, not, ◌||◌, cond, if◌then◌else◌, List, [], ◌∷◌, ◌++◌, length, map, get_or, slice_get, take, drop, Option, Some, None, Result, Ok, Err, Vec, vec_capacity, vec_len, nat_le, ◌==◌, option_map, ap, sym, refl, append_assoc, add-one, subst, arith, inl, inr}
-use Rattle.std.specs.List.{filter, remove}
+use Rattle.std.proofs.Common.{◌≡◌, ◌≢◌, ◌⊎◌, ◌∙◌, ℕ, zero, suc, ◌+◌, ◌<◌, ◌≤◌, Bool, true, false, not, ◌||◌, if◌then◌else◌, List, [], ◌∷◌, ◌++◌, length, map, get_or, slice_get, take, drop, Option, Some, None, Result, Ok, Err, Vec, vec_capacity, vec_len, nat_le, ◌==◌, option_map, ap, sym, refl, append_assoc, add-one, subst, arith, inl, inr}
+use Rattle.std.specs.List.{remove}
 use Rattle.std.specs.Result.{OnErr}
 use Rattle.std.proofs.lemmas.Bool.{cases_Bool, le-leb, le-ltb, lt-leb, lt-ltb, not-false, not-true}
 use Rattle.std.proofs.lemmas.List.{append-nil, drop_all, drop_more, take_more}
@@ -120,14 +120,6 @@ module _ {P : Type 0} where
     | inl hides ↦ rw hides (any_visible cs i d (omega arith) e)
     | inr shows ↦ rw shows (λ none. absurd (cc))
   ]
-
-  -- ---- how many there are
-
-  pub visible_is : (cs : List (ChoiceOf P)) → visible cs ≡ filter (λ c. not c.hidden) cs
-  visible_is [] = refl
-  visible_is (c ∷ cs) =
-      elim c.hidden as (λ b. (if b then visible cs else c ∷ visible cs) ≡ cond (not b) (c ∷ filter (λ d. not d.hidden) cs) (filter (λ d. not d.hidden) cs))
-      [ true ↦ visible_is cs | false ↦ ap (λ xs. c ∷ xs) (visible_is cs) ]
 
   -- ---- one more
 

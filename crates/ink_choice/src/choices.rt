@@ -72,6 +72,7 @@ impl<P: Copy> Choices<P> {
     pub fn add(&mut self, choice: Choice<P>) -> Result<(), Fault>
         ensures items { Grows (rules.added choice self.old.items) self.old.items self.new.items result }
         ensures trail { TrailsOrKeeps choices_back 1 self.old.items self.old.trail self.new.items self.new.trail result }
+        ensures pair { OnOk result (self.new.trail.undo ≡ with_pair ChoicePair.Added 1 self.old.trail.undo) }
         ensures stood { choices_stood self.new ≡ choices_stood self.old }
         ensures spare { choices_spare self.old ≤ choices_spare self.new + 1 }
     {
@@ -93,16 +94,6 @@ impl<P: Copy> Choices<P> {
             }
         }
         Ok(Seq::from_vec(shown))
-    }
-
-    /// How many are visible. Takes no memory.
-    pub fn count_visible(&self) -> usize
-        ensures { result ≡ length (rules.visible self.now.items) }
-    {
-        self.items
-            .iter()
-            .filter(|choice| is_visible(*choice))
-            .count()
     }
 
     /// Whether there are choices and none is visible. Takes no memory.

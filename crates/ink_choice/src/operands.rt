@@ -84,7 +84,7 @@ fn find_words<'s>(
     match value_at(stack, depth) {
         Some(Value::Text(text)) => {
             let tags = depth + 1;
-            let text = text.get().as_str();
+            let text = text.as_str();
             Ok((Words { text, tags }, tags_end(stack, tags)))
         }
         Some(_) => Err(Fault::BadOperands),

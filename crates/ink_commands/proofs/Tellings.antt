@@ -1,12 +1,11 @@
 -- What is told, and to whom.
-use Rattle.std.proofs.Common.{◌≡◌, ◌≢◌, ◌∙◌, ap, refl, subst, ℕ, List, [], ◌∷◌, map, filter, Bool, true, false, ◌&&◌, cond, Result}
+use Rattle.std.proofs.Common.{◌≡◌, ◌∙◌, ap, refl, subst, ℕ, List, [], ◌∷◌, map, filter, Bool, true, false, ◌&&◌, cond, Result}
 use Rattle.ink_host.specs.Desk.{DeskView, Rows, watches}
 use Rattle.ink_host.specs.Telling.{IsRound, Watching}
 use Rattle.ink_host.specs.declared.objects.Called.{Called}
 use Rattle.ink_model.specs.Variables.Store.{Values, stored}
 use Rattle.ink_model.specs.Host.Told.{ToldAs, change_of, is_other, is_told, told}
 use Rattle.ink_model.specs.declared.host.Change.{Change}
-use Rattle.ink_model.specs.declared.value.Value.{Value}
 use Rattle.ink_commands.specs.Telling.{TellsWatchers}
 
 -- all that is told of is watched
@@ -21,17 +20,6 @@ told-watched w start (e ∷ es) = by (w e.0) (is_other (stored e.0 start) e.1) r
         ap (λ x. cond x (change_of e ∷ filter (λ c. w c.name) (told w start es)) (filter (λ c. w c.name) (told w start es))) h ∙ ap (λ cs. change_of e ∷ cs) k
     by true false h k = k
     by false o h k = k
-
--- of one global, where it is not watched or has this value
-pub told-nothing : (w : List ℕ → Bool) (start : Values) (name : List ℕ) (v : Value) → is_told w start (name, v) ≡ false → told w start ((name, v) ∷ []) ≡ []
-told-nothing w start name v h = ap (λ b. map change_of (cond b ((name, v) ∷ []) [])) h
-
-pub told-one : (w : List ℕ → Bool) (start : Values) (name : List ℕ) (v : Value) → is_told w start (name, v) ≡ true → told w start ((name, v) ∷ []) ≡ change_of (name, v) ∷ []
-told-one w start name v h = ap (λ b. map change_of (cond b ((name, v) ∷ []) [])) h
-
-pub told-some : (w : List ℕ → Bool) (start : Values) (name : List ℕ) (v : Value) → is_told w start (name, v) ≡ true → told w start ((name, v) ∷ []) ≢ []
-told-some w start name v h none =
-    let one = told-one w start name v h in absurd (cc)
 
 -- nothing was told
 abbrev pub nobody-told : (n : ℕ) → ToldAs n [] true []

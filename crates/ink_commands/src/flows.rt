@@ -27,8 +27,8 @@ pub fn go_to_flow(
     ensures does { let s = story_tree story.now in (n : ℕ) → GoesToFlow s name.now (state_in s broken machine.old n) (reply_of_landing result) (state_in s broken machine.new n) }
     ensures mark { stood_of machine.new ≡ unmarked }
 {
-    if let Some(earlier) = broken {
-        return Err(Refusal::Broken(earlier));
+    if let Some(fault) = broken {
+        return Err(Refusal::Broken(fault));
     }
     if !is_flow_name(name) {
         return Err(Refusal::BadValue);
@@ -49,8 +49,8 @@ pub fn drop_flow(machine: &mut Machine, broken: Option<Fault>, name: &str) -> Re
     ensures does { (s : StoryTree) (n : ℕ) → DropsFlow s name.now (state_in s broken machine.old n) (reply_of_landing result) (state_in s broken machine.new n) }
     ensures mark { stood_of machine.new ≡ unmarked }
 {
-    if let Some(before) = broken {
-        return Err(Refusal::Broken(before));
+    if let Some(fault) = broken {
+        return Err(Refusal::Broken(fault));
     }
     if !machine.has_flow(name) {
         return Err(Refusal::NoSuchFlow);

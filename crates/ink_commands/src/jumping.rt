@@ -27,8 +27,8 @@ pub fn jump(
     ensures does { let s = story_tree story.now in (n : ℕ) → JumpsTo s path.now (state_in s broken machine.old n) (reply_of_landing result) (state_in s broken machine.new n) }
     ensures mark { stood_of machine.new ≡ unmarked }
 {
-    if let Some(reason) = broken {
-        return Err(Refusal::Broken(reason));
+    if let Some(fault) = broken {
+        return Err(Refusal::Broken(fault));
     }
     let place = match landing_by(alloc, story, path) {
         Ok(place) => place,

@@ -1,18 +1,16 @@
 //! Telling the watchers what a command changes (docs/HOST.md, "Telling").
 
-ghost use Rattle.std.specs.Prelude.{◌≡◌, [], ◌∷◌, IfOk, filter};
+ghost use Rattle.std.specs.Prelude.{◌≡◌, [], ◌∷◌, filter};
 ghost use Rattle.ink_host.specs.Desk.{Resting, watches};
 ghost use Rattle.ink_host.specs.Telling.{rests};
-ghost use Rattle.ink_model.specs.Host.Told as rules;
-ghost use Rattle.ink_model.specs.Host.Told.{change_of, told};
+ghost use Rattle.ink_model.specs.Host.Told.{told};
 ghost use Rattle.ink_commands.specs.Telling.{TellsWatchers};
 ghost use Rattle.ink_step.specs.Standing.{globals_of, start_of};
 
-use ink_host::{Change, Desk, PureFn, TellFault, TurnFn, Watcher};
-use ink_model::{Seq, Text, Value};
+use ink_host::{Desk, TellFault, TurnFn, Watcher};
+use ink_model::{Change, Value};
 use ink_step::Machine;
-use ink_told::told_between;
-use ink_value::same_value;
+use ink_told::{told_between, told_one};
 use std::alloc::{AllocError, Global};
 
 // Tells these changes; whether all watchers found memory. The one error is a refused request for memory, which is made only where
@@ -45,16 +43,13 @@ pub fn tell_one<P, F: TurnFn, O: Watcher>(
     ensures functions { desk.new.functions ≡ desk.old.functions }
     ensures rest { Resting (rests O.state) desk.old.watchers → Resting (rests O.state) desk.new.watchers }
 {
-    if !is_told(desk, machine, name, value) {
-        return Ok(true);
-    }
-    let changes = one_change(alloc, name, value)?;
+    let changes = told_one(alloc, machine.globals(), name, value, desk)?;
     tell(desk, changes.as_slice())
 }
 
 /// Tells the watchers of the globals that have another value in the new machine than in the old one, or were not there; whether all
 /// of them found memory. The one error is that of `tell_one`.
-pub fn tell_between<P: PureFn, F: TurnFn, O: Watcher>(
+pub fn tell_between<P, F: TurnFn, O: Watcher>(
     alloc: Global,
     desk: &mut Desk<P, F, O>,
     old: &Machine,
@@ -68,9 +63,9 @@ pub fn tell_between<P: PureFn, F: TurnFn, O: Watcher>(
     tell(desk, changes.as_slice())
 }
 
-/// Tells the watchers of the globals that have another value than when the last running command began, or were not there then;
-/// whether all of them found memory. The one error is that of `tell_one`.
-pub fn tell_changed<P: PureFn, F: TurnFn, O: Watcher>(
+/// Tells the watchers of the globals that have another value than when the last running command began or the last global was set,
+/// whichever came later, or were not there then; whether all of them found memory. The one error is that of `tell_one`.
+pub fn tell_changed<P, F: TurnFn, O: Watcher>(
     desk: &mut Desk<P, F, O>,
     machine: &Machine,
 ) -> Result<bool, AllocError>
@@ -86,7 +81,7 @@ pub fn tell_changed<P: PureFn, F: TurnFn, O: Watcher>(
 
 // The same where somebody may watch. Out of the way of a player that nobody watches.
 #[inline(never)]
-fn tell_watchers<P: PureFn, F: TurnFn, O: Watcher>(
+fn tell_watchers<P, F: TurnFn, O: Watcher>(
     desk: &mut Desk<P, F, O>,
     machine: &Machine,
 ) -> Result<bool, AllocError>
@@ -96,30 +91,4 @@ fn tell_watchers<P: PureFn, F: TurnFn, O: Watcher>(
 {
     let changes = machine.told(desk)?;
     tell(desk, changes.as_slice())
-}
-
-// Whether a global is watched, and was absent or had another value.
-fn is_told<P, F, O>(desk: &Desk<P, F, O>, machine: &Machine, name: &str, value: &Value) -> bool
-    ensures { result ≡ rules.is_told (watches desk.now.watchers) (globals_of machine.now) (name.now, value.now) }
-{
-    if !desk.watches(name) {
-        return false;
-    }
-    match machine.globals().get(name) {
-        Some(before) => !same_value(before, value),
-        None => true,
-    }
-}
-
-// One change, to be told. The one error is a refused request for memory.
-fn one_change(alloc: Global, name: &str, value: &Value) -> Result<Seq<Change>, AllocError>
-    ensures { IfOk result (λ changes. changes ≡ change_of (name.now, value.now) ∷ []) }
-{
-    let change = Change {
-        name: Text::from_str(alloc, name)?,
-        value: value.clone_in(alloc)?,
-    };
-    let mut changes = Vec::new(alloc);
-    changes.push(change)?;
-    Ok(Seq::from_vec(changes))
 }

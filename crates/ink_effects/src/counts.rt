@@ -114,10 +114,7 @@ pub(crate) fn push_read_count(
 pub(crate) fn counted(story: &Story, here: Spot) -> Option<NodeId>
     ensures { let s = story_tree story.now in option_map (node_place s) result ≡ counted_container s (place_of s here) }
 {
-    let Some(node) = story.tree().node(here) else {
-        return None;
-    };
-    story.counted(node)
+    story.counted(story.tree().node(here)?)
 }
 
 /// The container that holds the content at a place, none for the root.

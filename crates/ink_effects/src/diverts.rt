@@ -192,10 +192,7 @@ pub(crate) fn landing_on(story: &Story, path: &Path) -> Option<Landing>
 pub fn number_of(story: &Story, here: Spot) -> Option<usize>
     ensures { let s = story_tree story.now in result ≡ variable_number s (place_of s here) }
 {
-    let Some(node) = story.tree().node(here) else {
-        return None;
-    };
-    story.variable(node)
+    story.variable(story.tree().node(here)?)
 }
 
 /// Where the written path of the content at a place leads.
@@ -203,8 +200,5 @@ pub fn number_of(story: &Story, here: Spot) -> Option<usize>
 pub(crate) fn written_landing(story: &Story, here: Spot) -> Option<Spot>
     ensures { let s = story_tree story.now in option_map (place_of s) result ≡ written_target s (place_of s here) }
 {
-    let Some(node) = story.tree().node(here) else {
-        return None;
-    };
-    story.target(node)
+    story.target(story.tree().node(here)?)
 }

@@ -22,9 +22,9 @@ ghost use Rattle.ink_effects.specs.External.{PerformsCall, call_of, is_asking, i
 ghost use Rattle.ink_effects.specs.Performs.{Performs, fields};
 ghost use Rattle.ink_effects.specs.Refusals.{StepStopsAtRefusal};
 
-use crate::diverts::is_wanted;
+use crate::diverts::{entering, is_wanted};
 use crate::operands::put_over;
-use crate::transfer::{Landing, Transfer, moving};
+use crate::transfer::{Transfer, moving};
 use ink_check::Story;
 use ink_host::{Desk, FnKind, PureFn, TurnFn, Watcher};
 use ink_model::{Fault, Given, Leaf, MAX_TEXT, Value, value_given};
@@ -136,13 +136,7 @@ fn fall_back<'a>(story: &Story, name: &str) -> Result<Transfer<'a>, Fault>
         holder,
         index: None,
     });
-    Ok(Transfer::Call(
-        CallKind::Function,
-        Landing {
-            place,
-            enters: true,
-        },
-    ))
+    Ok(Transfer::Call(CallKind::Function, entering(place)))
 }
 
 // The turn function of that name is called.
@@ -293,7 +287,7 @@ fn fits(given: &Given) -> bool
 {
     match given {
         Given::Int(number) => {
-            // Read, so that its 32 bits are known.
+            // No effect at run time: a proof reads from it that the number has 32 bits.
             let _number = *number;
             true
         }

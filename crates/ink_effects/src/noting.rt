@@ -16,8 +16,7 @@ use ink_tree::Spot;
 use ink_value::EvalStack;
 use ink_vars::Counts;
 
-/// Makes room for so many changes of threads to be noted, where a mark stands. `OutOfMemory` where there is less room
-/// and memory is refused; the room stays as it was then. Nothing else changes.
+/// Makes room for so many changes of threads to be noted.
 #[inline(always)]
 pub fn ready_threads(threads: &mut Threads<Spot>, count: usize) -> Result<(), Fault>
     ensures threads { threads.new.threads ≡ threads.old.threads }
@@ -31,8 +30,7 @@ pub fn ready_threads(threads: &mut Threads<Spot>, count: usize) -> Result<(), Fa
     Ok(())
 }
 
-/// Makes room for so many changes of an evaluation stack to be noted, where a mark stands. `OutOfMemory` where there is less room
-/// and memory is refused; the room stays as it was then. Nothing else changes.
+/// Makes room for so many changes of an evaluation stack to be noted.
 #[inline(always)]
 pub fn ready_stack(stack: &mut EvalStack, count: usize) -> Result<(), Fault>
     ensures items { stack.new.items ≡ stack.old.items }
@@ -45,8 +43,7 @@ pub fn ready_stack(stack: &mut EvalStack, count: usize) -> Result<(), Fault>
     Ok(())
 }
 
-/// Makes room for so many changes of choices to be noted, where a mark stands. `OutOfMemory` where there is less room
-/// and memory is refused; the room stays as it was then. Nothing else changes.
+/// Makes room for so many changes of choices to be noted.
 #[inline(always)]
 pub fn ready_choices(choices: &mut Choices<Spot>, count: usize) -> Result<(), Fault>
     ensures items { choices.new.items ≡ choices.old.items }
@@ -59,8 +56,7 @@ pub fn ready_choices(choices: &mut Choices<Spot>, count: usize) -> Result<(), Fa
     Ok(())
 }
 
-/// Makes room for so many changes of counts to be noted, where a mark stands. `OutOfMemory` where there is less room
-/// and memory is refused; the room stays as it was then. Nothing else changes.
+/// Makes room for so many changes of counts to be noted.
 #[inline(always)]
 pub(crate) fn ready_counts(counts: &mut Counts, count: usize) -> Result<(), Fault>
     ensures rows { counts.new.rows ≡ counts.old.rows }

@@ -107,8 +107,5 @@ pub(crate) fn top_copy(alloc: Global, stack: &EvalStack) -> Result<Value, Fault>
 {
     let value = stack.peek(0)?;
     check_room(stack)?;
-    match value.clone_in(alloc) {
-        Ok(copy) => Ok(copy),
-        Err(_) => Err(Fault::OutOfMemory),
-    }
+    Ok(value.clone_in(alloc)?)
 }

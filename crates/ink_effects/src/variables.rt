@@ -95,10 +95,8 @@ pub(crate) fn push_pointer(
         return Ok(());
     }
     check_room(stack)?;
-    match point(threads, frame, name) {
-        Ok(pointer) => push(stack, pointer),
-        Err(fault) => Err(fault),
-    }
+    let pointer = point(threads, frame, name)?;
+    push(stack, pointer)
 }
 
 /// What is popped becomes the value of a variable in a scope, which need not be there. `StackEmpty` where nothing is there to be

@@ -223,7 +223,7 @@ impl<P, T: TurnFn, W: Watcher> Desk<P, T, W> {
     }
 }
 
-impl<P, T, W: Watcher> Desk<P, T, W> {
+impl<P, T, W> Desk<P, T, W> {
     /// Has a watcher told the new values of a global, and hands back who was told them before. The one error is a refused
     /// request for memory, which is made only where nobody was; it hands back the watcher, and nothing has changed.
     pub fn watch(&mut self, name: &str, watcher: W) -> Result<Option<W>, W>
@@ -243,9 +243,7 @@ impl<P, T, W: Watcher> Desk<P, T, W> {
     {
         self.watchers.shift_remove(name)
     }
-}
 
-impl<P, T, W> Desk<P, T, W> {
     /// Hands back all that was bound and all who watch, each by its name. Events that nobody has taken go.
     pub fn close(self) -> (IndexMap<String, Bound<P, T>>, IndexMap<String, W>)
         ensures functions { entries_as_rows string_bytes (λ b. b) result.0.entries ≡ self.functions }

@@ -35,10 +35,10 @@ pub(crate) fn keep<X>(
         return Err(object);
     };
     match rows.insert(key, object) {
-        Ok(old) => return Ok(old),
+        Ok(old) => Ok(old),
         Err(refused) => {
             let (_, object) = refused.value;
-            return Err(object);
+            Err(object)
         }
     }
 }

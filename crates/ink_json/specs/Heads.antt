@@ -11,8 +11,8 @@ use Rattle.ink_json.specs.declared.heads.Head.{Head}
 use Rattle.ink_json.specs.declared.heads.Head.TheVariants as heads
 use Rattle.ink_json.specs.declared.readings.Jump.{Jump}
 use Rattle.ink_json.specs.declared.readings.Jump.TheVariants as ways
-use Rattle.ink_json.specs.declared.readings.Scope.{Scope}
-use Rattle.ink_json.specs.declared.readings.Scope.TheVariants as scopes
+use Rattle.ink_model.specs.declared.scope.Scope.{Scope}
+use Rattle.ink_model.specs.declared.scope.Scope.TheVariants as scopes
 use Rattle.ink_json.specs.declared.heads.Found.{Found}
 use Rattle.ink_json.specs.declared.heads.Found.TheVariants.{Nothing, One, Several}
 

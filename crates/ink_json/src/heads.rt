@@ -6,7 +6,8 @@ ghost use Rattle.ink_model.specs.Story.Leaves.{by_head, jump_readings, value_rea
 ghost use Rattle.ink_json.specs.Heads.{Counts, Adds, reading};
 
 use crate::object::Object;
-use crate::readings::{Jump, Scope};
+use crate::readings::Jump;
+use ink_model::Scope;
 use json_tape::value::Value;
 
 /// The key that says what an object is.

@@ -13,7 +13,7 @@ use crate::limits::MOST;
 use crate::object::Object;
 use crate::options::{frame, is_on, whole_or};
 use crate::texts::Texts;
-use ink_model::{Cause, Destination, Leaf, MAX_TEXT, Shared, Text};
+use ink_model::{Cause, Destination, Leaf, MAX_TEXT, Scope, Shared, Text};
 use json_tape::value::Value;
 use std::alloc::Global;
 
@@ -26,13 +26,6 @@ pub(crate) enum Jump {
     Divert,
     Call,
     Tunnel,
-}
-
-/// Which variable is stored to.
-#[derive(Clone, Copy)]
-pub(crate) enum Scope {
-    Global,
-    Temporary,
 }
 
 /// A jump, which may pop a condition.

@@ -28,7 +28,8 @@ use ink_trail::Undo;
 use ink_tree::{Spot, Tree};
 use ink_value::EvalStack;
 
-/// How many changes of threads a move makes at the most before it makes room again: each thread may end, and flow is put somewhere.
+/// Room for the changes of threads that a move makes before it makes room again: up to 99 threads end, and flow is put somewhere. The
+/// rest is to spare.
 pub const MOVING: usize = 108;
 
 /// How a step ended: flow went on, or it has stopped; or a turn function would be called, by a step that is to call none.

@@ -109,7 +109,7 @@ impl Piece {
         Piece::whole(&copy)
     }
 
-    /// A text, and no blanks or newline.
+    /// Whether it is a text, and no blanks or newline.
     #[inline(always)]
     pub(crate) fn is_text(&self) -> bool
         ensures { result ≡ is_text (piece_mark self.now) }
@@ -117,7 +117,7 @@ impl Piece {
         matches!(self, Piece::Text(_) | Piece::Part(_))
     }
 
-    /// It is let through, which a newline is not where the top frame is a `fresh` function.
+    /// Whether it is let through, which a newline is not where the top frame is a `fresh` function.
     #[inline(always)]
     pub(crate) fn is_let_through(&self, fresh: bool) -> bool
         ensures { result ≡ not (fresh && is_newline_mark (piece_mark self.now)) }
@@ -125,7 +125,7 @@ impl Piece {
         !(fresh && matches!(self, Piece::Newline))
     }
 
-    /// The function is still fresh behind it.
+    /// Whether the function is still fresh behind it.
     #[inline(always)]
     pub(crate) fn leaves_fresh(&self, fresh: bool) -> bool
         ensures { result ≡ (fresh && not (is_text (piece_mark self.now))) }
@@ -149,7 +149,7 @@ impl Piece {
     }
 }
 
-/// The white at one of a text's ends holds a newline, so that the text is more than one piece.
+/// Whether the white at one of a text's ends holds a newline, so that the text is more than one piece.
 #[inline(always)]
 pub(crate) fn is_cut(text: &str) -> bool
     requires { 0 < length text.now }
@@ -308,7 +308,7 @@ fn trailing(text: &str, space: Space) -> usize
     bytes.len()
 }
 
-/// Some byte of a text is no blank.
+/// Whether some byte of a text is no blank.
 #[inline(always)]
 pub(crate) fn has_words(text: &[u8]) -> bool
     ensures { result ≡ list_any (λ byte. not (is_blank byte)) text.now }
@@ -321,7 +321,7 @@ pub(crate) fn has_words(text: &[u8]) -> bool
     false
 }
 
-/// A newline stands at a place in a text.
+/// Whether a newline stands at a place in a text.
 fn is_newline_at(text: &str, at: usize) -> bool
     ensures { result ≡ is_newline (slice_index text.now at) }
 {

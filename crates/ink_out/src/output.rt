@@ -129,6 +129,7 @@ impl Output {
             Value::Int(number) => self.note_words(Words::Number(*number)),
             Value::Bool(truth) => self.note_words(Words::Truth(*truth)),
             Value::Void => {
+                // No effect at run time: a proof reads from it that the line is within its limit.
                 let _unchanged = &self.line;
                 Ok(false)
             }
@@ -160,7 +161,7 @@ impl Output {
         ensures spare { output_spare self.old ≤ output_spare self.new + length (let_through fresh (cut text.now)) }
     {
         let line = &mut self.line;
-        let written = text.get().as_str();
+        let written = text.as_str();
         if written.is_empty() {
             return Ok(false);
         }
@@ -190,6 +191,7 @@ impl Output {
         ensures spare { output_spare self.old ≤ output_spare self.new + 1 }
     {
         if fresh {
+            // No effect at run time: a proof reads from it that the line is within its limit.
             let _unchanged = &mut self.line;
             return Ok(());
         }

@@ -158,7 +158,7 @@ fn write_all(
     Ok(())
 }
 
-// The newline that waits stands at an index.
+// Whether the newline that waits stands at an index.
 #[inline(always)]
 fn is_at(at: usize, newline: Option<Waiting>) -> bool
     ensures { result ≡ is_at at newline }

@@ -146,7 +146,7 @@ impl Section {
         self.marks.len()
     }
 
-    /// A newline that is shown stands at an index.
+    /// Whether a newline that is shown stands at an index.
     pub(crate) fn is_shown(&self, index: usize) -> bool
         ensures { result ≡ is_shown self.now index }
     {
@@ -167,7 +167,7 @@ impl Section {
         Some(newline.at)
     }
 
-    /// A text or tag stands at an index or behind it.
+    /// Whether a text or tag stands at an index or behind it.
     pub(crate) fn more_from(&self, index: usize) -> bool
         ensures { result ≡ more_from self.now index }
     {
@@ -394,7 +394,7 @@ fn take_last_back(
     unsettle(settled, &mark, newline);
 }
 
-// The index of the last text or tag, if there is one, is past an index or the same.
+// Whether the index of the last text or tag, if there is one, is past an index or the same.
 fn is_past(index: usize, last: Option<usize>) -> bool
     ensures { result ≡ is_past index last }
 {

@@ -182,24 +182,21 @@ impl Tracker {
     pub(crate) fn tag(&mut self)
         ensures { (before : List Mark) (text settled : List ℕ) → Tracks before self.old settled → Tracks (mark.Tag text ∷ before) self.new settled }
     {
-        match self.newline {
-            Some(newline) => {
-                let hides = match newline.hides {
-                    Hides::Near => Hides::Never,
-                    Hides::Any => Hides::Any,
-                    Hides::Never => Hides::Never,
-                };
-                self.newline = Some(Waiting {
-                    hides,
-                    tagged: true,
-                    ..newline
-                });
-            }
-            None => {}
+        if let Some(newline) = self.newline {
+            let hides = match newline.hides {
+                Hides::Near => Hides::Never,
+                Hides::Any => Hides::Any,
+                Hides::Never => Hides::Never,
+            };
+            self.newline = Some(Waiting {
+                hides,
+                tagged: true,
+                ..newline
+            });
         }
     }
 
-    /// Goes past the start of a function's text.
+    /// Goes past the start of a function's text, which changes nothing.
     #[inline(always)]
     pub(crate) fn enter(&mut self)
         ensures { (before : List Mark) (n : ℕ) (settled : List ℕ) → Tracks before self.old settled → Tracks (mark.Enter n ∷ before) self.new settled }
@@ -215,7 +212,7 @@ impl Tracker {
         }
     }
 
-    /// Something waits that the end of a function's text may hide.
+    /// Whether something waits that the end of a function's text may hide.
     #[inline(always)]
     fn waits(&self) -> bool
         ensures { result ≡ (is_some self.now.newline || is_some self.now.blank) }

@@ -75,7 +75,7 @@ pub(crate) fn let_go(spares: &mut Spares, trail: &mut Trail<OutputPair>)
     trail.forget();
 }
 
-// Takes the last mark of what is open back, by the state before it.
+/// Takes the last mark of what is open back, by the state before it.
 pub(crate) fn unwrite(line: &mut Section, sections: &mut [Opened], state: State)
     requires { (n : ℕ) → IsStateOf (but_last (open_marks (page_of line.old sections.old n))) state }
     ensures { (n : ℕ) → page_of line.new sections.new n ≡ with_open (but_last (open_marks (page_of line.old sections.old n))) (page_of line.old sections.old n) }

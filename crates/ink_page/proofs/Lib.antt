@@ -4,3 +4,4 @@ pub mod Pages
 pub mod PageLines
 mod Writing
 mod Typing
+mod Asking

@@ -1,6 +1,10 @@
 //! Functions of a story that are asked of its reader.
 
-ghost use Rattle.ink_page.specs.Turns.{log_of, refusals_of};
+ghost use Rattle.std.specs.Prelude.{◌≡◌, [], IfOk, string_bytes};
+ghost use Rattle.ink_check.specs.Standing as accepted;
+ghost use Rattle.ink_page.specs.Lines.{IsPage};
+ghost use Rattle.ink_page.specs.Turns.{AsksMore, log_of, refusals_of};
+ghost use Rattle.ink_tree.specs.Nodes.{story_tree};
 
 use crate::given::read_given;
 use crate::page::{Look, line_page};
@@ -25,7 +29,11 @@ pub struct Asked<R> {
 
 impl<R: Input + Print + Drop> Asked<R> {
     /// The function of a name, which was not called yet.
-    pub fn new(alloc: Global, rt: R, look: Look, name: &str) -> Result<Asked<R>, AllocError> {
+    pub fn new(alloc: Global, rt: R, look: Look, name: &str) -> Result<Asked<R>, AllocError>
+        ensures name { IfOk result (λ asked. asked.name ≡ name.now) }
+        ensures look { IfOk result (λ asked. asked.look ≡ look) }
+        ensures calls { IfOk result (λ asked. asked.noted.log ≡ []) }
+    {
         Ok(Asked {
             name: Text::from_str(alloc, name)?,
             look,
@@ -77,7 +85,9 @@ fn question(
     look: Look,
     name: &str,
     arguments: &[Value],
-) -> Result<String, AllocError> {
+) -> Result<String, AllocError>
+    ensures lines { IfOk result (λ page. IsPage look.dims look.columns 0 (string_bytes page)) }
+{
     let mut text = String::from_str(alloc, name)?;
     text.push('(')?;
     let values = print_values(alloc, arguments)?;
@@ -109,25 +119,47 @@ impl<F: TurnFn, G: TurnFn> TurnFn for Turn<F, G> {
 }
 
 /// Binds each function that a story calls, that nothing is bound to yet and that has no knot of its own, to an object that asks.
-pub fn ask_for_the_rest<R: Input + Print + Copy + Drop, P: Drop, F: Drop, O>(
+pub fn ask_for_the_rest<R: Input + Print + Copy + Drop, P, F, O>(
     alloc: Global,
     rt: R,
     look: Look,
     story: &Story,
     desk: &mut Desk<P, Turn<F, Asked<R>>, O>,
-) -> Result<(), AllocError> {
+) -> Result<(), AllocError>
+    ensures { AsksMore (accepted.story_tree story.now) desk.old desk.new }
+{
     let tree = story.tree();
     for number in 0..tree.len() {
         if let Some(name) = called(tree, NodeId { number }) {
-            if desk.kind(name).is_none() && tree.knot(name).is_none() {
-                let asked = Turn::Asked(Asked::new(alloc, rt, look, name)?);
-                if desk.bind_turn(name, asked).is_err() {
-                    return Err(AllocError);
-                }
-            }
+            ask_for(alloc, rt, look, tree, name, desk)?;
         }
     }
     Ok(())
+}
+
+// Binds a function to an object that asks, where nothing is bound to its name and that is no knot.
+fn ask_for<R: Input + Print + Copy + Drop, P, F, O>(
+    alloc: Global,
+    rt: R,
+    look: Look,
+    tree: &Tree,
+    name: &str,
+    desk: &mut Desk<P, Turn<F, Asked<R>>, O>,
+) -> Result<(), AllocError>
+    ensures { AsksMore (story_tree tree.now) desk.old desk.new }
+{
+    if desk.kind(name).is_some() || tree.knot(name).is_some() {
+        return Ok(());
+    }
+    let asked = Asked::new(alloc, rt, look, name)?;
+    match desk.bind_turn(name, Turn::Asked(asked)) {
+        Ok(old) => match old {
+            None => Ok(()),
+            Some(_) => unreachable!(),
+        },
+        Err(Turn::Asked(_asked)) => Err(AllocError),
+        Err(Turn::Bound(_)) => unreachable!(),
+    }
 }
 
 // The function of the host that a content calls.

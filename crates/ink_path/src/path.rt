@@ -48,7 +48,7 @@ pub fn print_path(alloc: Global, path: &Path) -> Result<Text, AllocError>
     Ok(Text::from_string(text))
 }
 
-// A dot in front makes a path relative; behind it stand the components.
+/// A dot in front makes a path relative; behind it stand the components.
 #[tactic(auto, unfolding(ink_model::specs::Story::Path::read_path))]
 pub(crate) fn undotted(text: &str) -> (bool, &str)
     ensures path { rules.read_path text.now ≡ rules.path_with result.0 result.1.now }
@@ -106,7 +106,7 @@ fn is_digit(byte: u8) -> bool
     b'0' <= byte && byte <= b'9'
 }
 
-// The index that digits are; none where it is too large.
+/// The index that digits are; none where it is too large.
 pub(crate) fn index_of(digits: &str) -> Option<u32>
     requires filled { 0 < length digits.now }
     requires digits { list_all is_digit digits.now ≡ true }

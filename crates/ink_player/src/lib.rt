@@ -19,7 +19,7 @@ pub use ink_model::{
     Cause, Change, Event, Fault, Given, Halt, HostFault, MAX_STORY, MAX_TEXT, Part, Passage, Path,
     Place, ReadRefusal, Refusal, Seq, Shared, Shown, Text, Value,
 };
-pub use ink_protocol::{ReadFailed, RunFault, Sink, Source, Watched, WriteFailed, print_values};
+pub use ink_protocol::{Counting, ReadFailed, RunFault, Sink, Source, WriteFailed, print_values};
 pub use player::{OpenFault, Player};
 pub use playing::{open_story, play, serve_story};
 pub use session::{run, serve};

@@ -138,6 +138,7 @@ impl<P: PureFn, F: TurnFn, O: Watcher> Player<P, F, O> {
         ensures kept_story { IfErr result (λ e. e.story ≡ story) }
         ensures kept_desk { IfErr result (λ e. e.desk ≡ desk) }
     {
+        // No effect at run time: a proof reads from it that the story has what the laws of saves ask of one.
         story_fits(&story);
         match Machine::open(alloc, &story) {
             Ok(machine) => {
@@ -441,6 +442,7 @@ impl<P: PureFn, F: TurnFn, O: Watcher> Player<P, F, O> {
     /// Begins anew, as the story was opened, with one flow; a broken player too. Watchers are told of each global that has another
     /// value than before, or was not there (docs/HOST.md, "Telling"). The declarations do not fault, since they did not when the
     /// story was opened.
+    ///
     /// Refused with `OutOfMemory` alone, where they run to a step that asks for memory, or memory for telling was refused; nothing
     /// has changed then. Where a watcher finds no memory the story has begun anew, all others are told, and the player is broken by
     /// the fault `OutOfMemory`.

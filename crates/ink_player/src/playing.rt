@@ -45,7 +45,7 @@ pub fn play<R: Read, W: Write, P: PureFn, F: TurnFn, O: Watcher>(
 
 /// Plays a story as `play` does, over a source and a sink, which count their failures: the source has failed in this call
 /// exactly where the error is `Read`, and the sink, or it took no byte, exactly where it is `Write`. The end is read
-/// at most once, and nothing after it. At an error lines that were read ahead are lost. `Watched` makes a source of any reader,
+/// at most once, and nothing after it. At an error lines that were read ahead are lost. `Counting` makes a source of any reader,
 /// and a sink of any writer.
 pub fn serve_story<S: Source, T: Sink, P: PureFn, F: TurnFn, O: Watcher>(
     alloc: Global,

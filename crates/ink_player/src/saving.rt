@@ -74,6 +74,7 @@ fn save_refusal(cause: SaveRefusal) -> Refusal
 pub(crate) fn story_fits(story: &Story)
     ensures { StoryFits (story_tree story.now) }
 {
+    // No effect at run time: a proof reads from it that the tree is one that was accepted.
     let _tree = story.tree();
     spelled_stories_fit();
 }

@@ -85,7 +85,7 @@ pub fn run<R: Read, W: Write, P: PureFn, F: TurnFn, O: Watcher>(
 
 /// Serves command lines as `run` does, over a source and a sink, which count their failures: the source has failed in this
 /// call exactly where the error is `Read`, and the sink, or it took no byte, exactly where it is `Write`. The end is read at most
-/// once, and nothing after it. At an error lines that were read ahead are lost, as of `run`. It never flushes. `Watched` makes a
+/// once, and nothing after it. At an error lines that were read ahead are lost, as of `run`. It never flushes. `Counting` makes a
 /// source of any reader, and a sink of any writer.
 pub fn serve<S: Source, T: Sink, P: PureFn, F: TurnFn, O: Watcher>(
     alloc: Global,
@@ -148,6 +148,7 @@ fn serve_line<S: Source, T: Sink, P: PureFn, F: TurnFn, O: Watcher>(
     ensures ends { EndsNext result (S.ends source.old) (S.ends source.new) }
     ensures sink { Reports (writes_fail result) (T.failures sink.old) (T.failures sink.new) (T.name sink.old) (T.name sink.new) }
 {
+    // No effect at run time: a proof reads from it that no more than a chunk was read ahead.
     ahead.bounds();
     let buffer = mem::replace(&mut buffers.line, Vec::new(alloc));
     let line = match next_line(buffer, ahead, source, MAX_LINE) {
@@ -322,7 +323,7 @@ fn write_made<T: Sink>(
     }
 }
 
-// Performs a command that runs nothing, unless memory is refused for reading its path.
+// Performs a command that runs nothing, unless memory is refused for reading its path or its JSON.
 fn perform<P: PureFn, F: TurnFn, O: Watcher>(
     player: &mut Player<P, F, O>,
     command: Option<LineCommand<'_>>,

@@ -10,8 +10,8 @@ use crate::word::{after, choice_number};
 use ink_model::Given;
 use std::alloc::{AllocError, Global};
 
-/// A command of a line, with the name or the path where it stands in the line. The value of `Set` is none where the line has
-/// JSON of another kind than a value has, or no JSON.
+/// A command of a line, with the name or the path where it stands in the line. The value of `Set` is none where the line has no
+/// JSON, JSON of another kind than a value has, an integer that has not 32 bits, or a text over its limit.
 #[derive(Drop)]
 pub enum LineCommand<'a> {
     Continue,

@@ -2,7 +2,9 @@
 
 ghost use Rattle.std.specs.Prelude.{◌≡◌, Some};
 ghost use Rattle.ink_protocol.specs.Ends.{run_fault_name};
+ghost use Rattle.ink_protocol.specs.declared.fault.RunFault.TheVariants as fault;
 
+use std::alloc::{AllocError, AllocFailed};
 use std::fmt;
 
 /// Why a session ended before its reader did. What was answered before stands.
@@ -38,5 +40,21 @@ impl fmt::Display for RunFault {
 
     fn fmt<W: fmt::Write>(&self, f: &mut fmt::Formatter<W>) -> fmt::Result {
         f.write_str(self.name())
+    }
+}
+
+impl From<AllocError> for RunFault {
+    ghost from_gives = { λ _ e. e ≡ fault.OutOfMemory };
+
+    fn from(_refused: AllocError) -> RunFault {
+        RunFault::OutOfMemory
+    }
+}
+
+impl<T: Drop> From<AllocFailed<T>> for RunFault {
+    ghost from_gives = { λ _ e. e ≡ fault.OutOfMemory };
+
+    fn from(_refused: AllocFailed<T>) -> RunFault {
+        RunFault::OutOfMemory
     }
 }

@@ -99,7 +99,7 @@ impl Ahead {
     pub fn bounds(&self)
         ensures { length self.now.unread ≤ 4096 }
     {
-        let _ = &self.chunk;
+        let _chunk = &self.chunk;
     }
 
     // How many bytes were read and not yet taken.
@@ -164,16 +164,12 @@ impl Ahead {
     {
         match first_newline(&self.chunk[self.at..self.end]) {
             Some(count) => {
-                if let Err(fault) = self.give(count, line, limit) {
-                    return Err(fault);
-                }
+                self.give(count, line, limit)?;
                 self.skip();
                 Ok(Cut::Newline)
             }
             None => {
-                if let Err(fault) = self.give(self.len(), line, limit) {
-                    return Err(fault);
-                }
+                self.give(self.len(), line, limit)?;
                 Ok(Cut::More)
             }
         }
@@ -222,9 +218,7 @@ fn extend(line: &mut Vec<u8>, piece: &[u8], limit: usize) -> Result<(), RunFault
     if line.len() > limit || piece.len() > limit - line.len() {
         return Err(RunFault::TooLong);
     }
-    if line.extend_from_slice(piece).is_err() {
-        return Err(RunFault::OutOfMemory);
-    }
+    line.extend_from_slice(piece)?;
     Ok(())
 }
 

@@ -1,10 +1,10 @@
 //! Command lines, answers, and the reading and writing of lines (docs/PROTOCOL.md). Nothing here knows of a story or runs one. A host
-//! needs `Source`, `Sink`, `Watched` and `RunFault`, and finds them in ink_player, too.
+//! needs `Source`, `Sink`, `Counting` and `RunFault`, and finds them in ink_player, too.
 #![tactic(auto)]
 
 mod answer;
 mod command;
-mod failing_ends;
+mod counting;
 mod fault;
 mod fixed;
 mod given;
@@ -17,7 +17,7 @@ mod word;
 
 pub use answer::{Outcome, answer_text, fixed_answer, passage_text, print_values};
 pub use command::{LineCommand, read_command};
-pub use failing_ends::{Lent, Watched};
+pub use counting::{Counting, Lent};
 pub use fault::RunFault;
 pub use input::{Ahead, ReadFailed, Source};
 pub use lines::{Line, next_line};

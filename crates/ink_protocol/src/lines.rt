@@ -42,10 +42,9 @@ pub fn next_line<S: Source>(
             Next::End => return Ok(Line::Last(line)),
             Next::TooMany => return Err(RunFault::TooLong),
         }
-        match ahead.cut(&mut line, limit) {
-            Ok(Cut::Newline) => return Ok(Line::Whole(line)),
-            Ok(Cut::More) => {}
-            Err(fault) => return Err(fault),
+        match ahead.cut(&mut line, limit)? {
+            Cut::Newline => return Ok(Line::Whole(line)),
+            Cut::More => {}
         }
     }
 }

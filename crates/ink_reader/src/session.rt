@@ -17,8 +17,8 @@ use ink_protocol::{RunFault, Sink, write_answer};
 
 impl<P: PureFn, F: TurnFn, O: Watcher> Reader<P, F, O> {
     /// Reads the story. It begins, or goes on where the save stands if there is one and that is wanted; then what is typed is done, up
-    /// to the end of it, or until the reader quits. After 2^64 lines no more are read. The error is `Write`
-    /// exactly where the sink failed in this call, or took no byte, and `Read` exactly where bringing a line failed.
+    /// to the end of it, or until the reader quits. The error is `Write` exactly where the sink failed in this call, or took no byte,
+    /// and `Read` exactly where bringing a line failed; `TooLong` comes after 2^64 - 1 lines that were typed, or told at once.
     pub fn read_to_end<L: Lines, T: Sink, S: Shelf>(
         &mut self,
         lines: &mut L,

@@ -33,7 +33,7 @@ const BROKE_OFF: &str =
 const BROKE_BEFORE: &str =
     "The story breaks off before the next line. What was saved stays; b goes back to before the last choice, if there was one, and r restarts.";
 
-/// How telling ended: the story stopped, or it broke off or was refused, and that was said.
+/// How telling ended: the story stopped, at a loose end or not; or it broke off or was refused, and that was said.
 #[derive(Clone, Copy)]
 pub(crate) enum Told {
     Stop,
@@ -41,7 +41,7 @@ pub(crate) enum Told {
     Break,
 }
 
-/// Tells line by line what comes, up to the stop. One that is not there after 2^64 lines is no more waited for.
+/// Tells line by line what comes, up to the stop. A stop that is not there after 2^64 - 1 lines is no more waited for: `TooLong`.
 #[tactic(auto, using(crate::proofs::Causes::unread))]
 pub(crate) fn tell<T: Sink, P: PureFn, F: TurnFn, O: Watcher>(
     alloc: Global,

@@ -60,6 +60,7 @@ fn value_fits(tree: &Tree, value: &SavedValue) -> bool
 {
     match value.get() {
         Value::Int(number) => {
+            // No effect at run time: a proof reads from it that the number has 32 bits.
             let _number = *number;
             true
         }

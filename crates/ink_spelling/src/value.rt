@@ -42,14 +42,6 @@ impl SavedValue {
     {
         &self.value
     }
-
-    /// The value itself.
-    pub fn into_value(self) -> Value
-        ensures { result ≡ self }
-    {
-        let SavedValue { value } = self;
-        value
-    }
 }
 
 impl Spelled for SavedValue {

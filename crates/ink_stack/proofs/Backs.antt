@@ -1,7 +1,6 @@
 -- What each change of frames and threads puts back.
-use Rattle.std.proofs.Common.{◌≡◌, ◌∙◌, ◌≤◌, ◌<◌, ◌+◌, ◌-◌, MatchOption, arith, drop, get_or, length, option_to_list, ℕ, List, [], ◌∷◌, ◌++◌, Bool, true, false, Option, Some, None, Result, Ok, Err, ap, append_assoc, if◌then◌else◌, is_some, nat_eq, nat_lt, refl, reverse, subst, suc, sym}
-use Rattle.std.proofs.Math.Seq.{get_or-append_seam}
-use Rattle.ink_stack.proofs.Common.{length-append, length-reverse, reverse-append, reverse-reverse, Fault, FrameKind, MAX_FRAMES, MAX_THREADS, RunningView, threads_in, HasGone, HasMode, threads_back, threads_spare, threads_stood, Changes, Grows, ThreadsPair}
+use Rattle.std.proofs.Common.{◌≡◌, ◌∙◌, ◌≤◌, ◌<◌, ◌+◌, MatchOption, arith, drop, length, option_to_list, ℕ, List, [], ◌∷◌, ◌++◌, Bool, true, false, Option, Some, None, Result, Ok, Err, ap, if◌then◌else◌, is_some, nat_eq, nat_lt, refl, reverse, subst, sym}
+use Rattle.ink_stack.proofs.Common.{length-append, reverse-append, Fault, FrameKind, MAX_FRAMES, MAX_THREADS, RunningView, threads_in, HasGone, HasMode, threads_back, threads_spare, threads_stood, Changes, Grows, ThreadsPair}
 use Rattle.ink_model.specs.Flow.Frames.{FrameOf, ThreadOf, ThreadsOf, gone, mode_in, on_top, put_in}
 use Rattle.ink_model.specs.Flow.Threads.{back_to, doubled, frame_count, new_frame, number_in, frame_popped, frame_pushed, same_kind, thread_count}
 use Rattle.ink_model.specs.declared.fault.Fault.TheVariants.{BadMode, BadPop, OutOfMemory, TooDeep}
@@ -19,14 +18,6 @@ popped-drop xs [] None n m is cases len = sym (ap (λ ys. drop 1 (reverse ys)) i
 popped-drop xs (y ∷ ys) None n m is cases len = absurd (omega (arith, cases.0, len, ap length is, length-append (y ∷ ys) []))
 
 -- an item of a list, seen from its end
-from_end : {X : Type 0} (xs es rest : List X) (a d : X) → reverse xs ≡ es ++ a ∷ rest → get_or xs (length xs - suc (length es)) d ≡ a
-from_end xs es rest a d is =
-    let front = reverse rest in
-    let same : xs ≡ front ++ a ∷ reverse es =
-    sym (reverse-reverse xs) ∙ ap reverse is ∙ reverse-append es (a ∷ rest) ∙ ap (λ zs. zs ++ reverse es) (reverse-append (a ∷ []) rest) ∙ append_assoc front (a ∷ []) (reverse es) in
-    let at : length xs - suc (length es) ≡ length front = omega (arith, ap length same ∙ length-append front (a ∷ reverse es), length-reverse es) in
-    ap (λ n. get_or xs n d) at ∙ ap (λ zs. get_or zs (length front) d) same ∙ get_or-append_seam front a (reverse es) d
-
 module _ {P : Type 0} where
   -- ---- fields of the top frame
 
@@ -48,12 +39,8 @@ module _ {P : Type 0} where
   gone-is es h = absurd h
 
   -- that flow went was noted last
-  pub gone-at : (ps : List (ThreadsPair P)) (d : ThreadsPair P) (p q : Option P) → 0 < length ps → get_or ps (length ps - 1) d ≡ Gone p q → HasGone (reverse ps)
-  gone-at ps d p q some went = by (reverse ps) refl
-    where
-      by : (es : List (ThreadsPair P)) → reverse ps ≡ es → HasGone (reverse ps)
-      by [] is = absurd (omega (arith, some, ap length is, length-reverse ps))
-      by (a ∷ rest) is = subst HasGone (sym (is ∙ ap (λ x. x ∷ rest) (sym (from_end ps [] rest a d is) ∙ went))) tt
+  pub gone-last : (ps before : List (ThreadsPair P)) (last : ThreadsPair P) (p q : Option P) → ps ≡ before ++ last ∷ [] → last ≡ Gone p q → HasGone (reverse ps)
+  gone-last ps before last p q is went = rw (is, reverse-append before (last ∷ []), went) tt
 
   -- both places are put back already
   pub gone-noted : (p : Option P) (es : List (ThreadsPair P)) (ts : ThreadsOf P) → HasGone es → undone threads_back es (on_top (gone p) ts) ≡ undone threads_back es ts
@@ -64,14 +51,9 @@ module _ {P : Type 0} where
   mode-is es h = absurd h
 
   -- the mode was noted before that
-  pub mode-at : (ps : List (ThreadsPair P)) (d : ThreadsPair P) (b : Bool) → 2 ≤ length ps → HasGone (reverse ps) → get_or ps (length ps - 2) d ≡ Evaluating b → HasMode (reverse ps)
-  mode-at ps d b some went is = by (gone-is (reverse ps) went)
-    where
-      by : ((p : Option P) × (q : Option P) × (rest : List (ThreadsPair P)) × (reverse ps ≡ Gone p q ∷ rest)) → HasMode (reverse ps)
-      by (p, q, [], e) = absurd (omega (arith, some, ap length e, length-reverse ps))
-      by (p, q, c ∷ rest, e) =
-          let mode : c ≡ Evaluating b = sym (from_end ps (Gone p q ∷ []) rest c d e) ∙ is in
-          subst HasMode (sym (e ∙ ap (λ x. Gone p q ∷ x ∷ rest) mode)) tt
+  pub mode-last : (ps before earlier : List (ThreadsPair P)) (last mode : ThreadsPair P) (p q : Option P) (b : Bool) → ps ≡ before ++ last ∷ [] → last ≡ Gone p q
+      → before ≡ earlier ++ mode ∷ [] → mode ≡ Evaluating b → HasMode (reverse ps)
+  mode-last ps before earlier last mode p q b is went was noted = rw (is, reverse-append before (last ∷ []), went, was, reverse-append earlier (mode ∷ []), noted) tt
 
   -- the mode is put back already
   pub mode-noted : (b : Bool) (es : List (ThreadsPair P)) (ts : ThreadsOf P) → HasMode es → undone threads_back es (on_top (mode_in b) ts) ≡ undone threads_back es ts

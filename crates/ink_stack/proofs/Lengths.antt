@@ -1,5 +1,5 @@
 -- How long lists are, and what there is room for.
-use Rattle.std.proofs.Common.{◌≡◌, ◌<◌, ◌≤◌, ◌-◌, ◌==◌, ◌∙◌, ℕ, zero, suc, Bool, true, false, List, Vec, ap, arith, length, reverse, sym, take, vec_capacity, vec_len}
+use Rattle.std.proofs.Common.{◌≡◌, ◌<◌, ◌≤◌, ℕ, List, Vec, ap, arith, length, reverse, take, vec_capacity, vec_len}
 use Rattle.std.proofs.lemmas.List.{length-reverse, length-take-le}
 
 -- two lists that are others now
@@ -12,11 +12,3 @@ room_next v xs i n is inside whole fits = omega (arith, v.ok.0, ap length is, le
 
 pub room_behind : {A L : Type 0} (v : Vec A L) (n : ℕ) → length (reverse v.items) < n → vec_len v < n
 room_behind v n h = omega (arith, v.ok.0, length-reverse v.items, h)
-
--- where there are some there is a last one
-pub some_there : (n : ℕ) (b : Bool) → b ≡ (n == 0) → b ≡ false → 1 ≤ n
-some_there zero b is false_is = absurd (let h : true ≡ false = sym is ∙ false_is in cc)
-some_there (suc n) b is false_is = omega arith
-
-pub last_there : (n : ℕ) → 1 ≤ n → n - 1 < n
-last_there n h = omega (arith, h)

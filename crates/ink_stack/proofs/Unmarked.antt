@@ -1,8 +1,10 @@
 -- What holds of the threads where no mark stands.
-use Rattle.std.proofs.Common.{◌≡◌, ◌≤◌, ◌+◌, ℕ, Result, Ok, Err, arith, false, is_some, refl}
+use Rattle.std.proofs.Common.{◌≡◌, ◌≤◌, ◌+◌, ℕ, OnOk, Option, None, Some, Result, Ok, Err, arith, false, is_some, refl}
 use Rattle.ink_stack.proofs.Common.{ThreadsOf, Fault, threads_back, threads_spare, threads_stood, Changes, Grows, ThreadsPair}
 use Rattle.ink_trail.proofs.Undoing.{spare-or-kept, stood-or-kept, trails-unmarked}
-use Rattle.ink_trail.specs.Undo.{TrailView, Trails, TrailsOrKeeps}
+use Rattle.ink_trail.specs.Undo.{TrailView, Trails, TrailsOrKeeps, Undo, with_pair}
+use Rattle.ink_stack.specs.Undo.{NotesTemp}
+use Rattle.ink_stack.specs.declared.undo.ThreadsPair.TheVariants.{Temp}
 use Rattle.ink_stack.specs.Threads.{ThreadsView}
 use Rattle.ink_stack.proofs.Backs.{changed-kept, grown-kept}
 
@@ -10,6 +12,17 @@ module _ {P : Type 0} where
   -- without a mark nothing is noted
   pub free : (n : ℕ) (was is : ThreadsOf P) (t : TrailView (ThreadsPair P)) → is_some t.undo ≡ false → Trails threads_back n was t is t
   free n was is t none = trails-unmarked threads_back n was is t t none (refl, omega arith)
+
+  unpaired : (e : ThreadsPair P) (u : Option (Undo (ThreadsPair P))) → is_some u ≡ false → u ≡ with_pair e 1 u
+  unpaired e None none = refl
+  unpaired e (Some u) none = absurd (cc)
+
+  pub unnoted : {U : Type 0} (x : Result U Fault) (e : ThreadsPair P) (u : Option (Undo (ThreadsPair P))) → is_some u ≡ false → OnOk x (u ≡ with_pair e 1 u)
+  unnoted (Ok x) e u none = unpaired e u none
+  unnoted (Err f) e u none = tt
+
+  pub no_temp : (n : ℕ) (t : TrailView (ThreadsPair P)) → is_some t.undo ≡ false → NotesTemp n t t
+  no_temp n t none = (0, None, unpaired (Temp n 0 None) t.undo none)
 
   -- a call that may be refused memory, by its result
   pub trails-grown : {U : Type 0} (n : ℕ) (r : Result (ThreadsOf P) Fault) (was is : ThreadsOf P) (x : Result U Fault) (t : TrailView (ThreadsPair P))

@@ -1,9 +1,10 @@
 -- How changes of frames and threads are put back.
-use Rattle.std.specs.Prelude.{⊤, ◌≤◌, ◌<◌, ℕ, List, ◌∷◌, length, drop, true, vec_capacity, Option}
+use Rattle.std.specs.Prelude.{⊤, ◌≡◌, ◌≤◌, ◌<◌, ℕ, List, ◌∷◌, length, drop, true, vec_capacity, Option}
 use Rattle.ink_model.specs.Flow.Frames.{ThreadsOf, mode_in, on_top, put_in}
 use Rattle.ink_model.specs.declared.limits.TheConstants.{MAX_THREADS}
+use Rattle.ink_model.specs.declared.value.Value.{Value}
 use Rattle.ink_trail.specs.Stays.{Stays}
-use Rattle.ink_trail.specs.Undo.{spare, stood_at}
+use Rattle.ink_trail.specs.Undo.{TrailView, spare, stood_at, with_pair}
 use Rattle.ink_stack.specs.Cells.{Within, number_back, temp_back, ungone, unpopped, unpushed, with_frame, with_fresh}
 use Rattle.ink_stack.specs.Frames.{MoreRoom, Room}
 use Rattle.ink_stack.specs.Running.{threads_in}
@@ -45,6 +46,10 @@ module _ {P : Type 0} where
   abbrev pub HasMode : List (ThreadsPair P) → Type 0
   HasMode (Gone p q ∷ Evaluating b ∷ es) = ⊤
   HasMode es = ⊥
+
+  -- one row of the frame of a number is noted, and nothing else
+  abbrev pub NotesTemp : ℕ → TrailView (ThreadsPair P) → TrailView (ThreadsPair P) → Type 0
+  NotesTemp n old new = (i : ℕ) × (was : Option Value) × (new.undo ≡ with_pair (Temp n i was) 1 old.undo)
 
   -- ---- what a mark keeps
 

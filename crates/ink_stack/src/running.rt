@@ -241,9 +241,7 @@ impl<P: Copy> Running<P> {
         if self.frames() >= MAX_FRAMES {
             return Err(Fault::TooDeep);
         }
-        let Ok(_) = self.below.make_room(&self.frame) else {
-            return Err(Fault::OutOfMemory);
-        };
+        self.below.make_room(&self.frame)?;
         self.quiet = self.frame.quiet_above(self.quiet);
         self.settled = settled_above(&self.frame, self.below.len(), self.settled);
         self.below.push_from(&mut self.frame);
@@ -269,7 +267,7 @@ impl<P: Copy> Running<P> {
         Ok(())
     }
 
-    // Pops a frame, and hands it out.
+    /// Pops a frame, and hands it out.
     pub(crate) fn pop(&mut self, kind: FrameKind, depth: usize) -> Result<Frame<P>, Fault>
         ensures thread { Changes (frame_popped kind depth self.old.thread) self.old.thread self.new.thread result }
         ensures frame { IfOk result (λ frame. frame ≡ self.old.thread.frame) }
@@ -286,7 +284,7 @@ impl<P: Copy> Running<P> {
         }
     }
 
-    // The same, and the frame goes. Its temporaries may keep their memory for those that come next.
+    /// The same, and the frame goes. Its temporaries may keep their memory for those that come next.
     pub(crate) fn pop_away(&mut self, kind: FrameKind, depth: usize) -> Result<(), Fault>
         ensures thread { Changes (frame_popped kind depth self.old.thread) self.old.thread self.new.thread result }
         ensures room { self.new.room ≡ self.old.room }
@@ -311,7 +309,7 @@ impl<P: Copy> Running<P> {
         self.below.temp(number - 1, name)
     }
 
-    // Gives a temporary a value, and answers the index of its row and what that held; none where it is new.
+    /// Gives a temporary a value, and answers the index of its row and what that held; none where it is new.
     pub(crate) fn set_temp(
         &mut self,
         number: usize,
@@ -334,7 +332,7 @@ impl<P: Copy> Running<P> {
 
     // ---- what a mark needs
 
-    // Does nothing; by its contract the frames are within their limit and their room.
+    /// Does nothing; by its contract the frames are within their limit and their room.
     #[inline(always)]
     pub(crate) fn within(&self)
         ensures { Within self.now.room self.now.thread }
@@ -342,8 +340,8 @@ impl<P: Copy> Running<P> {
         self.below.within();
     }
 
-    // Whether it is known of the function frames nearest below the top one that each fresh one was pushed where fewer sections
-    // were open.
+    /// Whether it is known of the function frames nearest below the top one that each fresh one was pushed where fewer sections
+    /// were open.
     #[inline(always)]
     pub(crate) fn is_quiet(&self, depth: usize) -> bool
         ensures { OnTrue result (IsQuiet depth self.now.thread.below) }
@@ -354,7 +352,7 @@ impl<P: Copy> Running<P> {
         }
     }
 
-    // Whether the frame of a number is a function.
+    /// Whether the frame of a number is a function.
     pub(crate) fn is_function(&self, number: usize) -> bool
         ensures { result ≡ holds_of (λ f. is_function f.kind) (frame_numbered number (self.now.thread.frame ∷ self.now.thread.below)) }
     {
@@ -367,8 +365,8 @@ impl<P: Copy> Running<P> {
         self.below.is_function(number - 1)
     }
 
-    // A text is written where so many sections are open: the frame of a number is fresh no more if it was pushed there. Whether
-    // it was fresh until then.
+    /// A text is written where so many sections are open: the frame of a number is fresh no more if it was pushed there. Whether
+    /// it was fresh until then.
     pub(crate) fn end_one(&mut self, number: usize, depth: usize) -> bool
         requires from { 0 < number }
         requires there { number ≤ frame_count self.old.thread }
@@ -383,7 +381,7 @@ impl<P: Copy> Running<P> {
         self.below.end_one(number - 1, depth)
     }
 
-    // Flow is where it was before it went.
+    /// Flow is where it was before it went.
     pub(crate) fn ungo(&mut self, place: Option<P>, previous: Option<P>)
         ensures { self.new ≡ record self.old { thread = ungone place previous self.old.thread } }
     {
@@ -397,7 +395,7 @@ impl<P: Copy> Running<P> {
         self.frame.set_number(number);
     }
 
-    // The frame of a number is fresh again.
+    /// The frame of a number is fresh again.
     pub(crate) fn freshen(&mut self, number: usize)
         ensures { self.new ≡ record self.old { thread = with_frame (with_fresh true) number self.old.thread } }
     {
@@ -411,7 +409,7 @@ impl<P: Copy> Running<P> {
         }
     }
 
-    // The row at an index of a frame's temporaries holds what it held; where that was nothing it goes.
+    /// The row at an index of a frame's temporaries holds what it held; where that was nothing it goes.
     pub(crate) fn put_temp_back(&mut self, number: usize, index: usize, was: Option<Value>)
         ensures { self.new ≡ record self.old { thread = with_frame (temp_back index was) number self.old.thread } }
     {
@@ -424,7 +422,7 @@ impl<P: Copy> Running<P> {
         }
     }
 
-    // The frame that was pushed goes.
+    /// The frame that was pushed goes.
     pub(crate) fn unpush(&mut self)
         ensures { self.new ≡ record self.old { thread = unpushed self.old.thread } }
     {
@@ -435,7 +433,7 @@ impl<P: Copy> Running<P> {
         }
     }
 
-    // The frame that was popped is on top again.
+    /// The frame that was popped is on top again.
     pub(crate) fn unpop(&mut self, frame: Frame<P>)
         requires { Within self.old.room (unpopped frame self.old.thread) }
         ensures { self.new ≡ record self.old { thread = unpopped frame self.old.thread } }

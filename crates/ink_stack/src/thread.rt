@@ -37,7 +37,7 @@ impl<P: Copy> Thread<P> {
         self.running.previous()
     }
 
-    // As it runs.
+    /// As it runs.
     #[inline(always)]
     pub(crate) fn run(self) -> Running<P>
         ensures thread { result.thread ≡ self }

@@ -9,9 +9,9 @@ ghost use Rattle.ink_model.specs.declared.limits.TheConstants.{MAX_THREADS};
 ghost use Rattle.ink_stack.specs.Calls.{frame_kind};
 ghost use Rattle.ink_stack.specs.Running.{threads_in};
 ghost use Rattle.ink_stack.specs.Temps.{text_of};
-ghost use Rattle.ink_stack.specs.Undo.{HasGone, HasMode, threads_back, threads_spare, threads_stood};
+ghost use Rattle.ink_stack.specs.Undo.{HasGone, HasMode, NotesTemp, threads_back, threads_spare, threads_stood};
 ghost use Rattle.ink_stack.specs.Outcomes.{Changes, Grows};
-ghost use Rattle.ink_trail.specs.Undo.{KeepsTrail, Notes, Trails, TrailsOrKeeps, trail_of};
+ghost use Rattle.ink_trail.specs.Undo.{KeepsTrail, Notes, Trails, TrailsOrKeeps, trail_of, with_pair};
 
 use crate::frame::{CallKind, Header};
 use crate::running::Running;
@@ -292,6 +292,7 @@ impl<P: Copy> Threads<P> {
     pub fn push_frame(&mut self, kind: CallKind, depth: usize) -> Result<(), Fault>
         ensures threads { Grows (top_result (frame_pushed (frame_kind kind) depth self.old.threads.thread) self.old.threads) self.old.threads self.new.threads result }
         ensures trail { TrailsOrKeeps threads_back 1 self.old.threads self.old.trail self.new.threads self.new.trail result }
+        ensures pair { OnOk result (self.new.trail.undo ≡ with_pair ThreadsPair.FramePushed 1 self.old.trail.undo) }
         ensures stood { threads_stood self.new ≡ threads_stood self.old }
         ensures spare { threads_spare self.old ≤ threads_spare self.new + 1 }
     {
@@ -309,6 +310,7 @@ impl<P: Copy> Threads<P> {
     fn push_frame_marked(&mut self, kind: CallKind, depth: usize) -> Result<(), Fault>
         ensures threads { Grows (top_result (frame_pushed (frame_kind kind) depth self.old.threads.thread) self.old.threads) self.old.threads self.new.threads result }
         ensures trail { TrailsOrKeeps threads_back 1 self.old.threads self.old.trail self.new.threads self.new.trail result }
+        ensures pair { OnOk result (self.new.trail.undo ≡ with_pair ThreadsPair.FramePushed 1 self.old.trail.undo) }
         ensures stood { threads_stood self.new ≡ threads_stood self.old }
         ensures spare { threads_spare self.old ≤ threads_spare self.new + 1 }
     {
@@ -366,6 +368,7 @@ impl<P: Copy> Threads<P> {
     pub fn push_thread(&mut self) -> Result<(), Fault>
         ensures threads { Grows (doubled self.old.threads) self.old.threads self.new.threads result }
         ensures trail { TrailsOrKeeps threads_back 1 self.old.threads self.old.trail self.new.threads self.new.trail result }
+        ensures pair { OnOk result (self.new.trail.undo ≡ with_pair ThreadsPair.ThreadPushed 1 self.old.trail.undo) }
         ensures stood { threads_stood self.new ≡ threads_stood self.old }
         ensures spare { threads_spare self.old ≤ threads_spare self.new + 1 }
     {
@@ -382,6 +385,7 @@ impl<P: Copy> Threads<P> {
     fn push_thread_marked(&mut self) -> Result<(), Fault>
         ensures threads { Grows (doubled self.old.threads) self.old.threads self.new.threads result }
         ensures trail { TrailsOrKeeps threads_back 1 self.old.threads self.old.trail self.new.threads self.new.trail result }
+        ensures pair { OnOk result (self.new.trail.undo ≡ with_pair ThreadsPair.ThreadPushed 1 self.old.trail.undo) }
         ensures stood { threads_stood self.new ≡ threads_stood self.old }
         ensures spare { threads_spare self.old ≤ threads_spare self.new + 1 }
     {
@@ -485,6 +489,7 @@ impl<P: Copy> Threads<P> {
         ensures kept { OnErr result (self.new.threads ≡ self.old.threads) }
         ensures memory { OnErr result ((temp_in frame name.now self.old.threads.thread ≡ None) ⊎ (threads_spare self.old < 1)) }
         ensures trail { TrailsOrKeeps threads_back 1 self.old.threads self.old.trail self.new.threads self.new.trail result }
+        ensures pair { OnOk result (NotesTemp frame self.old.trail self.new.trail) }
         ensures stood { threads_stood self.new ≡ threads_stood self.old }
         ensures spare { threads_spare self.old ≤ threads_spare self.new + 1 }
     {
@@ -505,6 +510,7 @@ impl<P: Copy> Threads<P> {
         ensures kept { OnErr result (self.new.threads ≡ self.old.threads) }
         ensures memory { OnErr result ((temp_in frame name.now self.old.threads.thread ≡ None) ⊎ (threads_spare self.old < 1)) }
         ensures trail { TrailsOrKeeps threads_back 1 self.old.threads self.old.trail self.new.threads self.new.trail result }
+        ensures pair { OnOk result (NotesTemp frame self.old.trail self.new.trail) }
         ensures stood { threads_stood self.new ≡ threads_stood self.old }
         ensures spare { threads_spare self.old ≤ threads_spare self.new + 1 }
     {
@@ -520,6 +526,7 @@ impl<P: Copy> Threads<P> {
         ensures kept { OnErr result (self.new.threads ≡ self.old.threads) }
         ensures memory { OnErr result ((temp_in frame (text_of name.entry) self.old.threads.thread ≡ None) ⊎ (threads_spare self.old < 1)) }
         ensures trail { TrailsOrKeeps threads_back 1 self.old.threads self.old.trail self.new.threads self.new.trail result }
+        ensures pair { OnOk result (NotesTemp frame self.old.trail self.new.trail) }
         ensures stood { threads_stood self.new ≡ threads_stood self.old }
         ensures spare { threads_spare self.old ≤ threads_spare self.new + 1 }
     {
@@ -550,6 +557,7 @@ impl<P: Copy> Threads<P> {
         ensures kept { OnErr result (self.new.threads ≡ self.old.threads) }
         ensures memory { OnErr result ((temp_in frame (text_of name.entry) self.old.threads.thread ≡ None) ⊎ (threads_spare self.old < 1)) }
         ensures trail { TrailsOrKeeps threads_back 1 self.old.threads self.old.trail self.new.threads self.new.trail result }
+        ensures pair { OnOk result (NotesTemp frame self.old.trail self.new.trail) }
         ensures stood { threads_stood self.new ≡ threads_stood self.old }
         ensures spare { threads_spare self.old ≤ threads_spare self.new + 1 }
     {
@@ -646,12 +654,8 @@ fn push_copy<P: Copy>(
     if below.len() >= MAX_THREADS - 1 {
         return Err(Fault::TooDeep);
     }
-    let Ok(_) = below.reserve(1) else {
-        return Err(Fault::OutOfMemory);
-    };
-    let Ok(copy) = running.clone_over(alloc, spare) else {
-        return Err(Fault::OutOfMemory);
-    };
+    below.reserve(1)?;
+    let copy = running.clone_over(alloc, spare)?;
     below.push_reserved(Thread { running: copy });
     Ok(())
 }

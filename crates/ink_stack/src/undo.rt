@@ -46,13 +46,7 @@ pub enum ThreadsPair<P> {
 pub(crate) fn has_gone<P>(pairs: &[ThreadsPair<P>]) -> bool
     ensures { result ≡ true → HasGone (reverse pairs.now) }
 {
-    if pairs.is_empty() {
-        return false;
-    }
-    match pairs[pairs.len() - 1] {
-        ThreadsPair::Gone(_, _) => true,
-        _ => false,
-    }
+    matches!(pairs.split_last(), Some((ThreadsPair::Gone(_, _), _)))
 }
 
 /// Whether the last that was noted, but for that flow went, is the mode of the frame.
@@ -60,11 +54,10 @@ pub(crate) fn has_gone<P>(pairs: &[ThreadsPair<P>]) -> bool
 pub(crate) fn has_mode<P>(pairs: &[ThreadsPair<P>]) -> bool
     ensures { result ≡ true → HasMode (reverse pairs.now) }
 {
-    if pairs.len() < 2 || !has_gone(pairs) {
-        return false;
-    }
-    match pairs[pairs.len() - 2] {
-        ThreadsPair::Evaluating(_) => true,
+    match pairs.split_last() {
+        Some((ThreadsPair::Gone(_, _), before)) => {
+            matches!(before.split_last(), Some((ThreadsPair::Evaluating(_), _)))
+        }
         _ => false,
     }
 }

@@ -4,9 +4,9 @@ use Rattle.ink_step.proofs.Common.{choices_stood, Configuration, map_choice, map
 use Rattle.ink_out.specs.Undo.{output_stood}
 use Rattle.ink_step.specs.Marks.{Own, capped, config_back, noted_by, own_back, own_of, own_stood, pairs_in, room_in, writes_in}
 use Rattle.ink_step.specs.declared.own.OwnPair.{OwnPair}
-use Rattle.ink_trail.proofs.Undoing.{stood-kept}
+use Rattle.ink_trail.proofs.Undoing.{stood-kept, trails-after}
 use Rattle.ink_trail.specs.Undo as trails
-use Rattle.ink_trail.specs.Undo.{KeepsTrail, TrailView, stood_at, with_pair, writes_of}
+use Rattle.ink_trail.specs.Undo.{KeepsTrail, TrailView, Trails, stood_at, with_pair, writes_of}
 
 -- ---- going back
 
@@ -39,6 +39,12 @@ pub record OwnAlone (old new : Machine) : Type 0 where
 pub own_goes_back : (s : StoryTree) (old mid : Machine) → OwnAlone old mid → own_of mid ≡ unwrap_or (own_stood old.trail old.shared.turn old.flow.safe) (own_of old)
     → config_with s (own_of mid) mid ≡ config_back s old
 own_goes_back s old mid alone own = ap (config_with s (own_of mid)) alone.same ∙ ap (λ (o : Own). config_with s o old) own
+
+-- a call that leaves a trail of the machine's own fields, once room for it was made
+pub own_after : (n : ℕ) (old ready new : Machine) → own_of ready ≡ own_of old → KeepsTrail old.trail ready.trail
+    → Trails own_back n (own_of ready) ready.trail (own_of new) new.trail → Trails own_back n (own_of old) old.trail (own_of new) new.trail
+own_after n old ready new same kept p =
+    trails-after own_back n (own_of old) (own_of new) old.trail ready.trail new.trail kept (subst (λ o. Trails own_back n o ready.trail (own_of new) new.trail) same p)
 
 -- ---- sums
 

@@ -8,9 +8,10 @@ ghost use Rattle.ink_model.specs.Choices.Choosing.{default_asks, default_choice,
 ghost use Rattle.ink_model.specs.Run.Configuration.{map_choice};
 ghost use Rattle.ink_model.specs.Story.Tree.{StoryTree};
 ghost use Rattle.ink_model.specs.Run.Visits.{around, entering_around, entering_asks};
-ghost use Rattle.ink_step.specs.Marks.{choices_lack, choosing_lacks, own_lacks, own_spare, pressed, stood_of, threads_lack, turn_lacks};
+ghost use Rattle.ink_step.specs.Marks.{choices_lack, choosing_lacks, own_back, own_lacks, own_of, own_spare, pressed, stood_of, threads_lack, turn_lacks};
 ghost use Rattle.ink_step.specs.Steps.{Chooses, StepEnds};
 ghost use Rattle.ink_step.specs.Standing.{aside_in, config_of, start_of};
+ghost use Rattle.ink_trail.specs.Undo.{KeepsTrail, Trails, TrailsOrKeeps};
 ghost use Rattle.ink_tree.specs.Nodes.{place_of};
 
 use crate::machine::Machine;
@@ -61,6 +62,7 @@ impl Machine {
         ensures globals { self.new.shared.globals.rows ≡ self.old.shared.globals.rows }
         ensures start { start_of self.new ≡ start_of self.old }
         ensures aside { aside_in self.new ≡ aside_in self.old }
+        ensures alone { self.new ≡ record self.old { flow = record self.old.flow { threads = self.new.flow.threads; choices = self.new.flow.choices } } }
         ensures mark { stood_of self.new ≡ stood_of self.old }
     {
         let Choice { target, thread, .. } = choice;
@@ -78,6 +80,7 @@ impl Machine {
             Chooses s (choosing_lacks s choice self.old self.new) choice c (config_of s self.new) result }
         ensures start { start_of self.new ≡ start_of self.old }
         ensures aside { aside_in self.new ≡ aside_in self.old }
+        ensures own { TrailsOrKeeps own_back 1 (own_of self.old) self.old.trail (own_of self.new) self.new.trail result }
         ensures mark { stood_of self.new ≡ stood_of self.old }
     {
         if self.can_go_on() {
@@ -125,6 +128,7 @@ impl Machine {
         ensures taken { (s : StoryTree) → let c = config_of s self.old in config_of s self.new ≡ taken_up (map_choice (place_of s) choice) (record c { shared = record c.shared { turn = turn } }) }
         ensures start { start_of self.new ≡ start_of self.old }
         ensures aside { aside_in self.new ≡ aside_in self.old }
+        ensures own { Trails own_back 1 (own_of self.old) self.old.trail (own_of self.new) self.new.trail }
         ensures mark { stood_of self.new ≡ stood_of self.old }
     {
         self.set_turn(turn);
@@ -154,6 +158,8 @@ impl Machine {
         ensures items { self.new.flow.choices.items ≡ self.old.flow.choices.items }
         ensures start { start_of self.new ≡ start_of self.old }
         ensures aside { aside_in self.new ≡ aside_in self.old }
+        ensures same { own_of self.new ≡ own_of self.old }
+        ensures kept { KeepsTrail self.old.trail self.new.trail }
         ensures mark { stood_of self.new ≡ stood_of self.old }
         ensures threads { OnOk result (2 ≤ threads_spare self.new.flow.threads) }
         ensures choices { OnOk result (2 ≤ choices_spare self.new.flow.choices) }
@@ -180,6 +186,7 @@ impl Machine {
             OnErr result ((turn_lacks (length (around s there.flow.threads)) self.new || entering_asks s there) ≡ true) }
         ensures start { start_of self.new ≡ start_of self.old }
         ensures aside { aside_in self.new ≡ aside_in self.old }
+        ensures own { TrailsOrKeeps own_back 2 (own_of self.old) self.old.trail (own_of self.new) self.new.trail result }
         ensures mark { stood_of self.new ≡ stood_of self.old }
     {
         if self.make_choosing_room().is_err() {

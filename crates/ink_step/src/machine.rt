@@ -18,7 +18,8 @@ use std::alloc::Global;
 use std::mem;
 
 /// What changes while a story runs: a configuration, which has the current flow; the flows that stand aside; what the globals were
-/// when the last running command began; and while a mark stands the trail of what all was.
+/// when the last running command began or the last global was set, whichever came later; and while a mark stands the trail of what
+/// all was.
 pub struct Machine {
     pub(crate) flow: Flow,
     pub(crate) aside: Aside,

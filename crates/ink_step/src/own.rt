@@ -1,8 +1,8 @@
 //! The machine's own fields, and what they were at the mark.
 
 ghost use Rattle.std.specs.Prelude.{◌≡◌, ◌≤◌, ◌+◌, true, length, None, Some, unwrap_or, IfErr, OnErr, OnOk};
-ghost use Rattle.ink_step.specs.Marks.{own_lacks, own_of, own_spare, own_stood, stood_of};
-ghost use Rattle.ink_trail.specs.Undo.{trail_of, writes_of};
+ghost use Rattle.ink_step.specs.Marks.{own_back, own_lacks, own_of, own_spare, own_stood, stood_of};
+ghost use Rattle.ink_trail.specs.Undo.{KeepsTrail, Trails, trail_of, writes_of};
 
 use crate::machine::Machine;
 use ink_model::Fault;
@@ -35,6 +35,7 @@ impl Machine {
     #[inline(always)]
     pub(crate) fn make_own_room(&mut self) -> Result<(), Fault>
         ensures same { self.new ≡ record self.old { trail = self.new.trail } }
+        ensures kept { KeepsTrail self.old.trail self.new.trail }
         ensures mark { stood_of self.new ≡ stood_of self.old }
         ensures room { OnOk result (2 ≤ own_spare self.new.trail) }
         ensures fault { IfErr result (λ f. f ≡ Fault.OutOfMemory) }
@@ -113,6 +114,7 @@ impl Machine {
     pub(crate) fn set_safe(&mut self, safe: bool)
         requires room { 1 ≤ own_spare self.old.trail }
         ensures set { self.new ≡ record self.old { trail = self.new.trail; flow = record self.old.flow { safe = safe } } }
+        ensures trail { Trails own_back 1 (own_of self.old) self.old.trail (own_of self.new) self.new.trail }
         ensures mark { stood_of self.new ≡ stood_of self.old }
         ensures spare { own_spare self.old.trail ≤ own_spare self.new.trail + 1 }
     {
@@ -126,6 +128,7 @@ impl Machine {
     pub(crate) fn set_turn(&mut self, turn: Turn)
         requires room { 1 ≤ own_spare self.old.trail }
         ensures set { self.new ≡ record self.old { trail = self.new.trail; shared = record self.old.shared { turn = turn } } }
+        ensures trail { Trails own_back 1 (own_of self.old) self.old.trail (own_of self.new) self.new.trail }
         ensures mark { stood_of self.new ≡ stood_of self.old }
         ensures spare { own_spare self.old.trail ≤ own_spare self.new.trail + 1 }
     {

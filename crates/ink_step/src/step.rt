@@ -54,7 +54,8 @@ use ink_trail::Undo;
 use ink_tree::Spot;
 use std::mem;
 
-/// How many changes of threads a step makes at the most before it makes room again.
+/// Room for the changes of threads that a step makes before it makes room again: those of a move (`MOVING`), and what it does before.
+/// The rest is to spare.
 pub(crate) const STEPPING: usize = 120;
 
 impl Machine {
@@ -463,7 +464,8 @@ impl Machine {
         self.finish_by(story, &mut transfer)
     }
 
-    // The same after an assignment.
+    // The same after an assignment, for which alone it is called. In the first arm the compiler drops the ways of other content; the
+    // second is never taken.
     #[inline(never)]
     fn finish_stored(
         &mut self,

@@ -5,7 +5,7 @@ ghost use Rattle.ink_host.specs.Desk.{watches};
 ghost use Rattle.ink_model.specs.Host.Told.{told};
 
 use crate::machine::Machine;
-use ink_host::{Desk, PureFn, TurnFn, Watcher};
+use ink_host::Desk;
 use ink_model::{Change, Seq};
 use ink_told::told_since;
 use std::alloc::AllocError;
@@ -16,10 +16,7 @@ impl Machine {
     /// The watched globals that have another value than when the last running command began or the last global was set, whichever
     /// came later, or were not there then, in order of declaration. The one error is a refused request for memory, which is made
     /// only where there are such globals.
-    pub fn told<P: PureFn, T: TurnFn, W: Watcher>(
-        &self,
-        desk: &Desk<P, T, W>,
-    ) -> Result<Seq<Change>, AllocError>
+    pub fn told<P, T, W>(&self, desk: &Desk<P, T, W>) -> Result<Seq<Change>, AllocError>
         ensures told { IfOk result (λ changes. changes ≡ told (watches desk.now.watchers) (start_of self.now) (globals_of self.now)) }
         ensures memory { OnErr result (told (watches desk.now.watchers) (start_of self.now) (globals_of self.now) ≢ []) }
     {

@@ -3,4 +3,4 @@
 
 mod told;
 
-pub use told::{told_between, told_since};
+pub use told::{told_between, told_one, told_since};

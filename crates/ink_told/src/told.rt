@@ -4,7 +4,7 @@ ghost use Rattle.std.specs.Prelude.{◌≡◌, ◌≢◌, ◌++◌, ◌∷◌, [
 ghost use Rattle.ink_host.specs.Desk.{watches};
 ghost use Rattle.ink_model.specs.Host.Told.{is_other, told};
 
-use ink_host::{Desk, PureFn, TurnFn, Watcher};
+use ink_host::Desk;
 use ink_model::{Change, Seq, Text, Value};
 use ink_value::same_value;
 use ink_vars::Globals;
@@ -13,7 +13,7 @@ use std::alloc::{AllocError, Global};
 /// The watched globals that have another value than when the last running command began or the last global was set, whichever
 /// came later, or were not there then, in order of declaration. The one error is a refused request for memory, which is made
 /// only where there are such globals.
-pub fn told_since<P: PureFn, T: TurnFn, W: Watcher>(
+pub fn told_since<P, T, W>(
     alloc: Global,
     globals: &Globals,
     desk: &Desk<P, T, W>,
@@ -36,7 +36,7 @@ pub fn told_since<P: PureFn, T: TurnFn, W: Watcher>(
 
 /// The watched globals of the new ones that have another value than among the old ones, or are not there, in order of declaration.
 /// The one error is a refused request for memory, which is made only where there are such globals.
-pub fn told_between<P: PureFn, T: TurnFn, W: Watcher>(
+pub fn told_between<P, T, W>(
     alloc: Global,
     old: &Globals,
     new: &Globals,
@@ -52,6 +52,25 @@ pub fn told_between<P: PureFn, T: TurnFn, W: Watcher>(
                 add_change(alloc, &mut told, name, value)?;
             }
         }
+    }
+    Ok(Seq::from_vec(told))
+}
+
+/// A global with this value, if it is watched and has another one, or is not there. The one error is a refused request for memory,
+/// which is made only where it is.
+pub fn told_one<P, T, W>(
+    alloc: Global,
+    globals: &Globals,
+    name: &str,
+    value: &Value,
+    desk: &Desk<P, T, W>,
+) -> Result<Seq<Change>, AllocError>
+    ensures told { IfOk result (λ changes. changes ≡ told (watches desk.now.watchers) globals.now.rows ((name.now, value.now) ∷ [])) }
+    ensures memory { OnErr result (told (watches desk.now.watchers) globals.now.rows ((name.now, value.now) ∷ []) ≢ []) }
+{
+    let mut told = Vec::new(alloc);
+    if desk.watches(name) && is_other(globals.get(name), value) {
+        add_change(alloc, &mut told, name, value)?;
     }
     Ok(Seq::from_vec(told))
 }

@@ -1,8 +1,10 @@
 -- Which places are places of a story, given by their last part.
 use Rattle.std.proofs.Common.{◌≡◌, ℕ, List, [], ◌∷◌, ◌++◌, length, Bool, true, false, ◌&&◌, ◌||◌, nat_eq, nat_le, cond, Option, Some, None, is_some, option_and_then, refl, sym, ap, ◌∙◌, arith, nat_lt, inl, inr}
 use Rattle.std.proofs.Math.Bool.{or-false}
-use Rattle.ink_tree.proofs.Common.{cases_lt, nat_tests, append-nil, reverse-append, reverse-reverse, is_place, is_container, ends_at, StoryTree, leaf, container, at, width, count, Part, Index, Name, reaches_in, place_of, node_place, NodeId}
+use Rattle.ink_tree.proofs.Common.{cases_lt, nat_tests, reverse-append, reverse-reverse, is_place, is_container, ends_at, StoryTree, leaf, container, at, width, count, Part, Index, Name, reaches_in, place_of, node_place, NodeId}
+use Rattle.ink_tree.proofs.Kept.{on_node}
 use Rattle.ink_tree.proofs.Standing.{at_append, in_stands}
+use Rattle.ink_tree.specs.declared.spot.Spot.{Spot}
 
 -- ---- by an index
 
@@ -66,5 +68,5 @@ module _ (s : StoryTree) (p : List Part) where
   pub missing : at s p ≡ None → None ≡ chosen (is_some (at s p)) p
   missing none = ap (λ o. chosen (is_some o) p) (sym none)
 
-  pub there : (n : NodeId) → node_place s n ≡ p → is_some (at s p) ≡ true → Some (place_of s (record { holder = n; index = None })) ≡ chosen (is_some (at s p)) p
-  there n is some = ap Some (append-nil (node_place s n) ∙ is) ∙ ap (λ b. chosen b p) (sym some)
+  pub there : (spot : Spot) (n : NodeId) → spot.holder ≡ n → spot.index ≡ None → node_place s n ≡ p → is_some (at s p) ≡ true → Some (place_of s spot) ≡ chosen (is_some (at s p)) p
+  there spot n same none is some = ap Some (on_node s spot n same none ∙ is) ∙ ap (λ b. chosen b p) (sym some)

@@ -10,7 +10,7 @@ use ink_json::Key;
 impl Tree {
     ghost use Rattle.ink_tree.specs.Nodes.{story_tree, node_place, place_of};
 
-    // Whether flow comes from a place in a container, or from that container.
+    /// Whether flow comes from a place in a container, or from that container.
     pub(crate) fn was_inside(&self, container: NodeId, previous: Option<Spot>) -> bool
         ensures { result ≡ was_inside (node_place (story_tree self.now) container) (option_map (place_of (story_tree self.now)) previous) }
     {

@@ -7,7 +7,7 @@ use ink_json::{Key, Nodes, compare_parts};
 use std::alloc::{AllocError, Global};
 use std::cmp::Ordering;
 
-/// So many names have slots of their own.
+/// No more names than these are counted for slots.
 const MOST: usize = 0x8000_0000;
 
 /// So many slots there are at least, so that the few names of a small story seldom share one.
@@ -15,6 +15,9 @@ const LEAST: usize = 1024;
 
 /// An odd number whose bits are without order: of what is multiplied by it the uppermost bits come of all that it was.
 const SPREAD: usize = 0x9e37_79b9_7f4a_7c15;
+
+/// What is mixed so far is multiplied by this odd number, so that the order of parts counts.
+const STEP: usize = 37;
 
 /// The numbers of the contents in each container, in order: a block for each, and where it ends. And at the slot of a container
 /// and a name the number of the content that was noted there last. Nothing rests on it: what is found here is looked at again.
@@ -201,7 +204,7 @@ fn mix_words(container: usize, name: &[u8]) -> usize {
 }
 
 fn mix(mixed: usize, part: usize) -> usize {
-    mixed.wrapping_mul(37).wrapping_add(part)
+    mixed.wrapping_mul(STEP).wrapping_add(part)
 }
 
 // Counts one more at an index, and answers the count before; the length, where there is no such index.

@@ -22,7 +22,7 @@ impl Tree {
         ensures { Leads (story_tree self.now) (node_place (story_tree self.now) from) text.now result }
     {
         let (relative, components) = Components::of(text);
-        let start = if relative { from } else { NodeId { number: 0 } };
+        let start = if relative { from } else { NodeId::ROOT };
         self.follow(start, components)
     }
 

@@ -37,7 +37,7 @@ impl Tree {
         if node.number < self.len() {
             node
         } else {
-            NodeId { number: 0 }
+            NodeId::ROOT
         }
     }
 
@@ -125,7 +125,7 @@ impl Tree {
     pub(crate) fn find(&self, parts: &[Part]) -> Option<NodeId>
         ensures { Finds (story_tree self.now) parts.now result }
     {
-        let mut here = NodeId { number: 0 };
+        let mut here = NodeId::ROOT;
         for part in parts {
             here = self.child(here, key_of(part))?;
         }
@@ -205,7 +205,7 @@ impl Tree {
         }
     }
 
-    // The node one part down, which is looked for at a number first.
+    /// The node one part down, which is looked for at a number first.
     pub(crate) fn near(&self, number: usize, holder: NodeId, key: Key<'_>) -> Option<NodeId>
         ensures { Finds (story_tree self.now) (node_place (story_tree self.now) holder ++ key_part key.entry ∷ []) result }
     {

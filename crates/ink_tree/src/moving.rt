@@ -15,10 +15,7 @@ impl Tree {
     pub fn start(&self) -> Spot
         ensures { place_of (story_tree self.now) result ≡ start_place (story_tree self.now) }
     {
-        let root = Spot {
-            holder: NodeId { number: 0 },
-            index: None,
-        };
+        let root = Spot::of(NodeId::ROOT);
         self.land(root)
     }
 

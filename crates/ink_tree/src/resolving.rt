@@ -11,8 +11,6 @@ use crate::tree::Tree;
 use ink_model::{Part, Path};
 use ink_path::Component;
 
-const ROOT: NodeId = NodeId { number: 0 };
-
 impl Tree {
     ghost use Rattle.ink_tree.specs.Nodes.{story_tree, node_place, place_of};
 
@@ -35,7 +33,7 @@ impl Tree {
     {
         match path.parts.as_slice().split_last() {
             Some((Part::Name(name), others)) if others.is_empty() && !path.relative => {
-                self.noted_step(ROOT, name.as_str())
+                self.noted_step(NodeId::ROOT, name.as_str())
             }
             _ => None,
         }
@@ -59,7 +57,7 @@ impl Tree {
         ensures { option_map (place_of (story_tree self.now)) result
             ≡ target (story_tree self.now) (node_place (story_tree self.now) from) path.now }
     {
-        let start = if path.relative { from } else { ROOT };
+        let start = if path.relative { from } else { NodeId::ROOT };
         self.walk(start, path.parts.as_slice())
     }
 
@@ -69,10 +67,7 @@ impl Tree {
             ≡ walked (story_tree self.now) (node_place (story_tree self.now) from) components.now }
     {
         let Some((last, others)) = components.split_last() else {
-            return Some(Spot {
-                holder: from,
-                index: None,
-            });
+            return Some(Spot::of(from));
         };
         let mut here = from;
         for component in others {
@@ -81,7 +76,7 @@ impl Tree {
         self.last_step(here, component_of(last))
     }
 
-    // One component further.
+    /// One component further.
     #[inline(always)]
     pub(crate) fn step(&self, here: NodeId, component: Component<'_>) -> Option<NodeId>
         ensures { option_map (node_place (story_tree self.now)) result
@@ -137,7 +132,7 @@ impl Tree {
         self.child_at(here, index)
     }
 
-    // The last component, an index of which may be a container's end.
+    /// The last component, an index of which may be a container's end.
     #[inline(always)]
     pub(crate) fn last_step(&self, here: NodeId, component: Component<'_>) -> Option<Spot>
         ensures { option_map (place_of (story_tree self.now)) result
@@ -147,10 +142,7 @@ impl Tree {
             Component::Index(index) => self.last_step_in(here, index),
             Component::Name(name) => {
                 let holder = self.step_named(here, name)?;
-                Some(Spot {
-                    holder,
-                    index: None,
-                })
+                Some(Spot::of(holder))
             }
         }
     }

@@ -9,6 +9,11 @@ pub struct NodeId {
     pub number: usize,
 }
 
+impl NodeId {
+    /// The root.
+    pub const ROOT: NodeId = NodeId { number: 0 };
+}
+
 /// A place of a story: an index in a container, which may be the container's end, or without an index the content itself. Content
 /// by index has a spot of either kind, so `==` also tells apart spots of one place.
 #[derive(Clone, Copy, PartialEq, Eq)]
@@ -18,8 +23,9 @@ pub struct Spot {
 }
 
 impl Spot {
-    /// The place of a content itself.
-    pub(crate) fn of(node: NodeId) -> Spot
+    /// The place of a content itself. Takes no memory.
+    #[inline(always)]
+    pub fn of(node: NodeId) -> Spot
         ensures holder { result.holder ≡ node }
         ensures index { result.index ≡ None }
     {

@@ -196,10 +196,7 @@ impl Tree {
         ensures { option_map (place_of (story_tree self.now)) result
             ≡ (if is_some (at (story_tree self.now) parts.now) then Some parts.now else None) }
     {
-        Some(Spot {
-            holder: self.find(parts)?,
-            index: None,
-        })
+        Some(Spot::of(self.find(parts)?))
     }
 
     /// The spot of an index in what stands at a place.
@@ -242,7 +239,7 @@ impl Tree {
         ensures place { option_map (node_place (story_tree self.now)) result ≡ rules.knot name.now (story_tree self.now) }
         ensures inside { MayBeNode (story_tree self.now) result }
     {
-        let root = NodeId { number: 0 };
+        let root = NodeId::ROOT;
         if let Some(node) = self.child_by_name(root, name) {
             return Some(node);
         }

@@ -51,7 +51,7 @@ impl Tree {
     {
         let node = match self.node(at) {
             Some(node) => node,
-            None => NodeId { number: 0 },
+            None => NodeId::ROOT,
         };
         Upward {
             node,

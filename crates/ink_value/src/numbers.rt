@@ -52,7 +52,7 @@ fn remainder(x: i32, y: i32) -> Result<Value, Fault>
     }
 }
 
-// Is there a quotient, and does it fit?
+// Whether there is a quotient, and it fits.
 fn can_divide(x: i32, y: i32) -> bool
     ensures { result ≡ rules.can_divide x y }
 {

@@ -114,7 +114,7 @@ fn before_text(alloc: Global, operator: Op, left: &Value, right: &Value) -> Resu
     match right {
         Value::Text(text) if is_for_texts(operator) => {
             let left = printed(alloc, left)?;
-            of_texts(alloc, operator, left.as_str(), text.get().as_str())
+            of_texts(alloc, operator, left.as_str(), text.as_str())
         }
         _ => Err(Fault::BadOperands),
     }

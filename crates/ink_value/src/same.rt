@@ -14,13 +14,13 @@ pub fn same_value(left: &Value, right: &Value) -> bool
     match (left, right) {
         (Value::Int(i), Value::Int(j)) => *i == *j,
         (Value::Bool(b), Value::Bool(c)) => *b == *c,
-        (Value::Text(text), Value::Text(other)) => text.get().as_str() == other.get().as_str(),
+        (Value::Text(text), Value::Text(other)) => text.as_str() == other.as_str(),
         (Value::Target(path), Value::Target(other)) => same_path(path.get(), other.get()),
         (Value::Pointer(frame, name), Value::Pointer(other_frame, other)) => {
             *frame == *other_frame && name.get().as_str() == other.get().as_str()
         }
         (Value::Void, Value::Void) => true,
-        (Value::Tag(text), Value::Tag(other)) => text.get().as_str() == other.get().as_str(),
+        (Value::Tag(text), Value::Tag(other)) => text.as_str() == other.as_str(),
         _ => false,
     }
 }

@@ -9,7 +9,7 @@ ghost use Rattle.ink_model.specs.Values.Operator as rules;
 use ink_model::{Fault, MAX_TEXT, Op, Shared, Text, Value};
 use std::alloc::{AllocError, Global};
 
-// Does the operator have a result for two texts?
+/// Whether the operator has a result for two texts.
 pub(crate) fn is_for_texts(operator: Op) -> bool
     ensures { result ≡ is_for_texts operator }
 {
@@ -90,7 +90,7 @@ fn both(alloc: Global, left: &str, right: &str) -> Result<Text, AllocError>
     Ok(Text::from_string(text))
 }
 
-// Does a text stand in another?
+// Whether the second text stands in the first.
 #[tactic(auto, using(crate::proofs::Standing::has_from_contains))]
 fn has(text: &str, part: &str) -> bool
     ensures { result ≡ bytes.has text.now part.now }

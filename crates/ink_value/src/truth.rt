@@ -5,7 +5,7 @@ ghost use Rattle.ink_model.specs.Values.Value as rules;
 
 use ink_model::{Fault, Value};
 
-/// Is a value true (docs/VALUES.md)?
+/// Whether a value is true (docs/VALUES.md).
 ///
 /// `BadOperands` where it is neither true nor false.
 #[tactic(auto, unfolding(ink_model::specs::Values::Value::is_true))]
@@ -15,7 +15,7 @@ pub fn is_true(value: &Value) -> Result<bool, Fault>
     match value {
         Value::Int(number) => Ok(*number != 0),
         Value::Bool(truth) => Ok(*truth),
-        Value::Text(text) => Ok(!text.get().as_str().is_empty()),
+        Value::Text(text) => Ok(!text.as_str().is_empty()),
         Value::Void => Ok(false),
         Value::Target(_) | Value::Pointer(..) | Value::Tag(_) => Err(Fault::BadOperands),
     }

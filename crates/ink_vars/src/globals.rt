@@ -102,7 +102,7 @@ impl Globals {
 
     /// The same by a name that may have a number, which finds it sooner.
     #[inline(always)]
-    pub fn get_at(&self, name: &str, number: Option<usize>) -> Option<&Value>
+    pub(crate) fn get_at(&self, name: &str, number: Option<usize>) -> Option<&Value>
         ensures { option_map (λ value. value.now) result ≡ stored name.now self.now.rows }
     {
         self.table.get_at(name, number)

@@ -28,24 +28,9 @@ pub fn read<P: Copy>(
 ) -> Result<Value, Fault>
     ensures { Copies (rules.read globals.now.rows threads.now.threads.thread name.now) result }
 {
-    read_at(alloc, globals, threads, name, None)
-}
-
-/// The same by a name that may have a number.
-#[inline(always)]
-pub fn read_at<P: Copy>(
-    alloc: Global,
-    globals: &Globals,
-    threads: &Threads<P>,
-    name: &str,
-    number: Option<usize>,
-) -> Result<Value, Fault>
-    ensures { Copies (rules.read globals.now.rows threads.now.threads.thread name.now) result }
-{
-    match look(globals, threads, name, number) {
-        Ok(Some(value)) => copied(alloc, value),
-        Ok(None) => Ok(Value::Int(0)),
-        Err(fault) => Err(fault),
+    match look(globals, threads, name, None)? {
+        Some(value) => Ok(value.clone_in(alloc)?),
+        None => Ok(Value::Int(0)),
     }
 }
 
@@ -93,15 +78,6 @@ fn look_at<'a, P: Copy>(
                 Err(Fault::BadPointer)
             }
         }
-    }
-}
-
-fn copied(alloc: Global, value: &Value) -> Result<Value, Fault>
-    ensures { Copies (Ok value.now) result }
-{
-    match value.clone_in(alloc) {
-        Ok(copy) => Ok(copy),
-        Err(_) => Err(Fault::OutOfMemory),
     }
 }
 
@@ -174,13 +150,11 @@ fn pointed<'a, P: Copy>(
     let Ok(frame) = usize::try_from(end.frame) else {
         return Err(Fault::BadPointer);
     };
-    match end.name.share() {
-        Ok(name) => Ok(Variable {
-            frame,
-            name: Name::Pointed(name, end.found.place),
-        }),
-        Err(_) => Err(Fault::OutOfMemory),
-    }
+    let name = end.name.share()?;
+    Ok(Variable {
+        frame,
+        name: Name::Pointed(name, end.found.place),
+    })
 }
 
 // The fault of an assignment to what a pointer leads to, where that has no value: the frame lacks it, or there is no such global or

@@ -1,10 +1,9 @@
 //! Objects for the program's words, on a desk (docs/PROGRAM.md).
 
-use crate::objects::{Row, Script, Table};
+use crate::objects::{Script, Table};
 use crate::options::{PlayOption, WordsRefused, command, read_options};
 use clap::ArgMatches;
 use ink_host::{Desk, Observer};
-use ink_model::Given;
 use std::alloc::Global;
 
 /// A desk of the program's objects.
@@ -44,38 +43,18 @@ fn bind_option(
     option: PlayOption<'_>,
 ) -> Result<(), WordsRefused> {
     match option {
-        PlayOption::Answers { name, answers } => bind_script(alloc, desk, name, answers),
-        PlayOption::Table { name, rows } => bind_table(alloc, desk, name, rows),
-        PlayOption::Watch { name } => watch(alloc, desk, name),
+        PlayOption::Answers { name, answers } => first(desk.bind_turn(
+            name,
+            Script::new(alloc, answers),
+        )),
+        PlayOption::Table { name, rows } => first(desk.bind_pure(name, Table::new(alloc, rows))),
+        PlayOption::Watch { name } => first(desk.watch(name, Observer::new(alloc))),
     }
 }
 
-fn bind_script(
-    alloc: Global,
-    desk: &mut PlayDesk,
-    name: &str,
-    answers: Vec<Given>,
-) -> Result<(), WordsRefused> {
-    match desk.bind_turn(name, Script::new(alloc, answers)) {
-        Ok(None) => Ok(()),
-        Ok(Some(_)) | Err(_) => Err(WordsRefused),
-    }
-}
-
-fn bind_table(
-    alloc: Global,
-    desk: &mut PlayDesk,
-    name: &str,
-    rows: Vec<Row>,
-) -> Result<(), WordsRefused> {
-    match desk.bind_pure(name, Table::new(alloc, rows)) {
-        Ok(None) => Ok(()),
-        Ok(Some(_)) | Err(_) => Err(WordsRefused),
-    }
-}
-
-fn watch(alloc: Global, desk: &mut PlayDesk, name: &str) -> Result<(), WordsRefused> {
-    match desk.watch(name, Observer::new(alloc)) {
+// A name is bound or watched for the first time, or else refused; so is a request for memory that was refused.
+fn first<X: Drop, E: Drop>(bound: Result<Option<X>, E>) -> Result<(), WordsRefused> {
+    match bound {
         Ok(None) => Ok(()),
         Ok(Some(_)) | Err(_) => Err(WordsRefused),
     }

@@ -168,10 +168,11 @@ fn given_of(alloc: Global, value: Value) -> Result<Given, WordsRefused> {
 }
 
 fn small_integer(number: Number) -> Result<Given, WordsRefused> {
-    match number.as_i128() {
-        Some(integer) if integer >= i32::MIN as i128 && integer <= i32::MAX as i128 => {
-            Ok(Given::Int(integer as i32))
-        }
-        _ => Err(WordsRefused),
+    let Some(integer) = number.as_i128() else {
+        return Err(WordsRefused);
+    };
+    match i32::try_from(integer) {
+        Ok(integer) => Ok(Given::Int(integer)),
+        Err(_) => Err(WordsRefused),
     }
 }

@@ -7,7 +7,7 @@ mod report;
 
 use ink_host::{Desk, PureFn, TurnFn, Watcher};
 use ink_player::{
-    PlayFault, Player, RunFault, Sink, Source, Watched, open_story, serve, serve_story,
+    Counting, PlayFault, Player, RunFault, Sink, Source, open_story, serve, serve_story,
 };
 use ink_words::{PlayDesk, read_story_file, read_words, words};
 use report::{refuse_file, refuse_words, tell};
@@ -28,8 +28,8 @@ fn main(rt: HostRuntime) -> ExitCode {
     let Ok(story) = read_words(alloc, "inkplay", words.as_slice(), &mut desk) else {
         return ExitCode::from(refuse_words(&rt));
     };
-    let mut source = Watched::new(rt.reader());
-    let mut sink = Watched::new(io::writer(&rt));
+    let mut source = Counting::new(rt.reader());
+    let mut sink = Counting::new(io::writer(&rt));
     ExitCode::from(match story {
         Some(path) => serve_file(&rt, alloc, path, desk, &mut source, &mut sink),
         None => serve_input(&rt, alloc, desk, &mut source, &mut sink),

@@ -14,7 +14,7 @@ use ink_check::{Story, check};
 use ink_host::{Desk, PureFn, TurnFn, Watcher};
 use ink_json::read_story;
 use ink_page::{Look, ask_for_the_rest};
-use ink_player::{Player, Watched};
+use ink_player::{Counting, Player};
 use ink_protocol::RunFault;
 use ink_reader::Reader;
 use ink_words::{PlayDesk, bind_words, read_story_file, words};
@@ -129,7 +129,7 @@ fn read_player<P: PureFn + Drop, F: TurnFn + Drop, O: Watcher + Drop>(
         beside: settings.beside.as_str(),
     };
     let mut lines = InputLines { rt, failures: 0 };
-    let mut sink = Watched::new(io::writer(&rt));
+    let mut sink = Counting::new(io::writer(&rt));
     let outcome = reader.read_to_end(&mut lines, &mut sink, &mut shelf);
     let _desk = reader.close();
     outcome

@@ -6,8 +6,8 @@ use ink_protocol::RunFault;
 use std::alloc::{AllocError, Global};
 
 /// The input was read to its end, or the reader quit.
-pub(crate) const SERVED: u8 = 0;
-/// Reading or writing failed, or there was no memory to show something.
+const SERVED: u8 = 0;
+/// Reading or writing failed, or there was no memory to read a line or to show something.
 const RUN_FAULT: u8 = 1;
 /// Nothing was read: the words, the file or the story were refused, or the story could not be opened.
 const REFUSED: u8 = 2;

@@ -111,7 +111,9 @@ fn compare_back(
     }
     play.machine.mark();
     compare_here(found, "mark", play, &twin.here);
-    let _way = play.go_far(session, MOST);
+    let way = play.go_far(session, MOST);
+    let most = way.most_own();
+    let own = play.own_writes();
     let writes = play.machine.writes();
     let count = play.machine.back();
     compare_here(found, "back", play, &twin.here);
@@ -121,6 +123,7 @@ fn compare_back(
         count.max(writes),
         writes,
     );
+    compare_number(found, "writes of own fields", own.max(most), most);
     compare_number(found, "writes without a mark", play.machine.writes(), 0);
     play.renew(session, twin.given)?;
     let way = play.go_far(session, MOST);

@@ -3,7 +3,8 @@
 use crate::sessions::{Command, Session, TestDesk};
 use crate::shown::{show_globals, show_machine};
 use ink_host::Desk;
-use ink_step::Machine;
+use ink_step::{Machine, Parts};
+use ink_trail::Undo;
 use inkcases::{NoAnswer, Report};
 use std::alloc::Global;
 
@@ -21,6 +22,13 @@ pub(crate) struct Play {
 pub(crate) struct Way {
     moves: usize,
     halt: Option<NoAnswer>,
+}
+
+impl Way {
+    /// How many changes of a machine's own fields there are at the most: two for each move, and for the one that faulted.
+    pub(crate) fn most_own(&self) -> u64 {
+        (self.moves as u64).saturating_add(1).saturating_mul(2)
+    }
 }
 
 impl Play {
@@ -123,6 +131,23 @@ impl Play {
             moves: most,
             halt: None,
         }
+    }
+
+    /// How many changes the machine counted since its mark beside those of its parts: the changes of its own fields.
+    pub(crate) fn own_writes(&self) -> u64 {
+        let Parts {
+            flow,
+            shared,
+            output,
+            ..
+        } = self.machine.parts();
+        let own = self.machine.writes();
+        let own = own.saturating_sub(flow.threads.writes());
+        let own = own.saturating_sub(flow.stack.writes());
+        let own = own.saturating_sub(flow.choices.writes());
+        let own = own.saturating_sub(shared.globals.writes());
+        let own = own.saturating_sub(shared.counts.writes());
+        own.saturating_sub(output.writes())
     }
 
     /// Writes all that the machine has.

@@ -7,7 +7,7 @@ use crate::streams::{Page, Pieces};
 use ink_host::{Desk, Nobody};
 use ink_model::Fault;
 use ink_player::{
-    PlayEnd, PlayFault, RunFault, Watched, open_story, play, run, serve, serve_story,
+    Counting, PlayEnd, PlayFault, RunFault, open_story, play, run, serve, serve_story,
 };
 use inkcases::Report;
 use std::alloc::Global;
@@ -72,8 +72,8 @@ fn slowly_played(said: &mut Report, input: &[u8], wanted: Wanted<'_>) {
     reader.size = 7;
     let mut writer = Page::new(alloc);
     writer.size = 7;
-    let mut source = Watched::new(reader);
-    let mut sink = Watched::new(writer);
+    let mut source = Counting::new(reader);
+    let mut sink = Counting::new(writer);
     let end = let_go(serve_story(alloc, &mut source, &mut sink, nobody(alloc)));
     compare(said, &sink.into_inner(), &end, wanted);
 }
@@ -99,7 +99,7 @@ fn run_opened(alloc: Global, story: &[u8], rest: &[u8], writer: &mut Page) -> Op
 /// Opens the first line as a story, and serves the others from a source to a sink.
 fn opened_and_served(said: &mut Report, input: &[u8], wanted: Wanted<'_>) {
     let (story, rest) = first_line(input);
-    let mut sink = Watched::new(Page::new(said.alloc()));
+    let mut sink = Counting::new(Page::new(said.alloc()));
     let end = serve_opened(said.alloc(), story, rest, &mut sink);
     compare(said, &sink.into_inner(), &end, wanted);
 }
@@ -108,13 +108,13 @@ fn serve_opened(
     alloc: Global,
     story: &[u8],
     rest: &[u8],
-    sink: &mut Watched<Page>,
+    sink: &mut Counting<Page>,
 ) -> Option<PlayFault> {
     let mut player = match open_story(alloc, story, nobody(alloc)) {
         Ok(player) => player,
         Err(end) => return let_go(Err(end)),
     };
-    let mut source = Watched::new(Pieces::whole(rest));
+    let mut source = Counting::new(Pieces::whole(rest));
     let outcome = serve(alloc, &mut source, sink, &mut player);
     let _desk = player.close();
     fault_of(outcome)

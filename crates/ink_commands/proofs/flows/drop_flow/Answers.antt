@@ -7,7 +7,7 @@ use Rattle.ink_commands.proofs.Going.{drop-broken, dropped-there, drops-none, dr
 use Rattle.ink_commands.proofs.flows.drop_flow.Goals as goal
 
 pub returns-in-Some-clause-does : goal.returns-in-Some-clause-does
-returns-in-Some-clause-does c = λ s n. drop-broken s c.args.name.now (game_of s c.args.machine.now) n c.args.broken c.in-Some.before c.in-Some.is
+returns-in-Some-clause-does c = λ s n. drop-broken s c.args.name.now (game_of s c.args.machine.now) n c.args.broken c.in-Some.fault c.in-Some.is
 
 pub returns-then-not-has_flow-clause-does : goal.returns-then-not-has_flow-clause-does
 returns-then-not-has_flow-clause-does c = λ s n.

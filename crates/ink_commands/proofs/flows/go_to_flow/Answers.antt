@@ -11,7 +11,7 @@ use Rattle.ink_commands.proofs.flows.go_to_flow.Goals as goal
 pub returns-in-Some-clause-does : goal.returns-in-Some-clause-does
 returns-in-Some-clause-does c = λ n.
     let s = story_tree c.args.story.now in
-    flow-broken s c.args.name.now (game_of s c.args.machine.now) n c.args.broken c.in-Some.earlier c.in-Some.is
+    flow-broken s c.args.name.now (game_of s c.args.machine.now) n c.args.broken c.in-Some.fault c.in-Some.is
 
 pub returns-then-not-is_flow_name-clause-does : goal.returns-then-not-is_flow_name-clause-does
 returns-then-not-is_flow_name-clause-does c = λ n.

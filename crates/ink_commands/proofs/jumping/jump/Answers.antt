@@ -15,7 +15,7 @@ pub returns-in-Some-clause-does : goal.returns-in-Some-clause-does
 returns-in-Some-clause-does c = λ n.
     let s = story_tree c.args.story.now in
     let m = c.args.machine.now in
-    jumps-broken s c.args.path.now (config_of s m) (aside_of s (aside_in m)) n c.args.broken c.in-Some.reason c.in-Some.is
+    jumps-broken s c.args.path.now (config_of s m) (aside_of s (aside_in m)) n c.args.broken c.in-Some.fault c.in-Some.is
 
 pub returns-in-Err-clause-does : goal.returns-in-Err-clause-does
 returns-in-Err-clause-does c = λ n.

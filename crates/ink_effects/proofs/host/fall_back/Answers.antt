@@ -9,5 +9,5 @@ returns-in_default c f =
 
 pub returns : goal.returns
 returns c f =
-    knot_there (story_tree c.args.story.now) (kept c.tree-tree.result.now) c.tree-tree.ensures.tree c.args.name.now f c.in-Some.holder c.land-place.result c.in-Some.ensures.place
-    c.land-place.ensures
+    rw c.entering.ensures (knot_there (story_tree c.args.story.now) (kept c.tree-tree.result.now) c.tree-tree.ensures.tree c.args.name.now f c.in-Some.holder c.land-place.result c.in-Some.ensures.place
+    c.land-place.ensures)

@@ -55,6 +55,9 @@ returns-clause-trail g c =
     c.push_reserved.ensures.items ∙ ap (λ cs. cs ++ c.args.choice ∷ []) c.ready_for_one.ensures.items in
     rw (← c.self.view_is) (trails-one choices_back Added 1 _ _ _ _ (omega arith) (added_back _ _ c.args.choice items) c.in_ok-ready_for_one.ensures.undo c.ready_for_one.ensures.room)
 
+pub returns-clause-pair : goal.returns-clause-pair
+returns-clause-pair g c = rw (← c.self.view_is) c.in_ok-ready_for_one.ensures.undo
+
 pub returns-in_err-ready_for_one-clause-stood : goal.returns-in_err-ready_for_one-clause-stood
 unfolding choices_stood
 returns-in_err-ready_for_one-clause-stood g c =

@@ -25,7 +25,7 @@ returns-in-Err g c =
     let ts = threads_in c.self.inside.running c.self.inside.below.items in
     let threads = top_grows (frame_pushed (frame_kind c.args.kind) c.args.depth ts.thread) ts c.push-pushed.new.self.thread c.push-pushed.result c.push-pushed.ensures.thread in
     let trail = as-it-was _ _ c.self.inside.trail (kept g c) in
-    rw (← c.self.view_is) (record { threads = rw (← c.in-Err.is) threads; trail = trail; stood = stood-same _ _ trail; spare = spare-or {A = Unit} (Err c.in-Err.fault) 1 _ _ trail })
+    rw (← c.self.view_is) (record { threads = rw (← c.in-Err.is) threads; trail = trail; pair = tt; stood = stood-same _ _ trail; spare = spare-or {A = Unit} (Err c.in-Err.fault) 1 _ _ trail })
 
 -- the frame that was pushed goes again
 back : (g : Over) (c : After-add g) → threads_back FramePushed (threads_in c.push-pushed.new.self c.self.inside.below.items) ≡ threads_in c.self.inside.running c.self.inside.below.items
@@ -50,7 +50,7 @@ returns-in_default-add g c =
     let refused = grown-refused rule ts.thread c.push-pushed.new.self.thread c.unpush.new.self.thread c.push-pushed.result c.in_default.field-0 c.in_default.is (ap (λ us. us.thread) same) c.push-pushed.ensures.thread in
     let trail = but-for-room _ _ c.self.inside.trail c.add.new.self same c.in_default-add.ensures.err in
     rw (← c.self.view_is)
-    (record { threads = top_grows rule ts c.unpush.new.self.thread (Err OutOfMemory) refused; trail = trail; stood = stood-same _ _ trail; spare = spare-or {A = Unit} (Err OutOfMemory) 1 _ _ trail })
+    (record { threads = top_grows rule ts c.unpush.new.self.thread (Err OutOfMemory) refused; trail = trail; pair = tt; stood = stood-same _ _ trail; spare = spare-or {A = Unit} (Err OutOfMemory) 1 _ _ trail })
 
 pub invariant_of-self-in-Ok : goal.invariant_of-self-in-Ok
 invariant_of-self-in-Ok g c =
@@ -65,4 +65,4 @@ returns g c =
     let rule = frame_pushed (frame_kind c.args.kind) c.args.depth ts.thread in
     let threads = subst (λ x. Grows (top_result rule ts) ts us x) c.in_default.is (top_grows rule ts us.thread c.push-pushed.result c.push-pushed.ensures.thread) in
     let trail = trails-one threads_back FramePushed 1 ts us c.self.inside.trail c.add.new.self (omega arith) (back g (goal.at.returns g c).After-add) c.in-Ok.ensures.ok c.add.ensures.room in
-    rw (← c.self.view_is) (record { threads = threads; trail = trail; stood = stood-of 1 _ _ trail; spare = spare-of 1 _ _ trail })
+    rw (← c.self.view_is) (record { threads = threads; trail = trail; pair = c.in-Ok.ensures.ok; stood = stood-of 1 _ _ trail; spare = spare-of 1 _ _ trail })

@@ -20,7 +20,7 @@ returns-in-Err g c =
     let ts = threads_in c.self.inside.running c.self.inside.below.items in
     let same = grown-kept (doubled ts) ts (threads_in c.self.inside.running c.push_copy.new.below.items) c.push_copy.result c.in-Err.fault c.in-Err.is c.push_copy.ensures.threads in
     let trail = as-it-was _ _ c.self.inside.trail same in
-    rw (← c.self.view_is) (record { threads = rw (← c.in-Err.is) c.push_copy.ensures.threads; trail = trail; stood = stood-same _ _ trail; spare = spare-or {A = Unit} (Err c.in-Err.fault) 1 _ _ trail })
+    rw (← c.self.view_is) (record { threads = rw (← c.in-Err.is) c.push_copy.ensures.threads; trail = trail; pair = tt; stood = stood-same _ _ trail; spare = spare-or {A = Unit} (Err c.in-Err.fault) 1 _ _ trail })
 
 -- the copy goes again
 back : (g : Over) (c : After-add g) → threads_back ThreadPushed (threads_in c.self.inside.running c.push_copy.new.below.items) ≡ threads_in c.self.inside.running c.self.inside.below.items
@@ -51,7 +51,7 @@ returns-in_default-add g c =
     let same = popped g (goal.at.returns-in_default-add g c).After-pop-copy in
     let threads = grown-refused (doubled ts) ts us (threads_in c.self.inside.running c.pop-copy.new.self.items) c.push_copy.result c.in_default.field-0 c.in_default.is same c.push_copy.ensures.threads in
     let trail = but-for-room _ _ c.self.inside.trail c.add.new.self same c.in_default-add.ensures.err in
-    rw (← c.self.view_is) (record { threads = threads; trail = trail; stood = stood-same _ _ trail; spare = spare-or {A = Unit} (Err OutOfMemory) 1 _ _ trail })
+    rw (← c.self.view_is) (record { threads = threads; trail = trail; pair = tt; stood = stood-same _ _ trail; spare = spare-or {A = Unit} (Err OutOfMemory) 1 _ _ trail })
 
 pub invariant_of-self-in-Ok : goal.invariant_of-self-in-Ok
 invariant_of-self-in-Ok g c =
@@ -72,4 +72,4 @@ returns g c =
     let us = threads_in c.self.inside.running c.push_copy.new.below.items in
     let threads = subst (λ x. Grows (doubled ts) ts us x) c.in_default.is c.push_copy.ensures.threads in
     let trail = trails-one threads_back ThreadPushed 1 ts us c.self.inside.trail c.add.new.self (omega arith) (back g (goal.at.returns g c).After-add) c.in-Ok.ensures.ok c.add.ensures.room in
-    rw (← c.self.view_is) (record { threads = threads; trail = trail; stood = stood-of 1 _ _ trail; spare = spare-of 1 _ _ trail })
+    rw (← c.self.view_is) (record { threads = threads; trail = trail; pair = c.in-Ok.ensures.ok; stood = stood-of 1 _ _ trail; spare = spare-of 1 _ _ trail })

@@ -4,6 +4,7 @@ use Rattle.ink_model.specs.Choices.Making.{choice_gone, visible}
 use Rattle.ink_model.specs.Choices.Choosing.{open_choice, taken_up}
 use Rattle.ink_step.specs.Marks.{choices_lack, choosing_lacks, counts_lack, entered_by, lacks, own_lacks, stood_of, threads_lack, turn_lacks}
 use Rattle.ink_step.specs.Steps.{Chooses}
+use Rattle.ink_step.proofs.Backs.{own_after}
 use Rattle.ink_step.proofs.Chosen.{asks_or_lacks, chooses_none, chooses_one, chooses_short, chosen_lands, open_alike, takes_any, takes_visible, turn_short}
 use Rattle.ink_step.proofs.machine.Machine.choose.Goals as goal
 use Rattle.ink_step.proofs.machine.Machine.choose.Goals.{After-enter_landed, Else-can_go_on}
@@ -183,6 +184,18 @@ returns-in-Err-clause-start c = c.make_choosing_room.ensures.start
 
 pub returns-in-Err-clause-aside : goal.returns-in-Err-clause-aside
 returns-in-Err-clause-aside c = c.make_choosing_room.ensures.aside
+
+-- ---- the machine's own fields
+
+pub returns-in-Some-copied-clause-own : goal.returns-in-Some-copied-clause-own
+returns-in-Some-copied-clause-own c =
+    let mid = c.make_choosing_room.new.self in
+    own_after 1 c.args.self.now mid c.take_up_next.new.self c.make_choosing_room.ensures.same c.make_choosing_room.ensures.kept c.take_up_next.ensures.own
+
+pub returns-in-Ok-Some-clause-own : goal.returns-in-Ok-Some-clause-own
+returns-in-Ok-Some-clause-own c =
+    let mid = c.make_choosing_room.new.self in
+    own_after 1 c.args.self.now mid c.take_up_next-in-Ok-Some.new.self c.make_choosing_room.ensures.same c.make_choosing_room.ensures.kept c.take_up_next-in-Ok-Some.ensures.own
 
 -- ---- room
 

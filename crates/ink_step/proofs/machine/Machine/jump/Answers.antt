@@ -1,9 +1,11 @@
 use Rattle.std.proofs.Common.{◌≡◌, ◌∙◌, ◌⊎◌, ◌*◌, ◌||◌, length, ap, subst, true, false, map, None, Some, ◌≤◌, arith, is_err, sym, Result, Ok, Err, OnOk}
 use Rattle.ink_step.proofs.Common.{story_tree, Configuration, map_choice, entered_places, adds_rows, all_visited, threads_stood, threads_spare, config_of, counts_in, aside_in, place_of, counts_spare, counts_stood}
 use Rattle.ink_model.specs.Flow.Frames.{map_threads, on_top, put_in}
-use Rattle.ink_step.specs.Marks.{choices_lack, counts_lack, lacks, own_lacks, stood_of, threads_lack, turn_lacks, own_spare}
+use Rattle.ink_step.specs.Marks.{choices_lack, counts_lack, lacks, own_back, own_lacks, stood_of, threads_lack, turn_lacks, own_spare}
+use Rattle.ink_step.proofs.Backs.{own_after}
 use Rattle.ink_step.proofs.Chosen.{asks_or_lacks, jump_lands, jumped_in}
 use Rattle.ink_choice.specs.Undo.{choices_spare}
+use Rattle.ink_trail.proofs.Undoing.{trails-trails}
 use Rattle.ink_step.proofs.machine.Machine.jump.Goals.{Else-is_err}
 use Rattle.ink_step.proofs.machine.Machine.jump.Goals as goal
 
@@ -59,6 +61,13 @@ returns-in-Err-clause-mark c = ap (λ o. record (stood_of c.make_choosing_room.n
 
 pub returns-then-is_err-clause-err : goal.returns-then-is_err-clause-err
 returns-then-is_err-clause-err c = c.make_choosing_room.ensures.config (story_tree c.args.story.now)
+
+-- ---- the machine's own fields
+
+pub returns-in-Ok-clause-own : goal.returns-in-Ok-clause-own
+returns-in-Ok-clause-own c =
+    own_after 2 c.args.self.now c.make_choosing_room.new.self c.set_turn.new.self c.make_choosing_room.ensures.same c.make_choosing_room.ensures.kept
+    (trails-trails own_back 1 1 _ _ _ _ _ _ c.set_safe.ensures.trail c.set_turn.ensures.trail)
 
 -- ---- room
 

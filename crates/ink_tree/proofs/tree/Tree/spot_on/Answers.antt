@@ -7,4 +7,4 @@ pub returns : goal.returns
 returns c =
     let s = story_tree c.args.self.now in
     let n = c.in_ok-find.field-0 in
-    there s c.args.parts.now n c.in_ok-find.ensures.1 (stands s c.args.parts.now n c.args.self.now.rising c.in_ok-find.ensures)
+    there s c.args.parts.now c.of.result n c.of.ensures.holder c.of.ensures.index c.in_ok-find.ensures.1 (stands s c.args.parts.now n c.args.self.now.rising c.in_ok-find.ensures)

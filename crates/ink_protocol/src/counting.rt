@@ -12,20 +12,20 @@ use std::io::{Read, Write};
 /// A reader or a writer of one's own, and how often it has failed: reads that failed, or writes that failed or took no byte
 /// though there was one; and how many reads have given no byte. The counts are of 64 bits and wrap around.
 #[derive(Drop)]
-pub struct Watched<X> {
+pub struct Counting<X> {
     inner: X,
     pub failures: u64,
     pub ends: u64,
 }
 
-impl<X> Watched<X> {
+impl<X> Counting<X> {
     /// It has not failed yet, and was not read at its end.
-    pub fn new(inner: X) -> Watched<X>
+    pub fn new(inner: X) -> Counting<X>
         ensures same { result.inner ≡ inner }
         ensures sound { result.failures ≡ 0 }
         ensures ends { result.ends ≡ 0 }
     {
-        Watched {
+        Counting {
             inner,
             failures: 0,
             ends: 0,
@@ -40,7 +40,7 @@ impl<X> Watched<X> {
     }
 }
 
-impl<R: Read> Source for Watched<R> {
+impl<R: Read> Source for Counting<R> {
     ghost remaining = { λ s. R.remaining s.inner };
 
     ghost failures = { λ s. s.failures };
@@ -54,7 +54,7 @@ impl<R: Read> Source for Watched<R> {
     }
 }
 
-impl<W: Write> Sink for Watched<W> {
+impl<W: Write> Sink for Counting<W> {
     ghost contents = { λ s. W.contents s.inner };
 
     ghost failures = { λ s. s.failures };
@@ -66,7 +66,7 @@ impl<W: Write> Sink for Watched<W> {
     }
 }
 
-/// A reader or a writer that is lent, and how often it has failed and was read at its end meanwhile, counted as by `Watched`.
+/// A reader or a writer that is lent, and how often it has failed and was read at its end meanwhile, counted as by `Counting`.
 #[derive(Drop)]
 pub struct Lent<'a, X> {
     inner: &'a mut X,
