@@ -1,20 +1,14 @@
 //! A reader that gives little at a time and may fail, and a writer that takes little at a time and may fail.
 
-ghost use Rattle.std.specs.Prelude.{◌≤◌};
-
 use std::alloc::Global;
 use std::io::{Error, ErrorKind, Read, Result as IoResult, Write};
 
-/// What a reader gives to who asks once more, when it has failed or was at its end: a line that would be answered.
-const MORE: &[u8] = b"bye\n";
-
-/// Gives at most so many bytes at a time, and behind them fails or is at its end, once.
+/// Gives at most so many bytes at a time, and behind them fails or is at its end.
 #[derive(Drop)]
 pub(crate) struct Pieces<'b> {
     pub rest: &'b [u8],
     pub size: usize,
     pub fails: bool,
-    pub is_over: bool,
 }
 
 impl<'b> Pieces<'b> {
@@ -24,26 +18,14 @@ impl<'b> Pieces<'b> {
             rest: bytes,
             size: usize::MAX,
             fails: false,
-            is_over: false,
         }
-    }
-}
-
-impl Pieces<'_> {
-    fn end(&self) -> IoResult<usize> {
-        if self.fails {
-            return Err(Error::from(ErrorKind::Other));
-        }
-        Ok(0)
     }
 }
 
 impl Read for Pieces<'_> {
     fn read(&mut self, buffer: &mut [u8]) -> IoResult<usize> {
-        if self.rest.is_empty() && !self.is_over && !buffer.is_empty() {
-            self.is_over = true;
-            self.rest = MORE;
-            return self.end();
+        if self.rest.is_empty() && self.fails {
+            return Err(Error::from(ErrorKind::Other));
         }
         let count = self.rest.len().min(self.size).min(buffer.len());
         let (front, rest) = self.rest.split_at(count);
@@ -53,15 +35,14 @@ impl Read for Pieces<'_> {
     }
 }
 
-/// Takes at most so many bytes at a time, until it is full: then it fails, or takes nothing, once, and takes all that is written
-/// after that. `found_none` says that it found no memory.
+/// Takes at most so many bytes at a time, until it is full: then it fails, or takes nothing. `found_none` says that it found
+/// no memory.
 #[derive(Drop)]
 pub(crate) struct Page {
     pub bytes: Vec<u8>,
     pub size: usize,
     pub room: usize,
     pub takes_nothing: bool,
-    pub has_failed: bool,
     pub found_none: bool,
 }
 
@@ -73,43 +54,25 @@ impl Page {
             size: usize::MAX,
             room: usize::MAX,
             takes_nothing: false,
-            has_failed: false,
             found_none: false,
         }
     }
 }
 
-impl Page {
-    /// How many of so many bytes it takes.
-    fn fitting(&self, count: usize) -> usize
-        ensures { result ≤ count }
-    {
-        if self.has_failed {
-            return count;
-        }
-        count.min(self.size).min(self.room)
-    }
-
-    fn full(&self) -> IoResult<usize> {
-        if self.takes_nothing {
-            return Ok(0);
-        }
-        Err(Error::from(ErrorKind::Other))
-    }
-}
-
 impl Write for Page {
     fn write(&mut self, bytes: &[u8]) -> IoResult<usize> {
-        let count = self.fitting(bytes.len());
+        let count = bytes.len().min(self.size).min(self.room);
+        if count == 0 && self.takes_nothing {
+            return Ok(0);
+        }
         if count == 0 {
-            self.has_failed = true;
-            return self.full();
+            return Err(Error::from(ErrorKind::Other));
         }
         if self.bytes.extend_from_slice(&bytes[..count]).is_err() {
             self.found_none = true;
             return Err(Error::from(ErrorKind::OutOfMemory));
         }
-        self.room = self.room.saturating_sub(count);
+        self.room -= count;
         Ok(count)
     }
 
