@@ -1,7 +1,6 @@
 -- What calls do to the top frame and to the top thread, by the rules.
 use Rattle.std.proofs.Common.{◌≡◌, ◌∙◌, ◌<◌, ◌≤◌, ◌+◌, ℕ, List, [], ◌∷◌, ◌++◌, false, true, inl, Option, None, Some, Result, IfOk, OnErr, OnOk, Err, Ok, ap, arith, length, nat_lt, refl, reverse, subst, sym}
-use Rattle.std.specs.Result.{IsErrAnd}
-use Rattle.ink_stack.proofs.Common.{nat_tests, reverse-append, IfOk-weaker, on_err_weaker, on_ok_weaker, FrameOf, ThreadOf, ThreadsOf, name_order, row, Fault, FrameKind, MAX_THREADS, Value, temp_back, with_frame, Changes, Grows}
+use Rattle.ink_stack.proofs.Common.{nat_tests, reverse-append, IfOk-weaker, on_err_weaker, on_ok_weaker, FrameOf, ThreadOf, ThreadsOf, name_order, row, FrameKind, MAX_THREADS, Value, temp_back, with_frame, Changes, Grows}
 use Rattle.ink_model.specs.Flow.Threads.{back_to, doubled, dropped, dropped_to, frame_count, frame_popped, same_kind, temp_in, thread_count, with_row_in, with_temp}
 use Rattle.ink_model.specs.declared.fault.Fault.TheVariants.{OutOfMemory, TooDeep}
 use Rattle.ink_stack.proofs.Framing.{framed_top}
@@ -29,9 +28,8 @@ module _ {P : Type 0} where
   pub doubled_full : (ts : ThreadsOf P) → MAX_THREADS ≤ thread_count ts → Grows {U = Unit} (doubled ts) ts ts (Err TooDeep)
   doubled_full ts full = rw (no_fewer (thread_count ts) MAX_THREADS full) (inl refl, refl)
 
-  pub doubled_refused : (ts : ThreadsOf P) (r : Result (Unit {0}) Fault) → thread_count ts < MAX_THREADS → IsErrAnd r (λ f. f ≡ OutOfMemory) → Grows (doubled ts) ts ts r
-  doubled_refused ts (Err f) few lacks = rw (fewer (thread_count ts) MAX_THREADS few) ((lacks, refl), refl)
-  doubled_refused ts (Ok u) few lacks = absurd lacks
+  pub doubled_refused : (ts : ThreadsOf P) → thread_count ts < MAX_THREADS → Grows {U = Unit} (doubled ts) ts ts (Err OutOfMemory)
+  doubled_refused ts few = rw (fewer (thread_count ts) MAX_THREADS few) ((refl, refl), refl)
 
   pub doubled_done : (t copy : ThreadOf P) (below new : List (ThreadOf P)) (u : Unit {0}) → thread_count (record { thread = t; below = reverse below }) < MAX_THREADS → new ≡ below ++ copy ∷ [] → copy ≡ t
       → Grows (doubled (record { thread = t; below = reverse below })) (record { thread = t; below = reverse below }) (record { thread = t; below = reverse new }) (Ok u)

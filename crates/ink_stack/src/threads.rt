@@ -654,8 +654,12 @@ fn push_copy<P: Copy>(
     if below.len() >= MAX_THREADS - 1 {
         return Err(Fault::TooDeep);
     }
-    below.reserve(1)?;
-    let copy = running.clone_over(alloc, spare)?;
+    let Ok(_) = below.reserve(1) else {
+        return Err(Fault::OutOfMemory);
+    };
+    let Ok(copy) = running.clone_over(alloc, spare) else {
+        return Err(Fault::OutOfMemory);
+    };
     below.push_reserved(Thread { running: copy });
     Ok(())
 }

@@ -8,21 +8,14 @@ returns-then-len-clause-threads g c =
     let items = c.args.below.now.items in
     doubled_full (threads_in c.args.running.now items) (omega (arith, length-reverse items, c.args.below.now.ok.0))
 
-pub returns-in_err-reserve-clause-threads : goal.returns-in_err-reserve-clause-threads
-returns-in_err-reserve-clause-threads g c =
+pub returns-in_default-clause-threads : goal.returns-in_default-clause-threads
+returns-in_default-clause-threads g c =
     let items = c.args.below.now.items in
-    let refused = c.from_residual in
-    rw c.reserve.ensures.items (doubled_refused (threads_in c.args.running.now items) refused.result (omega (arith, length-reverse items, c.args.below.now.ok.0)) refused.ensures.1)
-
-pub returns-in_err-copy-clause-threads : goal.returns-in_err-copy-clause-threads
-returns-in_err-copy-clause-threads g c =
-    let items = c.args.below.now.items in
-    let refused = c.from_residual-in_err-copy in
-    rw c.reserve.ensures.items (doubled_refused (threads_in c.args.running.now items) refused.result (omega (arith, length-reverse items, c.args.below.now.ok.0)) refused.ensures.1)
+    rw c.reserve.ensures.items (doubled_refused (threads_in c.args.running.now items) (omega (arith, length-reverse items, c.args.below.now.ok.0)))
 
 pub returns-clause-threads : goal.returns-clause-threads
 returns-clause-threads g c =
     let items = c.args.below.now.items in
-    let copy = c.in_ok-copy.copy.thread in
+    let copy = c.in-Ok-clone_over.copy.thread in
     let more = c.push_reserved.ensures.items ∙ ap (λ ts. ts ++ copy ∷ []) c.reserve.ensures.items in
-    doubled_done c.args.running.now.thread copy items c.push_reserved.new.self.items tt (omega (arith, length-reverse items, c.args.below.now.ok.0)) more c.in_ok-copy.ensures.copy
+    doubled_done c.args.running.now.thread copy items c.push_reserved.new.self.items tt (omega (arith, length-reverse items, c.args.below.now.ok.0)) more c.in-Ok-clone_over.ensures.copy
