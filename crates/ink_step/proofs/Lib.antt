@@ -16,3 +16,4 @@ pub mod Makes
 pub mod Finished
 pub mod Backs
 pub mod Marked
+pub mod Owned

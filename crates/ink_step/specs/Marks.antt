@@ -1,5 +1,5 @@
 -- What a mark keeps of a machine: each part of its configuration as it stood there, none where no mark stands.
-use Rattle.std.specs.Prelude.{ℕ, ◌+◌, ◌-◌, ◌*◌, ◌^◌, min, List, length, map, Bool, false, ◌&&◌, ◌||◌, Option, None, Some, is_some, option_and_then, unwrap_or}
+use Rattle.std.specs.Prelude.{◌≡◌, ◌≤◌, ℕ, ◌+◌, ◌-◌, ◌*◌, ◌^◌, min, List, ◌++◌, length, map, Bool, false, ◌&&◌, ◌||◌, Option, None, Some, is_some, option_and_then, unwrap_or}
 use Rattle.ink_choice.specs.Undo.{choices_spare, choices_stood}
 pub use Rattle.ink_effects.specs.Marks.{lacks, takes_value}
 use Rattle.ink_model.specs.Choices.Making.{only_invisible}
@@ -49,6 +49,14 @@ own_stood trail turn safe = stood_at own_back trail (record { turn = turn; safe 
 -- how many changes of them can still be noted without memory
 unfoldable pub own_spare : TrailView OwnPair → ℕ
 own_spare trail = spare trail
+
+-- So many of their pairs are noted at the most, behind those that were, and counted, one each or more.
+pub record NotesOwn (n : ℕ) (old new : TrailView OwnPair) : Type 0 where
+  pub pairs : List OwnPair
+  pub trail : trail_of new.undo ≡ pairs ++ trail_of old.undo
+  pub few : length pairs ≤ n
+  pub most : writes_of new.undo ≤ writes_of old.undo + n
+  pub least : min (writes_of old.undo + length pairs) (2 ^ 64 - 1) ≤ writes_of new.undo
 
 -- ---- all parts
 

@@ -35,6 +35,7 @@ impl Machine {
             StepEnds (pressed s self.new || default_asks s choice c) (stopped_by s choice c) self.old.shared.globals.rows (config_of s self.new) result }
         ensures globals { self.new.shared.globals.rows ≡ self.old.shared.globals.rows }
         ensures start { start_of self.new ≡ start_of self.old }
+        ensures own { self.new.trail ≡ self.old.trail }
         ensures aside { aside_in self.new ≡ aside_in self.old }
         ensures mark { stood_of self.new ≡ stood_of self.old }
     {

@@ -1,7 +1,7 @@
 //! The machine's own fields, and what they were at the mark.
 
 ghost use Rattle.std.specs.Prelude.{◌≡◌, ◌≤◌, ◌+◌, true, length, None, Some, unwrap_or, IfErr, OnErr, OnOk};
-ghost use Rattle.ink_step.specs.Marks.{own_back, own_lacks, own_of, own_spare, own_stood, stood_of};
+ghost use Rattle.ink_step.specs.Marks.{NotesOwn, own_back, own_lacks, own_of, own_spare, own_stood, stood_of};
 ghost use Rattle.ink_trail.specs.Undo.{KeepsTrail, Trails, trail_of, writes_of};
 
 use crate::machine::Machine;
@@ -21,6 +21,7 @@ impl Machine {
     pub(crate) fn change_safe(&mut self, safe: bool) -> Result<(), Fault>
         ensures same { self.new ≡ record self.old { trail = self.new.trail; flow = record self.old.flow { safe = self.new.flow.safe } } }
         ensures safe { OnOk result (self.new.flow.safe ≡ safe) }
+        ensures own { NotesOwn 1 self.old.trail self.new.trail }
         ensures mark { stood_of self.new ≡ stood_of self.old }
         ensures fault { IfErr result (λ f. f ≡ Fault.OutOfMemory) }
         ensures memory { OnErr result (own_lacks 2 self.new ≡ true) }

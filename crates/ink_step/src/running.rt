@@ -7,7 +7,8 @@ ghost use Rattle.ink_host.specs.Telling.{log_of};
 ghost use Rattle.ink_model.specs.Host.Events.{Made, calls};
 ghost use Rattle.ink_model.specs.Story.Tree.{StoryTree};
 ghost use Rattle.ink_model.specs.Protocol.Turns.{open_choices};
-ghost use Rattle.ink_step.specs.Marks.{keeps_mark, pressed, stood_of};
+ghost use Rattle.ink_step.specs.Marks.{NotesOwn, keeps_mark, pressed, stood_of};
+ghost use Rattle.ink_model.specs.declared.limits.TheConstants.{MAX_STEPS};
 ghost use Rattle.ink_effects.specs.Refusals.{RunStopsAtRefusal};
 ghost use Rattle.ink_step.specs.Runs.{AreBound, RunsToStop};
 
@@ -34,6 +35,7 @@ impl Machine {
         ensures refusals { RunStopsAtRefusal T.refusals desk.old desk.new result }
         ensures watchers { desk.new.watchers ≡ desk.old.watchers }
         ensures start { start_of self.new ≡ start_of self.old }
+        ensures own { NotesOwn MAX_STEPS self.old.trail self.new.trail }
         ensures aside { aside_in self.new ≡ aside_in self.old }
         ensures mark { stood_of self.new ≡ stood_of self.old }
     {

@@ -27,7 +27,7 @@ ghost use Rattle.ink_model.specs.declared.limits.TheConstants.{MAX_FRAMES};
 ghost use Rattle.ink_model.specs.declared.scope.Scope.TheVariants as scope;
 ghost use Rattle.ink_stack.specs.Calls.{frame_kind};
 ghost use Rattle.ink_step.specs.Stores.{StoresAtOnce};
-ghost use Rattle.ink_step.specs.Marks.{keeps_mark, pressed, presses, stack_lacks, stood_of, takes_there, threads_lack};
+ghost use Rattle.ink_step.specs.Marks.{NotesOwn, keeps_mark, pressed, presses, stack_lacks, stood_of, takes_there, threads_lack};
 ghost use Rattle.ink_step.specs.Finishes.{Finishes};
 ghost use Rattle.ink_effects.specs.Performs.{AsksToStore, KeepsThreads, KeepsChoices, Performs, landing_of, leading, storing_in, unstored};
 ghost use Rattle.ink_effects.specs.External.{call_of};
@@ -78,6 +78,7 @@ impl Machine {
         ensures machine { result ≡ Ok WantsCall → self.new ≡ self.old }
         ensures desk { result ≡ Ok WantsCall → desk.new ≡ desk.old }
         ensures start { start_of self.new ≡ start_of self.old }
+        ensures own { NotesOwn 1 self.old.trail self.new.trail }
         ensures aside { aside_in self.new ≡ aside_in self.old }
         ensures mark { stood_of self.new ≡ stood_of self.old }
     {
@@ -102,6 +103,7 @@ impl Machine {
         ensures refusals { StepStopsAtRefusal T.refusals desk.old desk.new result }
         ensures watchers { desk.new.watchers ≡ desk.old.watchers }
         ensures start { start_of self.new ≡ start_of self.old }
+        ensures own { NotesOwn 1 self.old.trail self.new.trail }
         ensures aside { aside_in self.new ≡ aside_in self.old }
         ensures mark { stood_of self.new ≡ stood_of self.old }
     {
@@ -128,6 +130,7 @@ impl Machine {
         ensures machine { result ≡ Ok WantsCall → self.new ≡ self.old }
         ensures desk { result ≡ Ok WantsCall → desk.new ≡ desk.old }
         ensures start { start_of self.new ≡ start_of self.old }
+        ensures own { NotesOwn 1 self.old.trail self.new.trail }
         ensures aside { aside_in self.new ≡ aside_in self.old }
         ensures mark { stood_of self.new ≡ stood_of self.old }
     {
@@ -154,6 +157,7 @@ impl Machine {
         ensures refusals { StepStopsAtRefusal T.refusals desk.old desk.new result }
         ensures watchers { desk.new.watchers ≡ desk.old.watchers }
         ensures start { start_of self.new ≡ start_of self.old }
+        ensures own { NotesOwn 1 self.old.trail self.new.trail }
         ensures aside { aside_in self.new ≡ aside_in self.old }
         ensures mark { stood_of self.new ≡ stood_of self.old }
     {
@@ -172,6 +176,7 @@ impl Machine {
         requires plain { is_some (call_at (Some (leaf content.now))) ≡ false }
         ensures ends { (b : Bound) → let s = story_tree story.now in let c = config_of s self.old in EndsPlainly (presses s self.old self.new || asks s b c) (step s b c) self.old.shared.globals.rows (config_of s self.new) result }
         ensures start { start_of self.new ≡ start_of self.old }
+        ensures own { NotesOwn 1 self.old.trail self.new.trail }
         ensures aside { aside_in self.new ≡ aside_in self.old }
         ensures mark { stood_of self.new ≡ stood_of self.old }
     {
@@ -214,6 +219,7 @@ impl Machine {
         ensures refusals { StepStopsAtRefusal T.refusals desk.old desk.new result }
         ensures watchers { desk.new.watchers ≡ desk.old.watchers }
         ensures start { start_of self.new ≡ start_of self.old }
+        ensures own { NotesOwn 1 self.old.trail self.new.trail }
         ensures aside { aside_in self.new ≡ aside_in self.old }
         ensures mark { stood_of self.new ≡ stood_of self.old }
     {
@@ -231,6 +237,7 @@ impl Machine {
             let e = effect s p stands (context_of c) (fields_of c) in
             StepEnds (((takes_there stands && keeps_mark (stood_of self.old)) || pressed s self.new) || acting_asks s (content_asks s p stands (context_of c) (fields_of c)) e c) (acted s e c) self.old.shared.globals.rows (config_of s self.new) result }
         ensures start { start_of self.new ≡ start_of self.old }
+        ensures own { NotesOwn 1 self.old.trail self.new.trail }
         ensures aside { aside_in self.new ≡ aside_in self.old }
         ensures mark { stood_of self.new ≡ stood_of self.old }
     {
@@ -254,6 +261,7 @@ impl Machine {
             let e = effect s p stands (context_of c) (fields_of c) in
             StepEnds (((takes_there stands && keeps_mark (stood_of self.old)) || pressed s self.new) || acting_asks s (content_asks s p stands (context_of c) (fields_of c)) e c) (acted s e c) self.old.shared.globals.rows (config_of s self.new) result }
         ensures start { start_of self.new ≡ start_of self.old }
+        ensures own { NotesOwn 1 self.old.trail self.new.trail }
         ensures aside { aside_in self.new ≡ aside_in self.old }
         ensures mark { stood_of self.new ≡ stood_of self.old }
     {
@@ -282,6 +290,7 @@ impl Machine {
             let e = effect s p stands (context_of c) (fields_of c) in
             StepEnds (((takes_there stands && keeps_mark (stood_of self.old)) || pressed s self.new) || acting_asks s (content_asks s p stands (context_of c) (fields_of c)) e c) (acted s e c) self.old.shared.globals.rows (config_of s self.new) result }
         ensures start { start_of self.new ≡ start_of self.old }
+        ensures own { NotesOwn 1 self.old.trail self.new.trail }
         ensures aside { aside_in self.new ≡ aside_in self.old }
         ensures mark { stood_of self.new ≡ stood_of self.old }
     {
@@ -301,6 +310,7 @@ impl Machine {
             let e = effect s p stands (context_of c) (fields_of c) in
             StepEnds (((takes_there stands && keeps_mark (stood_of self.old)) || pressed s self.new) || acting_asks s (content_asks s p stands (context_of c) (fields_of c)) e c) (acted s e c) self.old.shared.globals.rows (config_of s self.new) result }
         ensures start { start_of self.new ≡ start_of self.old }
+        ensures own { NotesOwn 1 self.old.trail self.new.trail }
         ensures aside { aside_in self.new ≡ aside_in self.old }
         ensures mark { stood_of self.new ≡ stood_of self.old }
     {
@@ -347,6 +357,7 @@ impl Machine {
         ensures declared { (asks : Bool) → (keeps_mark (stood_of self.old) ≡ true → asks ≡ true) → let s = story_tree story.now in let c = config_of s self.old in
             StepEnds asks (acted s (effects.declare scope.Global name.now (context_of c) (fields_of c)) c) self.old.shared.globals.rows (config_of s self.new) result }
         ensures start { start_of self.new ≡ start_of self.old }
+        ensures own { self.new.trail ≡ self.old.trail }
         ensures aside { aside_in self.new ≡ aside_in self.old }
         ensures mark { stood_of self.new ≡ stood_of self.old }
     {
@@ -377,6 +388,7 @@ impl Machine {
         ensures declared { (asks : Bool) → (keeps_mark (stood_of self.old) ≡ true → asks ≡ true) → let s = story_tree story.now in let c = config_of s self.old in
             StepEnds asks (acted s (effects.declare scope.Global name.now (context_of c) (fields_of c)) c) self.old.shared.globals.rows (config_of s self.new) result }
         ensures start { start_of self.new ≡ start_of self.old }
+        ensures own { self.new.trail ≡ self.old.trail }
         ensures aside { aside_in self.new ≡ aside_in self.old }
         ensures mark { stood_of self.new ≡ stood_of self.old }
     {
@@ -409,6 +421,7 @@ impl Machine {
             StepEnds (moved_asks (next_place s) c.flow.threads (written_in c)) (going (moved_on (next_place s)) c) self.old.shared.globals.rows (config_of s self.new) (Ok Went) }
         ensures globals { self.new.shared.globals.rows ≡ self.old.shared.globals.rows }
         ensures start { start_of self.new ≡ start_of self.old }
+        ensures own { self.new.trail ≡ self.old.trail }
         ensures aside { aside_in self.new ≡ aside_in self.old }
         ensures mark { stood_of self.new ≡ stood_of self.old }
     {
@@ -422,6 +435,7 @@ impl Machine {
         requires room { MOVING + 4 ≤ threads_spare self.old.flow.threads }
         ensures ends { Finishes (story_tree story.now) self.old transfer.old self.new result }
         ensures start { start_of self.new ≡ start_of self.old }
+        ensures own { NotesOwn 1 self.old.trail self.new.trail }
         ensures aside { aside_in self.new ≡ aside_in self.old }
         ensures mark { stood_of self.new ≡ stood_of self.old }
     {
@@ -444,6 +458,7 @@ impl Machine {
         requires room { MOVING + 4 ≤ threads_spare self.old.flow.threads }
         ensures ends { Finishes (story_tree story.now) self.old Transfer.Wrote self.new result }
         ensures start { start_of self.new ≡ start_of self.old }
+        ensures own { NotesOwn 1 self.old.trail self.new.trail }
         ensures aside { aside_in self.new ≡ aside_in self.old }
         ensures mark { stood_of self.new ≡ stood_of self.old }
     {
@@ -457,6 +472,7 @@ impl Machine {
         requires room { MOVING + 4 ≤ threads_spare self.old.flow.threads }
         ensures ends { Finishes (story_tree story.now) self.old (Transfer.Land to.now) self.new result }
         ensures start { start_of self.new ≡ start_of self.old }
+        ensures own { NotesOwn 1 self.old.trail self.new.trail }
         ensures aside { aside_in self.new ≡ aside_in self.old }
         ensures mark { stood_of self.new ≡ stood_of self.old }
     {
@@ -475,6 +491,7 @@ impl Machine {
         requires room { MOVING + 4 ≤ threads_spare self.old.flow.threads }
         ensures ends { Finishes (story_tree story.now) self.old transfer.old self.new result }
         ensures start { start_of self.new ≡ start_of self.old }
+        ensures own { NotesOwn 1 self.old.trail self.new.trail }
         ensures aside { aside_in self.new ≡ aside_in self.old }
         ensures mark { stood_of self.new ≡ stood_of self.old }
     {
@@ -490,6 +507,7 @@ impl Machine {
         requires room { MOVING + 4 ≤ threads_spare self.old.flow.threads }
         ensures ends { Finishes (story_tree story.now) self.old (Transfer.Call kind to.now) self.new result }
         ensures start { start_of self.new ≡ start_of self.old }
+        ensures own { NotesOwn 1 self.old.trail self.new.trail }
         ensures aside { aside_in self.new ≡ aside_in self.old }
         ensures mark { stood_of self.new ≡ stood_of self.old }
     {
@@ -508,6 +526,7 @@ impl Machine {
         requires room { MOVING + 4 ≤ threads_spare self.old.flow.threads }
         ensures ends { Finishes (story_tree story.now) self.old (Transfer.Return kind to) self.new result }
         ensures start { start_of self.new ≡ start_of self.old }
+        ensures own { NotesOwn 1 self.old.trail self.new.trail }
         ensures aside { aside_in self.new ≡ aside_in self.old }
         ensures mark { stood_of self.new ≡ stood_of self.old }
     {
@@ -521,6 +540,7 @@ impl Machine {
         requires room { MOVING + 4 ≤ threads_spare self.old.flow.threads }
         ensures ends { Finishes (story_tree story.now) self.old Transfer.Next self.new result }
         ensures start { start_of self.new ≡ start_of self.old }
+        ensures own { NotesOwn 1 self.old.trail self.new.trail }
         ensures aside { aside_in self.new ≡ aside_in self.old }
         ensures mark { stood_of self.new ≡ stood_of self.old }
     {
@@ -534,6 +554,7 @@ impl Machine {
         requires room { MOVING + 4 ≤ threads_spare self.old.flow.threads }
         ensures ends { Finishes (story_tree story.now) self.old Transfer.Fork self.new result }
         ensures start { start_of self.new ≡ start_of self.old }
+        ensures own { NotesOwn 1 self.old.trail self.new.trail }
         ensures aside { aside_in self.new ≡ aside_in self.old }
         ensures mark { stood_of self.new ≡ stood_of self.old }
     {
@@ -547,6 +568,7 @@ impl Machine {
         requires room { MOVING + 4 ≤ threads_spare self.old.flow.threads }
         ensures ends { Finishes (story_tree story.now) self.old Transfer.Done self.new result }
         ensures start { start_of self.new ≡ start_of self.old }
+        ensures own { NotesOwn 1 self.old.trail self.new.trail }
         ensures aside { aside_in self.new ≡ aside_in self.old }
         ensures mark { stood_of self.new ≡ stood_of self.old }
     {
@@ -560,6 +582,7 @@ impl Machine {
         requires room { MOVING + 4 ≤ threads_spare self.old.flow.threads }
         ensures ends { Finishes (story_tree story.now) self.old transfer.old self.new result }
         ensures start { start_of self.new ≡ start_of self.old }
+        ensures own { NotesOwn 1 self.old.trail self.new.trail }
         ensures aside { aside_in self.new ≡ aside_in self.old }
         ensures mark { stood_of self.new ≡ stood_of self.old }
     {
@@ -571,6 +594,7 @@ impl Machine {
         requires room { MOVING + 4 ≤ threads_spare self.old.flow.threads }
         ensures ends { Finishes (story_tree story.now) self.old transfer.old self.new result }
         ensures start { start_of self.new ≡ start_of self.old }
+        ensures own { NotesOwn 1 self.old.trail self.new.trail }
         ensures aside { aside_in self.new ≡ aside_in self.old }
         ensures mark { stood_of self.new ≡ stood_of self.old }
     {
@@ -587,6 +611,7 @@ impl Machine {
             StepEnds (pressed s self.new || ((asks || move_asks s e (config_of s self.old)) || following_asks s o)) (following s o) self.old.shared.globals.rows (config_of s self.new) result }
         ensures globals { self.new.shared.globals.rows ≡ self.old.shared.globals.rows }
         ensures start { start_of self.new ≡ start_of self.old }
+        ensures own { NotesOwn 1 self.old.trail self.new.trail }
         ensures aside { aside_in self.new ≡ aside_in self.old }
         ensures mark { stood_of self.new ≡ stood_of self.old }
     {
@@ -603,6 +628,7 @@ impl Machine {
     #[inline(always)]
     fn store(&mut self, transfer: &mut Transfer<'_>, end: StepEnd) -> Result<StepEnd, Fault>
         ensures start { start_of self.new ≡ start_of self.old }
+        ensures own { self.new.trail ≡ self.old.trail }
         ensures aside { aside_in self.new ≡ aside_in self.old }
         ensures stored { (s : StoryTree) (asks whole : Bool) (e : Effect) (f : Fields) (o : Outcome) → (asks ≡ true → whole ≡ true) → f.globals ≡ self.old.shared.globals.rows → Performs s asks e f (Ok transfer.old)
             → (is_some (globals_stood self.old.shared.globals) ≡ true → AsksToStore e asks) → StepEnds whole o self.old.shared.globals.rows (config_of s self.old) (Ok end) → StepEnds whole (storing_in e o) self.old.shared.globals.rows (config_of s self.new) result }
@@ -643,6 +669,7 @@ impl Machine {
         ensures safe { self.new.flow.safe ≡ self.old.flow.safe }
         ensures globals { self.new.shared.globals.rows ≡ self.old.shared.globals.rows }
         ensures start { start_of self.new ≡ start_of self.old }
+        ensures own { self.new.trail ≡ self.old.trail }
         ensures aside { aside_in self.new ≡ aside_in self.old }
         ensures mark { stood_of self.new ≡ stood_of self.old }
         ensures spare { threads_spare self.old.flow.threads ≤ threads_spare self.new.flow.threads + 1 }
@@ -671,6 +698,7 @@ impl Machine {
             → StepEnds (pressed s self.new || (asks || move_asks s e (config_of s self.old))) (moved s (unstored self.old.shared.globals.rows e) (config_of s self.old)) self.old.shared.globals.rows (config_of s self.new) result }
         ensures globals { self.new.shared.globals.rows ≡ self.old.shared.globals.rows }
         ensures start { start_of self.new ≡ start_of self.old }
+        ensures own { NotesOwn 1 self.old.trail self.new.trail }
         ensures aside { aside_in self.new ≡ aside_in self.old }
         ensures mark { stood_of self.new ≡ stood_of self.old }
         ensures enough { OnOk result (2 ≤ threads_spare self.new.flow.threads) }
@@ -753,6 +781,7 @@ impl Machine {
             StepEnds (pressed s self.new || landed_asks s to.enters c.shared.counts (how c.flow.threads (written_in c))) (landing_outcome s to.enters how c) self.old.shared.globals.rows (config_of s self.new) result }
         ensures globals { self.new.shared.globals.rows ≡ self.old.shared.globals.rows }
         ensures start { start_of self.new ≡ start_of self.old }
+        ensures own { self.new.trail ≡ self.old.trail }
         ensures aside { aside_in self.new ≡ aside_in self.old }
         ensures mark { stood_of self.new ≡ stood_of self.old }
         ensures spare { threads_spare self.old.flow.threads ≤ threads_spare self.new.flow.threads + 2 }
@@ -771,6 +800,7 @@ impl Machine {
             (landing_outcome s to.enters how c) self.old.shared.globals.rows (config_of s self.new) result }
         ensures globals { self.new.shared.globals.rows ≡ self.old.shared.globals.rows }
         ensures start { start_of self.new ≡ start_of self.old }
+        ensures own { self.new.trail ≡ self.old.trail }
         ensures aside { aside_in self.new ≡ aside_in self.old }
         ensures mark { stood_of self.new ≡ stood_of self.old }
         ensures spare { threads_spare self.old.flow.threads ≤ threads_spare self.new.flow.threads + 4 }
@@ -794,6 +824,7 @@ impl Machine {
             (landing_outcome s (may_enter goal) how c) self.old.shared.globals.rows (config_of s self.new) result }
         ensures globals { self.new.shared.globals.rows ≡ self.old.shared.globals.rows }
         ensures start { start_of self.new ≡ start_of self.old }
+        ensures own { self.new.trail ≡ self.old.trail }
         ensures aside { aside_in self.new ≡ aside_in self.old }
         ensures mark { stood_of self.new ≡ stood_of self.old }
         ensures enough { 5 ≤ threads_spare self.new.flow.threads }
@@ -818,6 +849,7 @@ impl Machine {
             StepEnds (moved_asks (next_place s) c.flow.threads (written_in c)) (going (moved_on (next_place s)) c) self.old.shared.globals.rows (config_of s self.new) result }
         ensures globals { self.new.shared.globals.rows ≡ self.old.shared.globals.rows }
         ensures start { start_of self.new ≡ start_of self.old }
+        ensures own { self.new.trail ≡ self.old.trail }
         ensures aside { aside_in self.new ≡ aside_in self.old }
         ensures mark { stood_of self.new ≡ stood_of self.old }
         ensures enough { 6 ≤ threads_spare self.new.flow.threads }

@@ -50,6 +50,7 @@ impl Machine {
         ensures memory { let s = story_tree tree.now in OnErr result ((counts_lack 2 self.new || going_in_asks s (place_of s place) (config_of s self.old)) ≡ true) }
         ensures globals { self.new.shared.globals.rows ≡ self.old.shared.globals.rows }
         ensures start { start_of self.new ≡ start_of self.old }
+        ensures own { self.new.trail ≡ self.old.trail }
         ensures aside { aside_in self.new ≡ aside_in self.old }
         ensures stack { self.new.flow.stack ≡ self.old.flow.stack }
         ensures mark { stood_of self.new ≡ stood_of self.old }
@@ -76,6 +77,7 @@ impl Machine {
         ensures kept { let s = story_tree tree.now in OnErr result (config_of s self.new ≡ config_of s self.old) }
         ensures globals { self.new.shared.globals.rows ≡ self.old.shared.globals.rows }
         ensures start { start_of self.new ≡ start_of self.old }
+        ensures own { self.new.trail ≡ self.old.trail }
         ensures aside { aside_in self.new ≡ aside_in self.old }
         ensures mark { stood_of self.new ≡ stood_of self.old }
         ensures spare { threads_spare self.old.flow.threads ≤ threads_spare self.new.flow.threads + 0 }

@@ -6,6 +6,7 @@ use Rattle.ink_step.proofs.Finished.{finished}
 use Rattle.ink_step.proofs.Follows.{ends_any, ends_unperformed, ends_where, or_apart, or_where, or_whole}
 use Rattle.ink_step.proofs.Storing.{performs_marked, stores_marked}
 use Rattle.ink_step.proofs.Stopping.{broke}
+use Rattle.ink_step.proofs.Owned.{own_before, own_same}
 use Rattle.ink_step.proofs.machine.Machine.act.Goals as goal
 
 pub returns-in_err-perform-clause-ends : goal.returns-in_err-perform-clause-ends
@@ -82,3 +83,14 @@ returns-clause-mark c = c.go_to_next.ensures.mark ∙ c.perform.ensures.mark
 
 pub returns-in_default-clause-mark : goal.returns-in_default-clause-mark
 returns-in_default-clause-mark c = c.finish.ensures.mark ∙ c.perform.ensures.mark
+
+-- ---- the own fields
+
+pub returns-in_err-perform-clause-own : goal.returns-in_err-perform-clause-own
+returns-in_err-perform-clause-own c = own_same 1 _ _ c.perform.ensures.own
+
+pub returns-clause-own : goal.returns-clause-own
+returns-clause-own c = own_same 1 _ _ (c.go_to_next.ensures.own ∙ c.perform.ensures.own)
+
+pub returns-in_default-clause-own : goal.returns-in_default-clause-own
+returns-in_default-clause-own c = own_before c.perform.ensures.own c.finish.ensures.own

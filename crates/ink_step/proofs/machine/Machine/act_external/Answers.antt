@@ -6,6 +6,7 @@ use Rattle.ink_model.specs.Run.Step.Host.{call_external}
 use Rattle.ink_step.proofs.Makes.{external_call, makes_broken, makes_ended}
 use Rattle.ink_effects.proofs.Plain.{keeps_plain, offers_plain, stores_plain}
 use Rattle.ink_effects.specs.Refusals.{StepStopsAtRefusal}
+use Rattle.ink_step.proofs.Owned.{own_same}
 use Rattle.ink_step.proofs.machine.Machine.act_external.Goals as goal
 
 pub returns-in_err-transfer-clause-step : goal.returns-in_err-transfer-clause-step
@@ -57,3 +58,8 @@ returns-clause-refusals g c = stops_kept g.T.TurnFn.refusals c.args.desk.now c.c
 
 pub returns-clause-mark : goal.returns-clause-mark
 returns-clause-mark g c = c.finish.ensures.mark ∙ ap (λ o. record (stood_of c.args.self.now) { stack = o }) c.in_ok-transfer.ensures.mark
+
+-- ---- the own fields
+
+pub returns-in_err-transfer-clause-own : goal.returns-in_err-transfer-clause-own
+returns-in_err-transfer-clause-own g c = own_same 1 _ _ refl

@@ -1,5 +1,6 @@
 use Rattle.std.proofs.Common.{◌≡◌, ◌⊎◌, ◌||◌, ◌&&◌, Some, inl, inr, sym, subst}
 use Rattle.ink_step.proofs.Common.{story_tree, acting_asks, content_asks, context_of, fields_of, acted, effect, leaf, keeps_mark, pressed, stood_of, takes_there, StepEnds, config_of, or_first, place_of}
+use Rattle.ink_step.proofs.Owned.{own_same}
 use Rattle.ink_step.proofs.machine.Machine.act_storing.Goals as goal
 
 -- what holds of both holds of what is one of them
@@ -17,3 +18,8 @@ returns-in-Some-clause-ends c =
     of_both (λ l. let there = Some (leaf l) in let e = effect s p there (context_of before) (fields_of before) in
     StepEnds (((takes_there there && keeps_mark (stood_of old)) || pressed s new) || acting_asks s (content_asks s p there (context_of before) (fields_of before)) e before) (acted s e before) old.shared.globals.rows (config_of s new) c.store_at_once.result)
     c.args.content.now _ _ c.requires.is (c.store_at_once.ensures.assigned _ (λ marked. or_first _ _ (or_first _ _ marked))) (c.store_at_once.ensures.declared _ (λ marked. or_first _ _ (or_first _ _ marked)))
+
+-- ---- the own fields
+
+pub returns-in-Some-clause-own : goal.returns-in-Some-clause-own
+returns-in-Some-clause-own c = own_same 1 _ _ c.store_at_once.ensures.own

@@ -2,6 +2,7 @@ use Rattle.std.proofs.Common.{◌≡◌, ◌∙◌, ◌||◌, ap, is_some, rules
 use Rattle.ink_step.proofs.Common.{story_tree, following, following_asks, fields_of, move, move_asks, Stood, pressed, storing_in, unstored, StepEnds, config_of, or_first, or_more}
 use Rattle.ink_step.proofs.Follows.{ends_after, ends_any, kept_stays, offered_stay, or_assoc, or_whole}
 use Rattle.ink_step.proofs.Stopping.{broke_storing, ends_stored}
+use Rattle.ink_step.proofs.Owned.{own_behind}
 use Rattle.ink_step.proofs.machine.Machine.finish_by.Goals as goal
 
 pub returns-in_err-end-clause-ends : goal.returns-in_err-end-clause-ends
@@ -60,3 +61,8 @@ returns-clause-aside c = c.store.ensures.aside ∙ c.go.ensures.aside
 
 pub returns-clause-mark : goal.returns-clause-mark
 returns-clause-mark c = c.store.ensures.mark ∙ c.go.ensures.mark
+
+-- ---- the own fields
+
+pub returns-clause-own : goal.returns-clause-own
+returns-clause-own c = own_behind c.store.ensures.own c.go.ensures.own

@@ -11,6 +11,7 @@ use Rattle.ink_step.proofs.Follows.{ends_more, ends_pressed, ends_reached, goes_
 use Rattle.ink_step.proofs.Landed.{goes_back, goes_into, goes_on, goes_storing, goes_there}
 use Rattle.ink_step.proofs.Marks.{pressed_choices, pressed_fresh, pressed_own}
 use Rattle.ink_model.proofs.Maps.{is_last_map, staled_map}
+use Rattle.ink_step.proofs.Owned.{own_same}
 use Rattle.ink_step.proofs.machine.Machine.follow.Goals as goal
 
 pub returns-in-Next-clause-ends : goal.returns-in-Next-clause-ends
@@ -237,3 +238,29 @@ returns-in_ok-ready_choices-in-End-clause-mark c =
 
 pub returns-in-Fork-clause-mark : goal.returns-in-Fork-clause-mark
 returns-in-Fork-clause-mark c = rw (c.fork.ensures.threads_mark, c.fork.ensures.stack_mark, c.fork.ensures.output_mark) refl
+
+-- ---- the own fields
+
+pub returns-in-Next-clause-own : goal.returns-in-Next-clause-own
+returns-in-Next-clause-own c = own_same 1 _ _ c.go_on.ensures.own
+
+pub returns-in_err-end_freshness-in-Wrote-clause-own : goal.returns-in_err-end_freshness-in-Wrote-clause-own
+returns-in_err-end_freshness-in-Wrote-clause-own c = own_same 1 _ _ (ap (λ (m : Machine). m.trail) c.end_freshness.ensures.same)
+
+pub returns-in_ok-end_freshness-in-Wrote-clause-own : goal.returns-in_ok-end_freshness-in-Wrote-clause-own
+returns-in_ok-end_freshness-in-Wrote-clause-own c = own_same 1 _ _ (c.go_on-in-Wrote.ensures.own ∙ ap (λ (m : Machine). m.trail) c.end_freshness.ensures.same)
+
+pub returns-in-Store-clause-own : goal.returns-in-Store-clause-own
+returns-in-Store-clause-own c = own_same 1 _ _ c.go_on-in-Store.ensures.own
+
+pub returns-in-Land-clause-own : goal.returns-in-Land-clause-own
+returns-in-Land-clause-own c = own_same 1 _ _ c.go_to.ensures.own
+
+pub returns-in-Call-clause-own : goal.returns-in-Call-clause-own
+returns-in-Call-clause-own c = own_same 1 _ _ c.go_into.ensures.own
+
+pub returns-in-Return-clause-own : goal.returns-in-Return-clause-own
+returns-in-Return-clause-own c = own_same 1 _ _ c.go_back.ensures.own
+
+pub returns-in-Fork-clause-own : goal.returns-in-Fork-clause-own
+returns-in-Fork-clause-own c = own_same 1 _ _ refl

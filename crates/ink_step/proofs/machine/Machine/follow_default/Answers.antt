@@ -1,5 +1,5 @@
 use Rattle.std.proofs.Common.{◌≡◌, ◌∙◌, ◌||◌, Err, Ok, Some, ap, is_some, map, refl, rules, subst, sym, true}
-use Rattle.ink_step.proofs.Common.{story_tree, Takes, default_asks, default_choice, stopped_by, map_choice, landing_lacks, pressed, stood_of, StepEnds, config_of, place_of}
+use Rattle.ink_step.proofs.Common.{story_tree, Takes, default_asks, default_choice, stopped_by, map_choice, landing_lacks, pressed, stood_of, StepEnds, config_of, place_of, Machine}
 use Rattle.ink_model.specs.Choices.Making.{only_invisible, choice_gone}
 use Rattle.ink_model.specs.Run.Visits.{entering_around, entering_asks}
 use Rattle.ink_step.proofs.Marks.{pressed_choices, pressed_default, pressed_landing}
@@ -100,3 +100,11 @@ returns-in-Err-clause-mark c =
 
 pub returns-in-None-clause-mark : goal.returns-in-None-clause-mark
 returns-in-None-clause-mark c = ap (λ o. record (stood_of c.args.self.now) { choices = o }) c.in_ok-choice.ensures.stood
+
+-- ---- the own fields
+
+pub returns-in-Ok-clause-own : goal.returns-in-Ok-clause-own
+returns-in-Ok-clause-own c = c.in-Ok.ensures.own ∙ ap (λ (m : Machine). m.trail) c.take_up.ensures.alone
+
+pub returns-in-Err-clause-own : goal.returns-in-Err-clause-own
+returns-in-Err-clause-own c = c.in-Err.ensures.own ∙ ap (λ (m : Machine). m.trail) c.take_up.ensures.alone

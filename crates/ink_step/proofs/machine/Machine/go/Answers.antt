@@ -3,6 +3,7 @@ use Rattle.ink_step.proofs.Common.{story_tree, default_asks, default_choice, fol
 use Rattle.ink_step.proofs.Follows.{ends_any, never_wants, or_assoc}
 use Rattle.ink_step.proofs.Stopping.{broke, stopped_so, went_on}
 use Rattle.ink_moves.specs.declared.flow.StepEnd.TheVariants as ends
+use Rattle.ink_step.proofs.Owned.{own_behind}
 use Rattle.ink_step.proofs.machine.Machine.go.Goals as goal
 
 pub returns-in_err-follow-clause-ends : goal.returns-in_err-follow-clause-ends
@@ -64,3 +65,8 @@ returns-in-Stopped-clause-aside c = c.follow_default.ensures.aside ∙ c.follow.
 
 pub returns-in-Stopped-clause-start : goal.returns-in-Stopped-clause-start
 returns-in-Stopped-clause-start c = c.follow_default.ensures.start ∙ c.follow.ensures.start
+
+-- ---- the own fields
+
+pub returns-in-Stopped-clause-own : goal.returns-in-Stopped-clause-own
+returns-in-Stopped-clause-own c = own_behind c.follow_default.ensures.own c.follow.ensures.own

@@ -3,6 +3,7 @@ use Rattle.ink_step.proofs.Common.{story_tree, acting_asks, asks, content_asks, 
 use Rattle.ink_step.proofs.Finished.{not_external, passed, takes_here}
 use Rattle.ink_step.proofs.Follows.{ends_short, ready_alike}
 use Rattle.ink_step.proofs.Marks.{step_pressed}
+use Rattle.ink_step.proofs.Owned.{own_before, own_same}
 use Rattle.ink_step.proofs.machine.Machine.pass.Goals as goal
 use Rattle.ink_step.proofs.machine.Machine.pass.Goals.{Start}
 
@@ -71,3 +72,11 @@ returns-clause-aside c = c.act_here.ensures.aside ∙ ap aside_in c.make_step_ro
 
 pub returns-clause-mark : goal.returns-clause-mark
 returns-clause-mark c = c.act_here.ensures.mark ∙ c.make_step_room.ensures.mark
+
+-- ---- the own fields
+
+pub returns-in_err-make_step_room-clause-own : goal.returns-in_err-make_step_room-clause-own
+returns-in_err-make_step_room-clause-own c = own_same 1 _ _ (ap (λ (m : Machine). m.trail) c.in_err-make_step_room.ensures.same)
+
+pub returns-clause-own : goal.returns-clause-own
+returns-clause-own c = own_before (ap (λ (m : Machine). m.trail) c.make_step_room.ensures.same) c.act_here.ensures.own

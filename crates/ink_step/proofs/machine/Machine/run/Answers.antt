@@ -1,14 +1,15 @@
-use Rattle.std.proofs.Common.{◌≡◌, ◌∙◌, ap, arith, refl, rules, subst, sym, Err, inl}
+use Rattle.std.proofs.Common.{◌≡◌, ◌∙◌, ◌+◌, ap, arith, refl, rules, subst, sym, Err, inl}
 use Rattle.ink_step.proofs.Common.{log_of, story_tree, keeps_mark, pressed, stood_of, config_of}
 use Rattle.ink_step.proofs.Runnings.{EndsRun, ran_none, ran_on, ran_out, ran_to_fault, ran_to_stop}
 use Rattle.ink_effects.specs.Refusals.{RunStopsAtRefusal}
 use Rattle.ink_effects.proofs.Refusals.{keeps_all, keeps_then, run_stops}
+use Rattle.ink_step.proofs.Owned.{own_fewer, own_more, own_same}
 use Rattle.ink_step.proofs.machine.Machine.run.Goals as goal
 
 pub loop-step-init : goal.loop-step-init
 loop-step-init g c =
     let s = story_tree c.args.story.now in
-    record { ran = ran_none g.T.TurnFn.log (log_of g.W.Watcher.state) g.P.PureFn.meaning s c.args.desk.now (config_of s c.args.self.now); watchers = refl; refusals = keeps_all g.T.TurnFn.refusals c.args.desk.now; start = refl; aside = refl; mark = refl }
+    record { ran = ran_none g.T.TurnFn.log (log_of g.W.Watcher.state) g.P.PureFn.meaning s c.args.desk.now (config_of s c.args.self.now); watchers = refl; refusals = keeps_all g.T.TurnFn.refusals c.args.desk.now; start = refl; own = own_same 0 _ _ refl; aside = refl; mark = refl }
 
 pub loop-step-preserved : goal.loop-step-preserved
 loop-step-preserved g c =
@@ -19,6 +20,7 @@ loop-step-preserved g c =
       watchers = c.in_ok-forward.ensures.watchers ∙ c.loop-step.invariant.watchers;
       refusals = keeps_then g.T.TurnFn.refusals c.args.desk.now c.loop-step.desk c.forward.new.desk c.loop-step.invariant.refusals c.in_ok-forward.ensures.refusals;
       start = c.in_ok-forward.ensures.start ∙ c.loop-step.invariant.start;
+      own = own_more c.loop-step.invariant.own c.in_ok-forward.ensures.own;
       aside = c.in_ok-forward.ensures.aside ∙ c.loop-step.invariant.aside;
       mark = c.in_ok-forward.ensures.mark ∙ c.loop-step.invariant.mark;
     }
@@ -83,3 +85,14 @@ returns-clause-refusals g c = inl c.loop-step.invariant.refusals
 
 pub returns-then-not-branch-clause-aside : goal.returns-then-not-branch-clause-aside
 returns-then-not-branch-clause-aside g c = c.in_ok-forward.ensures.aside ∙ c.loop-step.invariant.aside
+
+-- ---- the own fields
+
+pub returns-then-not-branch-clause-own : goal.returns-then-not-branch-clause-own
+returns-then-not-branch-clause-own g c = own_fewer (c.loop-step._step + 1) _ _ _ (omega arith) (own_more c.loop-step.invariant.own c.in_ok-forward.ensures.own)
+
+pub returns-in_err-forward-clause-own : goal.returns-in_err-forward-clause-own
+returns-in_err-forward-clause-own g c = own_fewer (c.loop-step._step + 1) _ _ _ (omega arith) (own_more c.loop-step.invariant.own c.in_err-forward.ensures.own)
+
+pub returns-clause-own : goal.returns-clause-own
+returns-clause-own g c = own_fewer c.loop-step._step _ _ _ (omega arith) c.loop-step.invariant.own

@@ -4,6 +4,7 @@ use Rattle.ink_step.specs.Steps.{Steps}
 use Rattle.ink_moves.specs.declared.flow.StepEnd.TheVariants as ends
 use Rattle.ink_step.proofs.Follows.{stands_still}
 use Rattle.ink_step.proofs.Makes.{plainly_never, steps_plainly}
+use Rattle.ink_step.proofs.Owned.{own_same}
 use Rattle.ink_step.proofs.machine.Machine.step.Goals as goal
 
 pub returns-in_default-clause-step : goal.returns-in_default-clause-step
@@ -51,3 +52,8 @@ returns-in-Some-leaf_at-clause-machine g c is =
 
 pub returns-in-Some-leaf_at-clause-refusals : goal.returns-in-Some-leaf_at-clause-refusals
 returns-in-Some-leaf_at-clause-refusals g c = stops_kept g.T.TurnFn.refusals c.args.desk.now c.args.desk.now c.pass.result (keeps_all g.T.TurnFn.refusals c.args.desk.now)
+
+-- ---- the own fields
+
+pub returns-in_default-clause-own : goal.returns-in_default-clause-own
+returns-in_default-clause-own g c = own_same 1 _ _ refl

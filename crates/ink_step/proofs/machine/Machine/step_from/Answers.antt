@@ -8,6 +8,7 @@ use Rattle.ink_step.proofs.Makes.{found_leaves, makes_more, makes_short, makes_w
 use Rattle.ink_step.proofs.Marks.{pressed_counts, takes_alike, takes_at}
 use Rattle.ink_step.proofs.machine.Machine.step_from.Given as given
 use Rattle.ink_value.specs.Undo.{stack_spare}
+use Rattle.ink_step.proofs.Owned.{own_before, own_same}
 use Rattle.ink_step.proofs.machine.Machine.step_from.Goals as goal
 use Rattle.ink_step.proofs.machine.Machine.step_from.Goals.{In_ok-here}
 
@@ -135,3 +136,14 @@ act_external-requires-clause-stack_room g c = subst (λ k. length k.items + 2 �
 
 pub act-requires-clause-stack_room : goal.act-requires-clause-stack_room
 act-requires-clause-stack_room g c = subst (λ k. length k.items + 2 ≤ stack_spare k) (sym c.go_in.ensures.stack) c.requires.stack_room
+
+-- ---- the own fields
+
+pub returns-in_err-here-clause-own : goal.returns-in_err-here-clause-own
+returns-in_err-here-clause-own g c = own_same 1 _ _ c.go_in.ensures.own
+
+pub returns-in-Some-clause-own : goal.returns-in-Some-clause-own
+returns-in-Some-clause-own g c = own_before c.go_in.ensures.own c.act_external.ensures.own
+
+pub returns-in-None-clause-own : goal.returns-in-None-clause-own
+returns-in-None-clause-own g c = own_before c.go_in.ensures.own c.act.ensures.own

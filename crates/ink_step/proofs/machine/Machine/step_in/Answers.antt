@@ -1,11 +1,12 @@
-use Rattle.std.proofs.Common.{◌≡◌, ◌∙◌, ◌&&◌, ◌||◌, ap, rules, subst, sym, true, false, true≢false, [], Err, Ok}
-use Rattle.ink_step.proofs.Common.{story_tree, grew-none, bound_by, log_of, asks, step, Stood, keeps_mark, pressed, presses, stood_of, takes_first, aside_in, config_of, start_of, or_first, or_more, keeps_all, stops_kept}
+use Rattle.std.proofs.Common.{◌≡◌, ◌∙◌, ◌&&◌, ◌||◌, ap, rules, subst, sym, true, false, true≢false, [], Err, Ok, refl}
+use Rattle.ink_step.proofs.Common.{story_tree, grew-none, bound_by, log_of, asks, step, Stood, keeps_mark, pressed, presses, stood_of, takes_first, aside_in, config_of, start_of, or_first, or_more, keeps_all, stops_kept, Machine}
 use Rattle.ink_step.specs.Steps.{StepMakes, Steps, wants}
 use Rattle.ink_moves.specs.declared.flow.StepEnd.TheVariants as ends
 use Rattle.ink_step.proofs.Follows.{ready_alike}
 use Rattle.ink_step.proofs.Makes.{makes_quietly, makes_said, makes_short, said}
 use Rattle.ink_step.proofs.Marks.{step_pressed}
 use Rattle.ink_step.proofs.machine.Machine.step_in.Given as given
+use Rattle.ink_step.proofs.Owned.{own_before, own_same}
 use Rattle.ink_step.proofs.machine.Machine.step_in.Goals as goal
 use Rattle.ink_step.proofs.machine.Machine.step_in.Goals.{After-make_step_room, After-step_from, else-quiet-via-then-quiet+else-wants_call, else-quiet-via-else-quiet}
 
@@ -103,3 +104,14 @@ returns-clause-aside g c = c.step_from.ensures.aside ∙ ap aside_in c.make_step
 
 pub returns-clause-mark : goal.returns-clause-mark
 returns-clause-mark g c = c.step_from.ensures.mark ∙ c.make_step_room.ensures.mark
+
+-- ---- the own fields
+
+pub returns-then-wants_call-clause-own : goal.returns-then-wants_call-clause-own
+returns-then-wants_call-clause-own g c = own_same 1 _ _ refl
+
+pub returns-in_err-make_step_room-clause-own : goal.returns-in_err-make_step_room-clause-own
+returns-in_err-make_step_room-clause-own g c = own_same 1 _ _ (ap (λ (m : Machine). m.trail) c.in_err-make_step_room.ensures.same)
+
+pub returns-clause-own : goal.returns-clause-own
+returns-clause-own g c = own_before (ap (λ (m : Machine). m.trail) c.make_step_room.ensures.same) c.step_from.ensures.own
