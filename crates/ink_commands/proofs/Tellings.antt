@@ -1,11 +1,14 @@
 -- What is told, and to whom.
-use Rattle.std.proofs.Common.{◌≡◌, ◌∙◌, ap, refl, subst, ℕ, List, [], ◌∷◌, map, filter, Bool, true, false, ◌&&◌, cond, Result}
-use Rattle.ink_host.specs.Desk.{DeskView, Rows, watches}
-use Rattle.ink_host.specs.Telling.{IsRound, Watching}
+use Rattle.std.proofs.Common.{◌≡◌, ◌∙◌, ap, refl, subst, ℕ, List, [], ◌∷◌, map, filter, Bool, true, false, ◌&&◌, cond, Ok, Result}
+use Rattle.ink_host.proofs.Laws.{grew-none}
+use Rattle.ink_host.specs.Desk.{DeskView, Grew, Rows, has_rows, watches}
+use Rattle.ink_host.specs.Telling.{IsRound, Watching, log_of}
 use Rattle.ink_host.specs.declared.objects.Called.{Called}
 use Rattle.ink_model.specs.Variables.Store.{Values, stored}
 use Rattle.ink_model.specs.Host.Told.{ToldAs, change_of, is_other, is_told, told}
 use Rattle.ink_model.specs.declared.host.Change.{Change}
+use Rattle.ink_model.specs.declared.host.Event.{Event}
+use Rattle.ink_told.proofs.Telling.{told_nobody}
 use Rattle.ink_commands.specs.Telling.{TellsWatchers}
 
 -- all that is told of is watched
@@ -37,3 +40,11 @@ module _ {P F O : Type 0} (turn_log : F → List Called) (state : O → Watching
       let w = watches d0.watchers in
       subst (λ ds. TellsWatchers turn_log state d0 (told w start now) ds r d1) (told-watched w start now)
       (subst (λ ds. TellsWatchers turn_log state d0 ds (filter (λ c. w c.name) ds) r d1) is tells)
+
+  -- nobody watches
+  pub tells-nobody : (d : DeskView P F O) (start now : Values) → has_rows d.watchers ≡ false
+      → (let cs = told (watches d.watchers) start now in TellsWatchers {E = Unit {0}} turn_log state d cs cs (Ok true) d)
+  tells-nobody d start now none =
+      let one : (t : ToldAs d.next [] true []) × IsRound state d.next [] [] t.answers d.watchers d.watchers = (nobody-told d.next, nobody-round state d.next d.watchers) in
+      subst (λ cs. (es : List Event) × (t : ToldAs d.next cs true es) × IsRound state d.next cs cs t.answers d.watchers d.watchers × Grew turn_log (log_of state) d es d)
+      (told_nobody d.watchers start now none) ([], one.0, one.1, grew-none turn_log (log_of state) d)

@@ -43,6 +43,9 @@ pub fn tell_one<P, F: TurnFn, O: Watcher>(
     ensures functions { desk.new.functions ≡ desk.old.functions }
     ensures rest { Resting (rests O.state) desk.old.watchers → Resting (rests O.state) desk.new.watchers }
 {
+    if !desk.has_watchers() {
+        return Ok(true);
+    }
     let changes = told_one(alloc, machine.globals(), name, value, desk)?;
     tell(desk, changes.as_slice())
 }

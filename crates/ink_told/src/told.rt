@@ -58,6 +58,7 @@ pub fn told_between<P, T, W>(
 
 /// A global with this value, if it is watched and has another one, or is not there. The one error is a refused request for memory,
 /// which is made only where it is.
+#[inline(always)]
 pub fn told_one<P, T, W>(
     alloc: Global,
     globals: &Globals,
@@ -76,6 +77,7 @@ pub fn told_one<P, T, W>(
 }
 
 /// Whether there was no value, or another one.
+#[inline(always)]
 fn is_other(was: Option<&Value>, value: &Value) -> bool
     ensures { result ≡ is_other (option_map (λ v. v.now) was.entry) value.now }
 {
