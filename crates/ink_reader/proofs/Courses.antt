@@ -1,10 +1,12 @@
 -- The deeds for what was typed.
 use Rattle.std.proofs.Common.{◌≡◌, ◌∙◌, ◌≤◌, ◌-◌, ℕ, suc, List, [], ◌∷◌, ◌++◌, Bool, true, false, MatchBool, Option, Some, None, is_some, Result, Ok, Err, is_ok, refl, sym, ap, subst, inl, inr, append_assoc, append-nil, true≢false, arith}
 use Rattle.std.specs.Option.{option_to_list}
-use Rattle.ink_reader.proofs.Common.{Data, Watching, Called, Reply, Look, NotKept, Told}
+use Rattle.ink_reader.proofs.Common.{Data, Watching, Called, Refused, Refuses, Reply, Saves, SavesItself, Look, NotKept, Told}
 use Rattle.serde_json.specs.Read.{read}
+use Rattle.serde_json.specs.Written.{compact_text}
 use Rattle.ink_model.specs.Protocol.Command as command
 use Rattle.ink_model.specs.Protocol.Command.{Command}
+use Rattle.ink_model.specs.declared.fault.Refusal.{Refusal}
 use Rattle.ink_model.specs.declared.host.Given.{Given}
 use Rattle.ink_model.specs.declared.value.Value.{Value}
 use Rattle.ink_page.specs.Typed.{Asked}
@@ -173,13 +175,29 @@ module _ (saves : Bool) (old : Places) (earlier : List (List ℕ)) (text : List 
 
 -- ---- ends
 
-pub ends-at : (saves : Bool) (here : Option (List ℕ)) (ds : List Deed) → is_some here ≡ true → ((place : List ℕ) → EndsAt saves (Some place) ds) → EndsAt saves here ds
-ends-at saves None ds is h = absurd (true≢false (sym is))
-ends-at saves (Some place) ds is h = h place
+pub ends-unasked : (saves : Bool) (here : Option (List ℕ)) → saves ≡ false → EndsAt saves here []
+ends-unasked saves None is = refl
+ends-unasked false (Some place) is = refl
+ends-unasked true (Some place) is = absurd (true≢false is)
 
 pub ends-none : (saves : Bool) (here : Option (List ℕ)) → is_some here ≡ false → EndsAt saves here []
 ends-none saves None is = refl
 ends-none saves (Some place) is = absurd (true≢false is)
+
+module _ (saves : Bool) (here : Option (List ℕ)) (by_itself : saves ≡ true) (there : is_some here ≡ true) where
+  ends-at : (ds : List Deed) → ((place : List ℕ) → EndsAt true (Some place) ds) → EndsAt saves here ds
+  ends-at ds h = by saves here by_itself there
+    where
+      by : (b : Bool) (o : Option (List ℕ)) → b ≡ true → is_some o ≡ true → EndsAt b o ds
+      by true (Some place) is some = h place
+      by false o is some = absurd (true≢false (sym is))
+      by true None is some = absurd (true≢false (sym some))
+
+  pub ends-saved : (j : Data) (ds : List Deed) → SavesItself saves (compact_text j) ds → EndsAt saves here (Gives command.Save (Saves j) ∷ ds)
+  ends-saved j ds h = ends-at (Gives command.Save (Saves j) ∷ ds) (λ place. subst (λ b. SavesItself b (compact_text j) ds) by_itself h)
+
+  pub ends-refused : (r : Refusal) → EndsAt saves here (Gives command.Save (Refuses r) ∷ Says (Refused r) ∷ [])
+  ends-refused r = ends-at (Gives command.Save (Refuses r) ∷ Says (Refused r) ∷ []) (λ place. refl)
 
 -- ---- the number of a choice
 

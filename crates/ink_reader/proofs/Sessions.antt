@@ -63,7 +63,8 @@ module _ (saves : Bool) (old : Places) (line : Option (List ℕ)) where
 
 any-ends : (saves : Bool) (here : Option (List ℕ)) → (rest : List Deed) × EndsAt saves here rest
 any-ends saves None = ([], refl)
-any-ends saves (Some place) = (Gives command.Save (Refuses refusal.OutOfMemory) ∷ Says (Refused refusal.OutOfMemory) ∷ [], refl)
+any-ends false (Some place) = ([], refl)
+any-ends true (Some place) = (Gives command.Save (Refuses refusal.OutOfMemory) ∷ Says (Refused refusal.OutOfMemory) ∷ [], refl)
 
 -- the end of the lines comes next
 any-reading : (saves : Bool) (old : Places) → (rest : List Deed) × IsReading saves old (None ∷ []) (Asks ∷ rest) old
@@ -226,6 +227,10 @@ module _ (saves : Bool) (old : Places) where
 pub and-true : (b c : Bool) → c ≡ true → (b && c) ≡ b
 and-true true c is = is
 and-true false c is = refl
+
+pub and-left : (b c d : Bool) → d ≡ (b && c) → d ≡ true → b ≡ true
+and-left true c d is h = refl
+and-left false c d is h = absurd (true≢false (sym h ∙ is))
 
 pub and-false : (b c : Bool) → c ≡ false → (b && c) ≡ false
 and-false true c is = is

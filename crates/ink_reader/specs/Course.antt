@@ -164,12 +164,13 @@ IsCourse saves old asks.Unclear ds new = (ds ≡ Says Unclear ∷ []) × (new �
 abbrev pub IsBeginning : Bool → Places → List Deed → Places → Type 0
 IsBeginning saves old ds new = (new.before ≡ old.before) × IsTelling saves ds new.here
 
--- it ends: where the story stands at a choice that is noted, the reading saves by itself
+-- it ends: where the reading saves by itself, and the story stands at a choice that is noted, that is saved
 abbrev pub EndsAt : Bool → Option (List ℕ) → List Deed → Type 0
 EndsAt saves None ds = ds ≡ []
-EndsAt saves (Some place) (Gives command.Save (Saves j) ∷ ds) = SavesItself saves (compact_text j) ds
-EndsAt saves (Some place) (Gives command.Save (Refuses r) ∷ ds) = ds ≡ Says (Refused r) ∷ []
-EndsAt saves (Some place) ds = ⊥
+EndsAt false (Some place) ds = ds ≡ []
+EndsAt true (Some place) (Gives command.Save (Saves j) ∷ ds) = SavesItself true (compact_text j) ds
+EndsAt true (Some place) (Gives command.Save (Refuses r) ∷ ds) = ds ≡ Says (Refused r) ∷ []
+EndsAt true (Some place) ds = ⊥
 
 abbrev pub IsEnding : Bool → Places → List Deed → Places → Type 0
 IsEnding saves old ds new = EndsAt saves old.here ds × (new ≡ old)

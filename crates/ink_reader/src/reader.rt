@@ -1,7 +1,7 @@
 //! A reading, and what is done at each line that is typed. The error of a call is `Write` exactly where the sink failed in it, or
 //! took no byte; it is never `Read`.
 
-ghost use Rattle.std.specs.Prelude.{◌≡◌, ◌&&◌, [], List, None, false, IfErr, IfOk, OnOk, is_ok};
+ghost use Rattle.std.specs.Prelude.{◌≡◌, ◌&&◌, [], List, None, false, IfErr, IfOk, OnErr, OnOk, is_ok};
 ghost use Rattle.std.specs.Io.KnownBytes.{Appends};
 ghost use Rattle.ink_model.specs.Protocol.State.{is_running};
 ghost use Rattle.ink_page.specs.Showing.{FailsToShow, said};
@@ -127,6 +127,7 @@ impl<P: PureFn, F: TurnFn, O: Watcher> Reader<P, F, O> {
             × Played P.meaning F.log F.refusals O.state self.old.look self.old.player ds self.new.player (T.contents sink.old) (T.contents sink.new) (S.kept shelf.old) (S.kept shelf.new) (is_ok result) }
         ensures look { self.new.look ≡ self.old.look }
         ensures saves { IfOk result (λ loaded. self.new.saves ≡ (self.old.saves && loaded)) }
+        ensures stays { OnErr result (self.new.saves ≡ self.old.saves) }
         ensures keeps { KeptAs (story_of self.new.player) (state_of self.new.player) (S.kept shelf.old) (S.kept shelf.new) }
         ensures notes { Notes asks.Load self.old.past.before.items self.old.past.here self.new.past.before.items }
         ensures stands { StandsAt (story_of self.new.player) (state_of self.new.player) self.old.past.here self.new.past.here }
@@ -146,7 +147,7 @@ impl<P: PureFn, F: TurnFn, O: Watcher> Reader<P, F, O> {
         ensures sink { Reports (writes_fail result) (T.failures sink.old) (T.failures sink.new) (T.name sink.old) (T.name sink.new) }
         ensures fault { IfErr result FailsToShow }
     {
-        if !self.past.is_at_choice() {
+        if !self.saves || !self.past.is_at_choice() {
             return Ok(());
         }
         match save_of(&self.player) {

@@ -13,7 +13,7 @@ ghost use Rattle.ink_reader.specs.Steps.{IsMissing};
 ghost use Rattle.ink_reader.specs.Notices.{BadSave, Refused, Word, word_text};
 ghost use Rattle.ink_reader.specs.declared.shelf.NotKept.{NotKept};
 
-use crate::shelf::Shelf;
+use crate::shelf::{NO_SAVE, Shelf};
 use ink_model::{Refusal, Text};
 use ink_page::{Look, refusal_words, say};
 use ink_protocol::{RunFault, Sink};
@@ -24,9 +24,9 @@ use std::alloc::Global;
 pub(crate) fn keep_save<T: Sink, S: Shelf>(
     alloc: Global,
     look: Look,
-    save: &Text,
     sink: &mut T,
     shelf: &mut S,
+    save: &Text,
 ) -> Result<bool, RunFault>
     ensures answers { (answer : Result (Unit {0}) NotKept) × KeepsSave (S.kept shelf.old) (S.kept shelf.new) save.now answer × IfOk result (λ kept. kept ≡ is_ok answer)
         × OnOk result (Appends (T.contents sink.old) (T.contents sink.new) (deeds_shown look (unsaved_told answer))) }
@@ -73,5 +73,5 @@ fn unread_words(lacks: bool) -> &'static str
     if lacks {
         return refusal_words(Refusal::OutOfMemory);
     }
-    "The save is cut, or is no save; it stays as it is."
+    NO_SAVE
 }

@@ -1,6 +1,6 @@
 //! A reading of lines that are typed, one after another.
 
-ghost use Rattle.std.specs.Prelude.{◌≡◌, ℕ, [], List, Option, IfErr, IfOk, bytes_eq, codes, false, is_ok, not};
+ghost use Rattle.std.specs.Prelude.{◌≡◌, ℕ, [], List, Option, IfErr, IfOk, bytes_eq, codes, false, is_ok, not, true};
 ghost use Rattle.ink_page.specs.Typed.{asked_by};
 ghost use Rattle.ink_page.specs.Showing.{FailsToShow};
 ghost use Rattle.ink_protocol.specs.Ends.{Reports, after_call, reads_fail, writes_fail};
@@ -29,6 +29,7 @@ impl<P: PureFn, F: TurnFn, O: Watcher> Reader<P, F, O> {
             × ReadTo (is_ok result) (IsSession self.old.saves (places_of self.old.past)) lines_read ds (places_of self.new.past)
             × Played P.meaning F.log F.refusals O.state self.old.look self.old.player ds self.new.player (T.contents sink.old) (T.contents sink.new) (S.kept shelf.old) (S.kept shelf.new) (is_ok result) }
         ensures look { self.new.look ≡ self.old.look }
+        ensures saves { self.new.saves ≡ true → self.old.saves ≡ true }
         ensures sink { Reports (writes_fail result) (T.failures sink.old) (T.failures sink.new) (T.name sink.old) (T.name sink.new) }
         ensures lines { L.failures lines.new ≡ after_call (reads_fail result) (L.failures lines.old) }
     {
@@ -50,6 +51,7 @@ impl<P: PureFn, F: TurnFn, O: Watcher> Reader<P, F, O> {
             × ReadBy result (IsSession self.old.saves (places_of self.old.past)) self.new.saves lines_read ds (places_of self.new.past)
             × Played P.meaning F.log F.refusals O.state self.old.look self.old.player ds self.new.player (T.contents sink.old) (T.contents sink.new) (S.kept shelf.old) (S.kept shelf.new) (is_ok result) }
         ensures look { self.new.look ≡ self.old.look }
+        ensures saves { self.new.saves ≡ true → self.old.saves ≡ true }
         ensures sink { Reports (writes_fail result) (T.failures sink.old) (T.failures sink.new) (T.name sink.old) (T.name sink.new) }
         ensures lines { L.failures lines.new ≡ after_call (reads_fail result) (L.failures lines.old) }
     {
@@ -72,6 +74,7 @@ impl<P: PureFn, F: TurnFn, O: Watcher> Reader<P, F, O> {
             × ReadBy result (IsOffer self.old.saves (places_of self.old.past)) self.new.saves lines_read ds (places_of self.new.past)
             × Played P.meaning F.log F.refusals O.state self.old.look self.old.player ds self.new.player (T.contents sink.old) (T.contents sink.new) (S.kept shelf.old) (S.kept shelf.new) (is_ok result) }
         ensures look { self.new.look ≡ self.old.look }
+        ensures saves { self.new.saves ≡ true → self.old.saves ≡ true }
         ensures sink { Reports (writes_fail result) (T.failures sink.old) (T.failures sink.new) (T.name sink.old) (T.name sink.new) }
         ensures lines { L.failures lines.new ≡ after_call (reads_fail result) (L.failures lines.old) }
     {
@@ -96,6 +99,7 @@ impl<P: PureFn, F: TurnFn, O: Watcher> Reader<P, F, O> {
         ensures reads { (ds : List Deed) × ReadBy result (Starts (bytes_eq wish.now (codes "n")) self.old.saves (places_of self.old.past)) self.new.saves [] ds (places_of self.new.past)
             × Played P.meaning F.log F.refusals O.state self.old.look self.old.player ds self.new.player (T.contents sink.old) (T.contents sink.new) (S.kept shelf.old) (S.kept shelf.new) (is_ok result) }
         ensures look { self.new.look ≡ self.old.look }
+        ensures saves { self.new.saves ≡ true → self.old.saves ≡ true }
         ensures sink { Reports (writes_fail result) (T.failures sink.old) (T.failures sink.new) (T.name sink.old) (T.name sink.new) }
         ensures fault { reads_fail result ≡ false }
     {

@@ -6,6 +6,9 @@ ghost use Rattle.ink_reader.specs.Notices.{unread, unwritten};
 
 use std::alloc::Global;
 
+/// What is said of a save that is no text, or no JSON.
+pub(crate) const NO_SAVE: &str = "The save is cut, or is no save; it stays as it is.";
+
 /// Why a save could not be kept, or what is kept could not be read.
 #[derive(Clone, Copy)]
 pub enum NotKept {
@@ -37,7 +40,7 @@ impl NotKept {
         match self {
             NotKept::TooLong =>
                 "The save is longer than 64 MiB, so it is not read; it stays as it is.",
-            NotKept::NoText => "The save is cut, or is no save; it stays as it is.",
+            NotKept::NoText => NO_SAVE,
             NotKept::Failed => "The save could not be read; it stays as it is.",
         }
     }

@@ -202,8 +202,8 @@ fn tell_fault<T: Sink>(
 pub(crate) fn tell_outcome<T: Sink>(
     alloc: Global,
     look: Look,
-    outcome: &Result<Seq<Event>, Halt>,
     sink: &mut T,
+    outcome: &Result<Seq<Event>, Halt>,
 ) -> Result<bool, RunFault>
     ensures shows { OnOk result (Appends (T.contents sink.old) (T.contents sink.new) (reply_shown look broke_before (reply_of_events outcome.now))) }
     ensures done { IfOk result (λ done. done ≡ acts (reply_of_events outcome.now)) }

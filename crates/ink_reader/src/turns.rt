@@ -120,7 +120,7 @@ impl<P: PureFn, F: TurnFn, O: Watcher> Reader<P, F, O> {
         if !self.saves {
             return Ok(());
         }
-        let _kept = keep_save(self.alloc, self.look, save, sink, shelf)?;
+        let _kept = keep_save(self.alloc, self.look, sink, shelf, save)?;
         Ok(())
     }
 
@@ -221,7 +221,7 @@ impl<P: PureFn, F: TurnFn, O: Watcher> Reader<P, F, O> {
         ensures fault { IfErr result FailsToShow }
     {
         let outcome = load_save(&mut self.player, json);
-        tell_outcome(self.alloc, self.look, &outcome, sink)
+        tell_outcome(self.alloc, self.look, sink, &outcome)
     }
 
     /// Begins the story anew.
@@ -241,7 +241,7 @@ impl<P: PureFn, F: TurnFn, O: Watcher> Reader<P, F, O> {
         ensures fault { reads_fail result ≡ false }
     {
         let outcome = begin_anew(&mut self.player);
-        if !tell_outcome(self.alloc, self.look, &outcome, sink)? {
+        if !tell_outcome(self.alloc, self.look, sink, &outcome)? {
             return Ok(());
         }
         self.leave(sink, shelf)
@@ -288,7 +288,7 @@ impl<P: PureFn, F: TurnFn, O: Watcher> Reader<P, F, O> {
         ensures sink { Reports (writes_fail result) (T.failures sink.old) (T.failures sink.new) (T.name sink.old) (T.name sink.new) }
         ensures fault { IfErr result FailsToShow }
     {
-        if !keep_save(self.alloc, self.look, save, sink, shelf)? {
+        if !keep_save(self.alloc, self.look, sink, shelf, save)? {
             return Ok(());
         }
         self.say(sink, "Saved.")

@@ -1,4 +1,4 @@
-use Rattle.std.proofs.Common.{ℕ, List, [], ◌∷◌, Option, None, Some, Result, Ok, Err, refl, string_bytes}
+use Rattle.std.proofs.Common.{◌∙◌, ℕ, List, [], ◌∷◌, Option, None, Some, Result, Ok, Err, refl, string_bytes, sym}
 use Rattle.ink_reader.proofs.Common.{places_of, Fetches, NotKept}
 use Rattle.ink_reader.specs.Session.{Begins, IsOffer, IsSession}
 use Rattle.ink_reader.proofs.Playing.{played-fetches, played-played}
@@ -41,3 +41,6 @@ returns-in-Err-clause-reads g c =
       read-behind c.offer-in-Err.result (IsSession old.saves (places_of old.past)) (IsOffer old.saves (places_of old.past)) saves saves [] rest.0 (Fetches answer ∷ []) rest.1 (places_of c.offer-in-Err.new.self.past) refl (λ others more end h. h) rest.3,
       played-played (played-fetches c.in-Err.ensures) rest.4,
     )
+
+pub returns-in-Ok-None-clause-saves : goal.returns-in-Ok-None-clause-saves
+returns-in-Ok-None-clause-saves g c = λ h. sym c.start.ensures.settings.1 ∙ h

@@ -1,4 +1,4 @@
-use Rattle.std.proofs.Common.{◌++◌}
+use Rattle.std.proofs.Common.{◌∙◌, ◌++◌, sym}
 use Rattle.ink_reader.proofs.Common.{err_from_is_err_and, places_of}
 use Rattle.ink_reader.specs.Session.{IsSession}
 use Rattle.ink_reader.proofs.Playing.{played-lost, played-played, played-well}
@@ -34,3 +34,6 @@ returns-clause-reads g c =
       continues-to (IsSession old.saves (places_of old.past)) c.open.new.self.saves (places_of c.open.new.self.past) first.0 rest.0 first.1 rest.1 after (places_of c.read_lines.new.self.past) rest.3,
       played-played (played-well c.in_ok-open.was first.4) rest.4,
     )
+
+pub returns-clause-saves : goal.returns-clause-saves
+returns-clause-saves g c = λ h. c.open.ensures.saves (sym c.read_lines.ensures.settings.1 ∙ h)

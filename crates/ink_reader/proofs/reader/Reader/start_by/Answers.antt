@@ -2,7 +2,7 @@ use Rattle.std.proofs.Common.{◌∙◌, [], ◌++◌, bytes_eq, codes, false, s
 use Rattle.ink_reader.proofs.Common.{err_from_is_err_and, places_of}
 use Rattle.ink_reader.specs.Session.{Begins, Starts}
 use Rattle.ink_reader.proofs.Playing.{played-lost, played-played, played-well}
-use Rattle.ink_reader.proofs.Sessions.{and-false, and-true, part-read, read-behind, resumed, resumed-not, resumed-part}
+use Rattle.ink_reader.proofs.Sessions.{and-false, and-left, and-true, part-read, read-behind, resumed, resumed-not, resumed-part}
 use Rattle.ink_reader.proofs.reader.Reader.start_by.Goals as goal
 
 pub returns-then-eq-clause-reads : goal.returns-then-eq-clause-reads
@@ -55,3 +55,16 @@ returns-clause-reads g c =
           (λ others more end h. subst (λ b. Starts b old.saves (places_of old.past) others (read.0 ++ more) end) (sym is) (after others more end h)) told.1,
       played-played (played-well c.in_ok-resume.was read.3) told.2,
     )
+
+pub returns-then-eq-clause-saves : goal.returns-then-eq-clause-saves
+returns-then-eq-clause-saves g c = λ h. sym c.start.ensures.settings.1 ∙ h
+
+pub returns-in_err-resume-clause-saves : goal.returns-in_err-resume-clause-saves
+returns-in_err-resume-clause-saves g c = λ h. sym (rw c.in_err-resume.was at c.resume.ensures.stays) ∙ h
+
+pub returns-then-branch-clause-saves : goal.returns-then-branch-clause-saves
+returns-then-branch-clause-saves g c = and-left c.args.self.now.saves c.in_ok-resume.field-0 c.resume.new.self.saves (rw c.in_ok-resume.was at c.resume.ensures.saves)
+
+pub returns-clause-saves : goal.returns-clause-saves
+returns-clause-saves g c = λ h.
+    and-left c.args.self.now.saves c.in_ok-resume.field-0 c.resume.new.self.saves (rw c.in_ok-resume.was at c.resume.ensures.saves) (sym c.start-2.ensures.settings.1 ∙ h)
