@@ -168,8 +168,7 @@ impl Sheet {
 fn indent(text: &mut String, margin: u16) -> Result<(), AllocError>
     ensures { OnOk result (string_bytes text.new ≡ string_bytes text.old ++ replicate margin 32) }
 {
-    for blank in 0..margin {
-        let _blank = blank;
+    for _blank in 0..margin {
         text.push(' ')?;
     }
     Ok(())

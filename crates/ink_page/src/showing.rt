@@ -18,10 +18,7 @@ pub fn say<T: Sink>(alloc: Global, look: Look, sink: &mut T, words: &str) -> Res
     ensures sink { Reports (writes_fail result) (T.failures sink.old) (T.failures sink.new) (T.name sink.old) (T.name sink.new) }
     ensures fault { IfErr result FailsToShow }
 {
-    match line_page(alloc, look, words, &[]) {
-        Ok(page) => write_page(sink, page),
-        Err(AllocError) => Err(RunFault::OutOfMemory),
-    }
+    write_page(sink, line_page(alloc, look, words, &[])?)
 }
 
 /// Shows a line of the story, with what was told to watchers on the way to it. A line with nothing to show is left out.
@@ -35,9 +32,7 @@ pub fn show_passage<T: Sink>(
     ensures sink { Reports (writes_fail result) (T.failures sink.old) (T.failures sink.new) (T.name sink.old) (T.name sink.new) }
     ensures fault { IfErr result FailsToShow }
 {
-    let Ok(page) = line_page(alloc, look, passage.text.as_str(), passage.tags.as_slice()) else {
-        return Err(RunFault::OutOfMemory);
-    };
+    let page = line_page(alloc, look, passage.text.as_str(), passage.tags.as_slice())?;
     if !page.is_empty() {
         write_page(sink, page)?;
     }
@@ -90,10 +85,8 @@ pub fn show_value<T: Sink>(
     ensures sink { Reports (writes_fail result) (T.failures sink.old) (T.failures sink.new) (T.name sink.old) (T.name sink.new) }
     ensures fault { IfErr result FailsToShow }
 {
-    match value_line(alloc, name, value) {
-        Ok(line) => say(alloc, look, sink, line.as_str()),
-        Err(AllocError) => Err(RunFault::OutOfMemory),
-    }
+    let line = value_line(alloc, name, value)?;
+    say(alloc, look, sink, line.as_str())
 }
 
 // A variable and its value.
@@ -143,10 +136,7 @@ fn show_choice<T: Sink>(
     ensures sink { Reports (writes_fail result) (T.failures sink.old) (T.failures sink.new) (T.name sink.old) (T.name sink.new) }
     ensures fault { IfErr result FailsToShow }
 {
-    match choice_page(alloc, look, number, choice) {
-        Ok(page) => write_page(sink, page),
-        Err(AllocError) => Err(RunFault::OutOfMemory),
-    }
+    write_page(sink, choice_page(alloc, look, number, choice)?)
 }
 
 // Writes a page and its newline.
@@ -156,8 +146,6 @@ fn write_page<T: Sink>(sink: &mut T, page: String) -> Result<(), RunFault>
     ensures fault { IfErr result FailsToShow }
 {
     let mut page = page;
-    let Ok(()) = page.push('\n') else {
-        return Err(RunFault::OutOfMemory);
-    };
+    page.push('\n')?;
     write_answer(sink, page.as_bytes())
 }

@@ -6,9 +6,8 @@ ghost use Rattle.serde_json.specs.Data as entries;
 ghost use Rattle.serde_json.specs.View.{members_view, view};
 ghost use Rattle.ink_model.specs.Save.Spelling.{list_data, place_data, row_data};
 ghost use Rattle.ink_parts.specs.Counted.{place_at, rows_at};
-ghost use Rattle.ink_model.specs.Story.Tree.{StoryTree};
 ghost use Rattle.ink_tokens.specs.Tokens.{Added, data_tokens};
-ghost use Rattle.ink_tree.specs.Nodes.{place_of, story_tree};
+ghost use Rattle.ink_tree.specs.Nodes.{story_tree};
 ghost use Rattle.ink_vars.specs.Slots.{rows_from};
 
 use crate::placed::put_spot;
@@ -62,17 +61,7 @@ fn write_row(alloc: Global, tree: &Tree, number: usize, count: u32) -> Result<Js
 fn write_place(alloc: Global, tree: &Tree, number: usize) -> Result<Json, AllocError>
     ensures { IfOk result (λ json. view json ≡ place_data (place_at (story_tree tree.now) number)) }
 {
-    container_spot(number).write(alloc, tree)
-}
-
-// The spot of a container.
-fn container_spot(number: usize) -> Spot
-    ensures { (s : StoryTree) → place_of s result ≡ place_at s number }
-{
-    Spot {
-        holder: NodeId { number },
-        index: None,
-    }
+    Spot::of(NodeId { number }).write(alloc, tree)
 }
 
 /// The member of this name with counts. The one error is a refused request for memory.
@@ -108,7 +97,7 @@ fn put_row(tree: &Tree, out: &mut Writer, number: usize, count: u32) -> Result<(
     ensures { OnOk result (Added out.old out.new (data_tokens (row_data (place_at (story_tree tree.now) number, count)))) }
 {
     put(out, Token::BeginArray)?;
-    put_spot(tree, out, container_spot(number))?;
+    put_spot(tree, out, Spot::of(NodeId { number }))?;
     put_natural(out, count as u64)?;
     put(out, Token::EndArray)
 }

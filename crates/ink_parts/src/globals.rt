@@ -17,7 +17,11 @@ use serde_json::Value as Json;
 use std::alloc::{AllocError, Global};
 
 /// Globals, in order of declaration. The one error is a refused request for memory.
-pub fn write_globals(alloc: Global, tree: &Tree, globals: &Globals) -> Result<Json, AllocError>
+pub(crate) fn write_globals(
+    alloc: Global,
+    tree: &Tree,
+    globals: &Globals,
+) -> Result<Json, AllocError>
     ensures { IfOk result (λ json. view json ≡ list_data global_data globals.now.rows) }
 {
     let made = write_rows(alloc, tree, globals)?;

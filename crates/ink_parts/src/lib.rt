@@ -15,8 +15,6 @@ mod saving;
 mod writing;
 mod written;
 
-pub use globals::write_globals;
 pub use kept::Kept;
 pub use printing::print;
 pub use saving::write;
-pub use written::Written;

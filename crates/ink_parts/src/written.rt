@@ -17,7 +17,7 @@ use serde_json::{Map, Value as Json, put as put_entry};
 use std::alloc::{AllocError, Global};
 
 /// What has a JSON value in a story.
-pub trait Written {
+pub(crate) trait Written {
     ghost spelling: { StoryTree → Self → Data };
 
     /// Its JSON value. The one error is a refused request for memory.

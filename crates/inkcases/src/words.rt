@@ -78,13 +78,7 @@ where
 
 /// What a host gives.
 pub fn given_of(value: Value) -> Result<Given, NoAnswer> {
-    match value {
-        Value::Int(number) => Ok(Given::Int(number)),
-        Value::Bool(truth) => Ok(Given::Bool(truth)),
-        Value::Text(text) => Ok(Given::Text(text)),
-        Value::Void => Ok(Given::Void),
-        _other => Err(NoAnswer::NoQuestion),
-    }
+    Given::from_value(value).ok_or(NoAnswer::NoQuestion)
 }
 
 /// The parts of a place of a table.

@@ -5,11 +5,10 @@
 
 mod report;
 
-use ink_host::{Desk, PureFn, TurnFn, Watcher};
 use ink_player::{
-    Counting, PlayFault, Player, RunFault, Sink, Source, open_story, serve, serve_story,
+    Counting, Observer, PlayFault, Player, RunFault, Sink, Source, open_story, serve, serve_story,
 };
-use ink_words::{PlayDesk, read_story_file, read_words, words};
+use ink_words::{PlayDesk, Script, Table, read_story_file, read_words, words};
 use report::{refuse_file, refuse_words, tell};
 use std::alloc::Global;
 use std::fs::Files;
@@ -37,10 +36,10 @@ fn main(rt: HostRuntime) -> ExitCode {
 }
 
 /// Plays the story that is the first line of the input.
-fn serve_input<S: Source, T: Sink, P: PureFn + Drop, F: TurnFn + Drop, O: Watcher + Drop>(
+fn serve_input<S: Source, T: Sink>(
     rt: &impl Eprint,
     alloc: Global,
-    desk: Desk<P, F, O>,
+    desk: PlayDesk,
     source: &mut S,
     sink: &mut T,
 ) -> u8 {
@@ -51,11 +50,11 @@ fn serve_input<S: Source, T: Sink, P: PureFn + Drop, F: TurnFn + Drop, O: Watche
 }
 
 /// Plays the story of a file.
-fn serve_file<S: Source, T: Sink, P: PureFn + Drop, F: TurnFn + Drop, O: Watcher + Drop>(
+fn serve_file<S: Source, T: Sink>(
     rt: &(impl Eprint + Files),
     alloc: Global,
     path: &str,
-    desk: Desk<P, F, O>,
+    desk: PlayDesk,
     source: &mut S,
     sink: &mut T,
 ) -> u8 {
@@ -66,11 +65,11 @@ fn serve_file<S: Source, T: Sink, P: PureFn + Drop, F: TurnFn + Drop, O: Watcher
 }
 
 /// Plays the story that these bytes are.
-fn serve_bytes<S: Source, T: Sink, P: PureFn + Drop, F: TurnFn + Drop, O: Watcher + Drop>(
+fn serve_bytes<S: Source, T: Sink>(
     rt: &impl Eprint,
     alloc: Global,
     bytes: &[u8],
-    desk: Desk<P, F, O>,
+    desk: PlayDesk,
     source: &mut S,
     sink: &mut T,
 ) -> u8 {
@@ -81,9 +80,9 @@ fn serve_bytes<S: Source, T: Sink, P: PureFn + Drop, F: TurnFn + Drop, O: Watche
 }
 
 /// Serves the lines of the input to a player, which ends with them.
-fn serve_player<S: Source, T: Sink, P: PureFn + Drop, F: TurnFn + Drop, O: Watcher + Drop>(
+fn serve_player<S: Source, T: Sink>(
     alloc: Global,
-    player: Player<P, F, O>,
+    player: Player<Table, Script, Observer>,
     source: &mut S,
     sink: &mut T,
 ) -> Result<(), RunFault> {

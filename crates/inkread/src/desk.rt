@@ -1,7 +1,7 @@
 //! The desk of a reading: what the words bind, and functions that ask the reader.
 
-use ink_host::{Bound, Desk, Observer};
 use ink_page::{Asked, Turn};
+use ink_player::{Bound, Desk, Observer};
 use ink_words::{PlayDesk, Script, Table};
 use std::alloc::{AllocError, Global};
 

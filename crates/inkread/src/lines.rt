@@ -2,7 +2,7 @@
 
 ghost use Rattle.std.specs.Prelude.{None};
 
-use ink_protocol::RunFault;
+use ink_player::RunFault;
 use ink_reader::Lines;
 use std::alloc::Global;
 use std::io::ErrorKind;

@@ -8,40 +8,27 @@ mod looks;
 mod report;
 mod settings;
 
-use desk::reader_desk;
+use desk::{Answering, ReaderDesk, reader_desk};
 use files::SaveFile;
-use ink_check::{Story, check};
-use ink_host::{Desk, PureFn, TurnFn, Watcher};
-use ink_json::read_story;
 use ink_page::{Look, ask_for_the_rest};
-use ink_player::{Counting, Player};
-use ink_protocol::RunFault;
+use ink_player::{Counting, Observer, Player, RunFault, Story, check, read_story};
 use ink_reader::Reader;
-use ink_words::{PlayDesk, bind_words, read_story_file, words};
+use ink_words::{PlayDesk, Table, read_story_file, words};
 use lines::InputLines;
 use looks::look;
 use report::{refuse_file, refuse_memory, refuse_start, refuse_story, refuse_words, tell_run};
-use settings::{Settings, read_settings, reader_command};
+use settings::{Settings, read_settings};
 use std::alloc::Global;
-use std::io;
 use std::process::ExitCode;
+use std::{io, mem};
 
 fn main(rt: HostRuntime) -> ExitCode {
     let alloc = rt.alloc();
     let Ok(words) = words(&rt) else {
         return ExitCode::from(refuse_words(&rt));
     };
-    let Ok(command) = reader_command(alloc) else {
-        return ExitCode::from(refuse_words(&rt));
-    };
-    let Ok(matches) = command.try_get_matches_from(words.as_slice()) else {
-        return ExitCode::from(refuse_words(&rt));
-    };
     let mut desk = PlayDesk::new(alloc);
-    if bind_words(alloc, &mut desk, &matches).is_err() {
-        return ExitCode::from(refuse_words(&rt));
-    }
-    let Some(settings) = read_settings(alloc, &matches) else {
+    let Some(settings) = read_settings(alloc, words.as_slice(), &mut desk) else {
         return ExitCode::from(refuse_words(&rt));
     };
     let look = look(&rt, settings.tags);
@@ -100,13 +87,13 @@ fn bind_story(
 }
 
 /// Opens the story, and reads it.
-fn open_story<P: PureFn + Drop, F: TurnFn + Drop, O: Watcher + Drop>(
+fn open_story(
     rt: HostRuntime,
     alloc: Global,
     look: Look,
     settings: &Settings<'_>,
     story: Story,
-    desk: Desk<P, F, O>,
+    desk: ReaderDesk<HostRuntime>,
 ) -> u8 {
     match Player::open(alloc, story, desk) {
         Ok(player) => tell_run(&rt, read_player(rt, alloc, look, settings, player)),
@@ -115,12 +102,12 @@ fn open_story<P: PureFn + Drop, F: TurnFn + Drop, O: Watcher + Drop>(
 }
 
 /// Reads an opened story to the end of the input.
-fn read_player<P: PureFn + Drop, F: TurnFn + Drop, O: Watcher + Drop>(
+fn read_player(
     rt: HostRuntime,
     alloc: Global,
     look: Look,
     settings: &Settings<'_>,
-    player: Player<P, F, O>,
+    player: Player<Table, Answering<HostRuntime>, Observer>,
 ) -> Result<(), RunFault> {
     let mut reader = Reader::new(alloc, player, look, settings.saves);
     let mut shelf = SaveFile {
@@ -131,6 +118,7 @@ fn read_player<P: PureFn + Drop, F: TurnFn + Drop, O: Watcher + Drop>(
     let mut lines = InputLines { rt, failures: 0 };
     let mut sink = Counting::new(io::writer(&rt));
     let outcome = reader.read_to_end(&mut lines, &mut sink, &mut shelf);
-    let _desk = reader.close();
+    // The program ends here, so that nothing of the story and the game has to be walked to be let go.
+    mem::forget(reader);
     outcome
 }

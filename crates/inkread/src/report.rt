@@ -1,8 +1,7 @@
 //! What the program says where it does not read, and its exit statuses, which are those of `inkplay`.
 
-use ink_model::{Cause, Fault, Part, Place, ReadRefusal};
 use ink_page::{Look, cause_words, fault_words, line_page, piece_at};
-use ink_protocol::RunFault;
+use ink_player::{Cause, Fault, Part, Place, ReadRefusal, RunFault};
 use std::alloc::{AllocError, Global};
 
 /// The input was read to its end, or the reader quit.

@@ -1,7 +1,7 @@
 //! The program's words (docs/READER.md, "The reader").
 
 use clap::{Arg, ArgAction, ArgMatches, Command};
-use ink_words::command;
+use ink_words::{PlayDesk, bind_words, command};
 use std::alloc::{AllocError, Global};
 
 /// What the words say of a reading: the story's file, the save's and the one beside it, whether it is saved at each choice, and
@@ -15,8 +15,21 @@ pub(crate) struct Settings<'a> {
     pub(crate) tags: bool,
 }
 
-/// What the words may be: those of the player, and the reader's own.
-pub(crate) fn reader_command<'a>(alloc: Global) -> Result<Command<'a>, AllocError> {
+/// Reads the words that the program was started with: binds what they say, and gives what they say of a reading. None where they are
+/// no words of the program, name no story, or say something that cannot be bound; or where memory was refused.
+pub(crate) fn read_settings<'a>(
+    alloc: Global,
+    words: &'a [String],
+    desk: &mut PlayDesk,
+) -> Option<Settings<'a>> {
+    let command = reader_command(alloc).ok()?;
+    let matches = command.try_get_matches_from(words).ok()?;
+    bind_words(alloc, desk, &matches).ok()?;
+    settings_of(alloc, &matches)
+}
+
+// What the words may be: those of the player, and the reader's own.
+fn reader_command<'a>(alloc: Global) -> Result<Command<'a>, AllocError> {
     command(alloc, "inkread")?
         .arg(Arg::new(alloc, "save").long("save").action(ArgAction::Set))?
         .arg(flag(alloc, "no-autosave"))?
@@ -27,8 +40,8 @@ fn flag<'a>(alloc: Global, name: &'a str) -> Arg<'a> {
     Arg::new(alloc, name).long(name).action(ArgAction::SetTrue)
 }
 
-/// What the words say; none where they name no story, or memory was refused.
-pub(crate) fn read_settings<'a>(alloc: Global, matches: &ArgMatches<'a>) -> Option<Settings<'a>> {
+// What the words say of a reading; none where they name no story, or memory was refused.
+fn settings_of<'a>(alloc: Global, matches: &ArgMatches<'a>) -> Option<Settings<'a>> {
     let story = matches.get_str("STORY")?;
     let save = match matches.get_str("save") {
         Some(path) => String::from_str(alloc, path).ok()?,
