@@ -32,7 +32,7 @@ TOP = os.path.dirname(os.path.dirname(os.path.abspath(__file__)))
 # a name in brackets behind a sentence or in a row; a link's text has a parenthesis behind it
 MARK = re.compile(r"(?<=[\w.)\]\"`:;,?!] )\[([a-z0-9]+(?:-[a-z0-9]+)*)\](?![(:])")
 FUNCTION = re.compile(r" *(?:pub(?:\([a-z]+\))? )?(?:const )?fn (\w+)")
-OWNER = re.compile(r"(?:pub )?(?:impl|trait)(?:<.*?>+)? (?:.* for )?(\w+)")
+OWNER = re.compile(r"(?:pub(?:\([a-z]+\))? )?(?:impl|trait)(?:<.*?>+)? (?:.* for )?(\w+)")
 
 
 class Wrong(Exception):
@@ -181,8 +181,8 @@ def rules_of_table(path):
 
 
 def show(rule, names, whole):
-    """Prints where the names of a rule lead, and the whole of its wrong bodies. What it lacks, and what is wrong with its
-    names."""
+    """Prints where the names of a rule lead, and the whole of its wrong bodies where it is asked for. What it lacks, and what is
+    wrong with its names."""
     name, where, text = rule
     wrong = []
     print("%s: %s\n    %-10s %s" % (name, text, "page", where))
@@ -225,11 +225,11 @@ def main():
                 wrong.append("%s: [%s] stands at %s too" % (rule[1], rule[0], rules[rule[0]]))
             rules[rule[0]] = rule[1]
             if not wanted or any(is_about(rule, words) for words in wanted):
-                lacking, false = show(rule, names_of.get(rule[0], []), rule[0] in wanted)
+                lacking, false = show(rule, names_of.get(rule[0], []), bool(wanted))
                 shown += 1
                 gaps, wrong = gaps + lacking, wrong + false
     if wanted and not shown:
-        wrong.append("there is no rule about %s" % ", ".join(wanted))
+        wrong.append("there is no rule about %s; a part of a word finds more, as hid for hides and hidden" % ", ".join(wanted))
     for it in gaps + wrong:
         print(it)
     print("%d rules, gaps: %d, wrong: %d" % (len(rules), len(gaps), len(wrong)))

@@ -114,8 +114,9 @@ fn lead_in(
     }
 }
 
-/// A tunnel goes back by what is popped: void leads to after its call, a target to the very place that it names. `StackEmpty`
-/// where nothing is there to be popped, `BadPop` for another value, `BadTarget` for a target that leads nowhere.
+/// A tunnel goes back by what is popped: void leads to after its call, a target to the very place that it names; `return_frame` of
+/// ink_moves then pops its frame and goes there. `StackEmpty` where nothing is there to be popped, `BadPop` for another value,
+/// `BadTarget` for a target that leads nowhere.
 #[inline(never)]
 pub(crate) fn return_tunnel(
     story: &Story,
@@ -136,8 +137,9 @@ pub(crate) fn return_tunnel(
     Ok(())
 }
 
-/// Where a tunnel that is given a value goes back to: void leads to after its call, a target to the very place that it names.
-/// `BadPop` for another value, `BadTarget` for a target that leads nowhere.
+/// Where a tunnel that is given a value goes back to: void leads to after its call, a target to the very place that it names, which
+/// `landing_on` takes as it is. `BadPop` for another value, `BadTarget` for a target that leads nowhere. The result is that of the
+/// definition, with spots for places (`led_back_as`).
 fn returned_to(story: &Story, value: &Value) -> Result<Option<Landing>, Fault>
     ensures { let s = story_tree story.now in led_back_as s result ≡ return_landing s value.now }
 {

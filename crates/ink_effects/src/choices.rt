@@ -67,7 +67,8 @@ pub(crate) fn offer(
     }
 }
 
-/// Whether the container for whose visits a content asks was visited; what is not counted was not.
+/// Whether the container for whose visits a content asks was visited; what is not counted was not. Of a choice point that is the
+/// definition's `was_visited`: it asks for the very container to which its path leads where it is offered once only, and else for none.
 fn was_visited(story: &Story, here: Spot, counts: &Counts) -> bool
     ensures { let s = story_tree story.now in result ≡ is_visited (visits_in s (counts_in s counts.now.rows) (counted_container s (place_of s here))) }
 {

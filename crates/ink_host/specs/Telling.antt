@@ -74,6 +74,7 @@ log_of state w = (state w).log
 abbrev pub rests : {W : Type 0} → (W → Watching) → W → Bool
 rests state w = (state w).resting
 
--- Between two states of the watchers there was one round, with these changes, and these answers of those that were told.
+-- Between two states of the watchers there was one round: those of the first changes were begun and ended, and the second, which are
+-- those of them that somebody watches, were told, with these answers. A player has one list for both.
 abbrev pub IsRound : {W : Type 0} → (W → Watching) → ℕ → List Change → List Change → List Bool → Rows W → Rows W → Type 0
 IsRound state n cs told answers old new = each (λ m w. state w) new ≡ round n cs told answers (each (λ m w. state w) old)

@@ -34,7 +34,8 @@ pub(crate) struct First {
 }
 
 /// What the marks so far leave to decide: whether there is a text, whether glue and a newline stand behind the last one,
-/// and what of these may still be hidden.
+/// and what of these may still be hidden. In contracts `Tracks before tracker settled` says that it is so: whatever marks follow
+/// `before`, the newlines of `settled` show (Text/Shown.antt), and the one that waits here shows where those marks do not hide it.
 #[derive(Clone, Copy)]
 pub(crate) struct Tracker {
     pub(crate) text: bool,

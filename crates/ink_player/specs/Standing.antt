@@ -69,8 +69,8 @@ all_told (Acts events) = Some true
 all_told (Breaks OutOfMemory events) = Some false
 all_told reply = None
 
--- One round told the watchers these changes, with stamps from n on, and these events came of it; all: no watcher was without
--- memory. Or nothing was done to them.
+-- One round (`round` of ink_host's Telling.antt) told the watchers these changes, each once, with stamps from n on, and these events
+-- came of it; all: no watcher was without memory. Or nothing was done to them.
 abbrev pub TellsOnce : {O : Type 0} → (O → Watching) → ℕ → List Change → Option Bool → List Event → Rows O → Rows O → Type 0
 TellsOnce state n cs (Some all) saw old new = (t : ToldAs n cs all saw) × IsRound state n cs cs t.answers old new
 TellsOnce state n cs None saw old new = (saw ≡ []) × (each (λ m w. state w) new ≡ each (λ m w. state w) old)

@@ -230,6 +230,7 @@ impl<P: PureFn, F: TurnFn, O: Watcher> Player<P, F, O> {
             Ok(passage) => passage,
             Err(fault) => return Err(break_by(&mut self.desk, &mut self.broken, fault)),
         };
+        // The one round of this command: each watched global with another value than at its start is told once.
         match tell_changed(&mut self.desk, &self.machine) {
             Ok(all) => end_run(&mut self.desk, &mut self.broken, passage, all),
             Err(AllocError) => Err(break_by(&mut self.desk, &mut self.broken, Fault::OutOfMemory)),

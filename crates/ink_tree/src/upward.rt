@@ -24,7 +24,8 @@ impl Tree {
     ghost use Rattle.ink_tree.specs.Nodes.{story_tree, node_place, place_of, AreNodes};
 
     /// The containers around a landing place that a landing there enters, the nearest first; `previous` is the place from
-    /// which flow comes. The one error is a refused request for memory, which is not made for up to eight containers.
+    /// which flow comes. The one error is a refused request for memory, which is not made for up to eight containers. The player asks
+    /// for them one by one, by `upward` and `next_entered` (`enter_landed` of ink_effects).
     pub fn entered(
         &self,
         previous: Option<Spot>,
@@ -44,7 +45,8 @@ impl Tree {
         Ok(entered)
     }
 
-    /// The walk upward from a landing place, which `next_entered` goes on. Takes no memory.
+    /// The walk upward from a landing place, which `next_entered` goes on. In contracts `still_entered` lists what a walk has still to
+    /// enter; at its beginning that is all that the landing enters. Takes no memory.
     #[inline(always)]
     pub fn upward(&self, at: Spot) -> Upward
         ensures { (previous : Option (List Step)) → still_entered (story_tree self.now) previous result ≡ entered_places (story_tree self.now) previous (place_of (story_tree self.now) at) }
@@ -60,7 +62,8 @@ impl Tree {
     }
 
     /// The next container that the landing enters, as the node of the walk up to it; none where it enters no more. `previous`
-    /// is the place from which flow comes. Takes no memory.
+    /// is the place from which flow comes. `EntersNext` says so: it is the first that is `still_entered`, and the others are what is
+    /// left. Takes no memory.
     pub fn next_entered(&self, previous: Option<Spot>, rest: Upward) -> Option<Upward>
         ensures { EntersNext (story_tree self.now) (option_map (place_of (story_tree self.now)) previous) rest result }
     {

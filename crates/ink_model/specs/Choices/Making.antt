@@ -85,7 +85,8 @@ choice_text o = trimmed_text (o.start.text ++ o.choice_only.text)
 abbrev pub choice_tags : Operands → List (List ℕ)
 choice_tags o = o.start.tags ++ o.choice_only.tags
 
--- A choice is made, unless its condition is false, or it is offered once only and the container that its path leads to was visited.
+-- A choice is made, unless its condition is false, or it is offered once only and the container that its path leads to was visited
+-- (`visited`, by `was_visited` of Run/Step/Choices.antt).
 abbrev pub is_offered : ℕ → Bool → Bool → Bool
 is_offered flags visited condition = condition && not (is_once_only flags && visited)
 

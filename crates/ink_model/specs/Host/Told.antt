@@ -23,7 +23,8 @@ is_told watches start e = watches e.0 && is_other (stored e.0 start) e.1
 abbrev pub change_of : List ℕ × Value → Change
 change_of e = record { name = e.0; value = e.1 }
 
--- what is told of these values, in their order, by what is watched and the values at the start
+-- What is told of these values, in their order, by what is watched and the values at the start. They have one row for each name
+-- (`store` of Variables/Store.antt), so that each global is told once.
 abbrev pub told : (List ℕ → Bool) → Values → Values → List Change
 told watches start now = map change_of (filter (is_told watches start) now)
 

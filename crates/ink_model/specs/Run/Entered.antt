@@ -21,7 +21,7 @@ flags_at None = 0
 flags_at (Some (leaf l)) = 0
 flags_at (Some (container own flags content named)) = flags
 
--- only entry at the start counts there
+-- its flags have the 4: only entry at the start counts there
 abbrev pub starts_only : StoryTree → List Part → Bool
 starts_only s p = counts_at_start (flags_at (at s p))
 

@@ -9,7 +9,8 @@ use Rattle.ink_model.specs.declared.mark.Mark.TheVariants.{Text, Blank, Newline,
 
 -- ---- glue
 
--- a Glue comes, with no Text before it: so it glues what follows marks before, and what stands before marks after
+-- A Glue comes before any Text. Of marks before, the nearest first, it glues what stands behind them; of marks after, what stands
+-- before them.
 abbrev pub glued : List Mark → Bool
 glued [] = false
 glued (Text t ∷ ms) = false

@@ -22,7 +22,8 @@ call k s p seen to conditional f = where_true conditional f (call_to k s p seen 
 abbrev pub return_function : Fields → Effect
 return_function f = Returns Function None f
 
--- where a tunnel leads back to by what it gives: void is after its call, a target the very place that it names
+-- Where a tunnel leads back to by what it gives: void is after its call, a target the very place that it names. `returned` of
+-- Flow/Transfers.antt pops its frame and goes there.
 abbrev pub return_landing : StoryTree → Value → Result (Option Landing) Fault
 return_landing s value.Void = Ok None
 return_landing s (value.Target path) = ok_or (option_map (λ l. Some l) (landing_by s (value.Target path))) BadTarget

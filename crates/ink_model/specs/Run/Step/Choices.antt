@@ -26,7 +26,7 @@ module _ (s : StoryTree) (p : List Part) (seen : Context) where
   visited_at None = false
   visited_at (Some q) = is_visited (visits_at s seen q)
 
-  -- the very container to which its path leads was visited, where a choice is offered once only
+  -- a choice is offered once only, and the very container to which its path leads was visited; of any other this is false
   abbrev pub was_visited : List ℕ → ℕ → Bool
   was_visited text flags = visited_at (leaf_counted s p (leaves.Choice text flags))
 

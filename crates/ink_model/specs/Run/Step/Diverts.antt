@@ -21,8 +21,8 @@ use Rattle.ink_model.specs.declared.value.Value.TheVariants as value
 abbrev pub path_of : List ℕ → Path
 path_of text = unwrap_or (read_path text) (record { relative = false; parts = [] })
 
--- A target that was read from a variable leads to the very place that it names. Containers around that are entered only where
--- its path ends in an index.
+-- A target that was read from a variable, or given to `->->`, leads to the very place that it names. Containers around that are
+-- entered only where its path ends in an index.
 abbrev pub landing_by : StoryTree → Value → Option Landing
 landing_by s (value.Target path) = option_map (λ q. record { place = q; enters = ends_in_index path.parts }) (target s [] path)
 landing_by s v = None
