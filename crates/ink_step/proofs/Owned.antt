@@ -1,5 +1,5 @@
 -- What is noted of a machine's own fields.
-use Rattle.std.proofs.Common.{◌≡◌, ◌∙◌, ◌≤◌, ◌+◌, ℕ, [], ◌++◌, ap, append_assoc, arith, length, refl, subst, sym}
+use Rattle.std.proofs.Common.{◌≡◌, ◌∙◌, ◌≤◌, ◌+◌, ℕ, [], ◌++◌, ap, append_assoc, arith, subst, sym}
 use Rattle.std.proofs.lemmas.List.{length-append}
 use Rattle.ink_step.specs.Marks.{NotesOwn, Own, own_back}
 use Rattle.ink_step.specs.declared.own.OwnPair.{OwnPair}
