@@ -238,6 +238,23 @@ fn ready_for_one<P: Copy>(
         return Err(Fault::TooDeep);
     }
     items.reserve(1)?;
+    if trail.is_marked() {
+        return note_added(trail);
+    }
+    Ok(())
+}
+
+// Notes that a choice is added. It is a call of its own, so that no pair is made where no mark stands. The one error is
+// `OutOfMemory` for a refused request for memory, and then nothing has changed.
+#[cold]
+#[inline(never)]
+fn note_added<P: Copy>(trail: &mut Trail<ChoicePair<P>>) -> Result<(), Fault>
+    ensures undo { OnOk result (trail.new.undo ≡ with_pair ChoicePair.Added 1 trail.old.undo) }
+    ensures room { trail.old.room ≤ trail.new.room + 1 }
+    ensures spare { spare trail.old ≤ spare trail.new + 1 }
+    ensures err { IfErr result (λ f. f ≡ Fault.OutOfMemory) }
+    ensures kept { OnErr result (KeepsTrail trail.old trail.new) }
+{
     trail.add(ChoicePair::Added, 1)?;
     Ok(())
 }

@@ -79,6 +79,12 @@ answer_of meaning None arguments = None
 answer_of meaning (Some (bound.Pure p)) arguments = meaning p arguments
 answer_of meaning (Some (bound.Turn t)) arguments = None
 
+-- whether the pure function that is bound to a name may find no memory for its answer
+abbrev pub lacks_of : {P T : Type 0} → (P → List Value → Bool) → Option (Bound P T) → List Value → Bool
+lacks_of may_lack None arguments = false
+lacks_of may_lack (Some (bound.Pure p)) arguments = may_lack p arguments
+lacks_of may_lack (Some (bound.Turn t)) arguments = false
+
 -- a name is among others
 abbrev pub among : List (List ℕ) → List ℕ → Bool
 among [] name = false

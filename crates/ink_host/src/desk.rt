@@ -1,12 +1,12 @@
 //! The desk: what a host has bound and who watches, and what happened.
 
-ghost use Rattle.std.specs.Prelude.{◌≡◌, ◌⊎◌, [], ◌∷◌, List, None, Some, Ok, Err, option_map, string_bytes, IfOk, IfErr, OnOk, OnErr};
+ghost use Rattle.std.specs.Prelude.{◌≡◌, ◌⊎◌, [], ◌∷◌, List, None, Some, Ok, Err, option_map, string_bytes, true, IfOk, IfErr, OnOk, OnErr};
 ghost use Rattle.ink_model.specs.Host.Bindings.{shares};
 ghost use Rattle.ink_model.specs.declared.fault.Fault.TheVariants as fault;
 ghost use Rattle.ink_model.specs.declared.host.Event.{Event as Happening};
 ghost use Rattle.ink_model.specs.declared.host.Event.TheVariants as event;
 ghost use Rattle.ink_model.specs.declared.host.Given.{Given as Answer};
-ghost use Rattle.ink_host.specs.Desk.{DeskView, Grew, answer_of, at, counted, empty_desk, has_rows, kind_of, put, refusals_at, entries_as_rows, without};
+ghost use Rattle.ink_host.specs.Desk.{DeskView, Grew, answer_of, at, counted, empty_desk, has_rows, kind_of, lacks_of, put, refusals_at, entries_as_rows, without};
 ghost use Rattle.ink_host.specs.Desk as view;
 ghost use Rattle.ink_host.specs.Telling.{log_of};
 ghost use Rattle.ink_host.specs.declared.objects.Bound.TheVariants as bound;
@@ -156,11 +156,12 @@ impl<P, T, W> Desk<P, T, W> {
 
 impl<P: PureFn, T, W> Desk<P, T, W> {
     /// Asks the pure function that a name is bound to. `HostRefused` where it has no answer to these arguments, `OutOfMemory`
-    /// where it was refused memory.
+    /// where it was refused memory, which it says of itself.
     pub fn ask(&self, name: &str, arguments: &[Value]) -> Result<Given, Fault>
         requires { (p : P) × (at name.now self.now.functions ≡ Some (bound.Pure p)) }
         ensures answer { (g : Answer) → result ≡ Ok g → answer_of P.meaning (at name.now self.now.functions) arguments.now ≡ Some g }
         ensures refused { result ≡ Err fault.HostRefused → answer_of P.meaning (at name.now self.now.functions) arguments.now ≡ None }
+        ensures memory { result ≡ Err fault.OutOfMemory → lacks_of P.may_lack (at name.now self.now.functions) arguments.now ≡ true }
         ensures faults { IfErr result (λ f. (f ≡ fault.HostRefused) ⊎ (f ≡ fault.OutOfMemory)) }
     {
         match ask_at(&self.functions, name, arguments) {

@@ -5,6 +5,7 @@ ghost use Rattle.ink_model.specs.declared.host.Given.{Given as Answer};
 ghost use Rattle.ink_model.specs.declared.host.HostFault.TheVariants as fault;
 ghost use Rattle.ink_model.specs.declared.value.Value.{Value as Data};
 ghost use Rattle.ink_host.specs.declared.objects.Called.{Called as Call};
+ghost use Rattle.ink_host.specs.declared.objects.Seen.{Seen as Sight};
 ghost use Rattle.ink_host.specs.Desk.{refusals_after};
 ghost use Rattle.ink_host.specs.Telling.{Watching, begun, round_ended, refused, change_taken};
 
@@ -46,10 +47,14 @@ pub trait PureFn {
     /// What it answers to arguments, which is nothing where it refuses them.
     ghost meaning: { Self → List Data → Option Answer };
 
+    /// To which arguments it may find no memory for its answer: to any, where it says nothing of it.
+    ghost may_lack: { Self → List Data → Bool } = { λ function arguments. true };
+
     /// Answers. `Refused` where it has no answer to these arguments, `OutOfMemory` where it was refused memory.
     fn ask(&self, arguments: &[Value]) -> Result<Given, HostFault>
         ensures answer { (g : Answer) → result ≡ Ok g → meaning self.now arguments.now ≡ Some g }
-        ensures refused { result ≡ Err fault.Refused → meaning self.now arguments.now ≡ None };
+        ensures refused { result ≡ Err fault.Refused → meaning self.now arguments.now ≡ None }
+        ensures memory { result ≡ Err fault.OutOfMemory → may_lack self.now arguments.now ≡ true };
 }
 
 /// A function that may act. It is called once for each time that the story comes to it.
@@ -79,10 +84,11 @@ pub trait Watcher {
         ensures { state self.new ≡ begun (state self.old) };
 
     /// A global has a new value. The one error is a refused request for memory, and then it was not told. Without `begin` before
-    /// it, this call promises nothing.
+    /// it, this call promises only that nothing is forgotten which was told before.
     fn changed(&mut self, stamp: u64, name: &str, value: &Value) -> Result<(), AllocError>
         ensures told { (state self.old).resting ≡ false → OnOk result (state self.new ≡ change_taken (record { stamp = stamp; name = name.now; value = value.now }) (state self.old)) }
-        ensures untold { (state self.old).resting ≡ false → OnErr result (state self.new ≡ refused (state self.old)) };
+        ensures untold { (state self.old).resting ≡ false → OnErr result (state self.new ≡ refused (state self.old)) }
+        ensures kept { (more : List Sight) × ((state self.new).log ≡ (state self.old).log ++ more) };
 
     /// All is told.
     fn end(&mut self)

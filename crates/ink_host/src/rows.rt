@@ -5,7 +5,7 @@ ghost use Rattle.ink_model.specs.Host.Events.{after};
 ghost use Rattle.ink_model.specs.declared.host.Event.TheVariants as event;
 ghost use Rattle.ink_model.specs.declared.host.Given.{Given as Answer};
 ghost use Rattle.ink_model.specs.declared.host.HostFault.TheVariants as fault;
-ghost use Rattle.ink_host.specs.Desk.{answer_of, at, by_log, called, each, logs, noting, put, refusals_after, refusals_at, refusals_of, entries_as_rows, without};
+ghost use Rattle.ink_host.specs.Desk.{answer_of, at, by_log, called, each, lacks_of, logs, noting, put, refusals_after, refusals_at, refusals_of, entries_as_rows, without};
 ghost use Rattle.ink_host.specs.declared.objects.Bound.TheVariants as bound;
 
 use crate::objects::{Bound, PureFn, TurnFn};
@@ -64,6 +64,7 @@ pub(crate) fn ask_at<P: PureFn, T>(
     requires { (p : P) × (at name.now (entries_as_rows string_bytes (λ b. b) functions.now.entries) ≡ Some (bound.Pure p)) }
     ensures answer { (g : Answer) → result ≡ Ok g → answer_of P.meaning (at name.now (entries_as_rows string_bytes (λ b. b) functions.now.entries)) arguments.now ≡ Some g }
     ensures refused { result ≡ Err fault.Refused → answer_of P.meaning (at name.now (entries_as_rows string_bytes (λ b. b) functions.now.entries)) arguments.now ≡ None }
+    ensures memory { result ≡ Err fault.OutOfMemory → lacks_of P.may_lack (at name.now (entries_as_rows string_bytes (λ b. b) functions.now.entries)) arguments.now ≡ true }
 {
     match functions.get(name) {
         Some(Bound::Pure(function)) => function.ask(arguments),

@@ -11,6 +11,12 @@ const SLOTS: usize = 512;
 /// The longest text that is remembered: lines that are longer seldom come again.
 const LONGEST: usize = 64;
 
+/// What is mixed so far is multiplied by this odd number, so that the order counts.
+const STEP: u64 = 37;
+
+/// An odd number whose bits are without order: of what is multiplied by it the uppermost bits come of all that it was.
+const SPREAD: u64 = 0x9e37_79b9_7f4a_7c15;
+
 /// Texts that were kept, by a few bytes of each: one that comes again soon is shared. Nothing rests on which are remembered.
 #[derive(Drop)]
 pub(crate) struct Texts {
@@ -87,21 +93,32 @@ impl Texts {
     }
 }
 
-// The slot of a text.
+// The slot of a text, by its length and the bytes at both its ends.
 fn slot(text: &str) -> usize {
     let bytes = text.as_bytes();
-    let len = bytes.len();
-    let mixed = byte(bytes, len / 2)
-        .wrapping_mul(31)
-        .wrapping_add(byte(bytes, len / 4 * 3))
-        .wrapping_mul(31)
-        .wrapping_add(byte(bytes, len.wrapping_sub(1)));
-    mixed.wrapping_add(len) % SLOTS
+    let ends = match (bytes.first_chunk::<8>(), bytes.last_chunk::<8>()) {
+        (Some(first), Some(last)) => mixed(u64::from_le_bytes(*first), u64::from_le_bytes(*last)),
+        _ => few(bytes),
+    };
+    let spread = mixed(ends, bytes.len() as u64).wrapping_mul(SPREAD) >> 32;
+    (spread as usize).wrapping_mul(SLOTS) >> 32
 }
 
-fn byte(bytes: &[u8], index: usize) -> usize {
-    match bytes.get(index) {
-        Some(byte) => *byte as usize,
-        None => 0,
+// The same of fewer than eight bytes.
+fn few(bytes: &[u8]) -> u64 {
+    match (bytes.first_chunk::<4>(), bytes.last_chunk::<4>()) {
+        (Some(first), Some(last)) => mixed(
+            u32::from_le_bytes(*first) as u64,
+            u32::from_le_bytes(*last) as u64,
+        ),
+        _ => {
+            let first = bytes.first().copied().unwrap_or(0);
+            let last = bytes.last().copied().unwrap_or(0);
+            mixed(first as u64, last as u64)
+        }
     }
+}
+
+fn mixed(first: u64, last: u64) -> u64 {
+    first.wrapping_mul(STEP).wrapping_add(last)
 }

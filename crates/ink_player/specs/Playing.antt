@@ -123,6 +123,11 @@ module _ {P F O : Type 0} where
   desk_left (Ok desk) = desk
   desk_left (Err e) = e.desk
 
+  -- the same of a play that ended with its player
+  abbrev pub played : Result (PlayerView P F O) (PlayEnd P F O) → Result (DeskView P F O) (PlayEnd P F O)
+  played (Ok p) = Ok (desk_of p)
+  played (Err e) = Err e
+
   -- the player has it, with no event and the first stamp; or it is handed back as it was
   abbrev pub OpensDesk : DeskView P F O → Result (PlayerView P F O) (PlayEnd P F O) → Type 0
   OpensDesk desk (Ok p) = desk_of p ≡ anew desk

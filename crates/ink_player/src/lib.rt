@@ -21,5 +21,5 @@ pub use ink_model::{
 };
 pub use ink_protocol::{Counting, ReadFailed, RunFault, Sink, Source, WriteFailed, print_values};
 pub use player::{OpenFault, Player};
-pub use playing::{open_story, play, serve_story};
+pub use playing::{open_story, play, serve_story, serve_to_end};
 pub use session::{run, serve};

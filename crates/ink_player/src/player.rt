@@ -596,6 +596,13 @@ impl<P: PureFn, F: TurnFn, O: Watcher> Player<P, F, O> {
         self.broken
     }
 
+    /// No effect at run time. A proof reads from it that no event waits on the desk between calls.
+    pub(crate) fn has_no_events(&self)
+        ensures { (desk_of self.now).events ≡ [] }
+    {
+        let _desk = &self.desk;
+    }
+
     /// Ends the player and hands its desk back, with no event on it. Takes no memory.
     pub fn close(self) -> Desk<P, F, O>
         ensures desk { result ≡ desk_of self }

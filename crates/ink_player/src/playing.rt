@@ -6,7 +6,7 @@ ghost use Rattle.ink_host.specs.Desk.{Resting};
 ghost use Rattle.ink_host.specs.Telling.{rests};
 ghost use Rattle.ink_model.specs.Story.Acceptance as rules;
 ghost use Rattle.ink_player.specs.Ends.{PlayEndsOnce, play_reads_fail, play_writes_fail};
-ghost use Rattle.ink_player.specs.Playing.{IsRefused, Opens, OpensDesk, Plays, desk_left, play_fault};
+ghost use Rattle.ink_player.specs.Playing.{IsRefused, Opens, OpensDesk, Plays, desk_left, play_fault, played};
 ghost use Rattle.ink_player.specs.Standing.{bindings};
 ghost use Rattle.ink_protocol.specs.Ends.{Reports};
 
@@ -59,6 +59,26 @@ pub fn serve_story<S: Source, T: Sink, P: PureFn, F: TurnFn, O: Watcher>(
     ensures ends { PlayEndsOnce (S.remaining source.old) (S.remaining source.new) result (S.ends source.old) (S.ends source.new) }
     ensures sink { Reports (play_writes_fail result) (T.failures sink.old) (T.failures sink.new) (T.name sink.old) (T.name sink.new) }
 {
+    match serve_to_end(alloc, source, sink, desk) {
+        Ok(player) => Ok(player.close()),
+        Err(end) => Err(end),
+    }
+}
+
+/// Plays a story as `serve_story` does, and hands back the player, which has the desk: a program that ends here need not let go of
+/// what the player holds. At an error the desk is handed back.
+pub fn serve_to_end<S: Source, T: Sink, P: PureFn, F: TurnFn, O: Watcher>(
+    alloc: Global,
+    source: &mut S,
+    sink: &mut T,
+    desk: Desk<P, F, O>,
+) -> Result<Player<P, F, O>, PlayEnd<P, F, O>>
+    ensures plays { Plays F.log F.refusals O.state (bindings P.meaning desk) desk (S.remaining source.old) (S.remaining source.new) (T.contents sink.old) (T.contents sink.new) (played result) }
+    ensures rest { Resting (rests O.state) desk.watchers → Resting (rests O.state) (desk_left (played result)).watchers }
+    ensures source { Reports (play_reads_fail (played result)) (S.failures source.old) (S.failures source.new) (S.name source.old) (S.name source.new) }
+    ensures ends { PlayEndsOnce (S.remaining source.old) (S.remaining source.new) (played result) (S.ends source.old) (S.ends source.new) }
+    ensures sink { Reports (play_writes_fail (played result)) (T.failures sink.old) (T.failures sink.new) (T.name sink.old) (T.name sink.new) }
+{
     let mut ahead = Ahead::new(MAX_INPUT);
     let line = match next_line(Vec::new(alloc), &mut ahead, source, MAX_STORY) {
         Ok(line) => line,
@@ -74,17 +94,23 @@ pub fn serve_story<S: Source, T: Sink, P: PureFn, F: TurnFn, O: Watcher>(
                 Err(end) => return Err(end),
             };
             let outcome = serve_lines(alloc, &mut ahead, source, sink, &mut player);
-            let desk = player.close();
             match outcome {
-                Ok(()) => Ok(desk),
-                Err(fault) => Err(PlayEnd {
-                    fault: PlayFault::Run(fault),
-                    desk,
-                }),
+                Ok(()) => {
+                    // No effect at run time: a proof reads from it that no event waits on the desk.
+                    player.has_no_events();
+                    Ok(player)
+                }
+                Err(fault) => {
+                    let desk = player.close();
+                    Err(PlayEnd {
+                        fault: PlayFault::Run(fault),
+                        desk,
+                    })
+                }
             }
         }
         Line::Last(line) => match open_story(alloc, &line, desk) {
-            Ok(player) => Ok(player.close()),
+            Ok(player) => Ok(player),
             Err(end) => Err(end),
         },
     }

@@ -16,6 +16,7 @@ pub mod Framing
 pub mod Staling
 pub mod Holding
 pub mod Backs
+pub mod Counting
 pub mod Unmarked
 pub mod Keeping
 pub mod Tops

@@ -149,17 +149,24 @@ impl<P: Copy> Frame<P> {
         self.header.enter = None;
     }
 
-    /// A copy. The one error is a refused request for memory, which a frame without temporaries never makes.
+    /// A copy of its temporaries. The one error is a refused request for memory, which none never make.
     #[inline(always)]
-    pub(crate) fn clone_in(&self, alloc: Global) -> Result<Frame<P>, AllocError>
-        ensures copy { IfOk result (λ copy. copy ≡ self.now) }
+    pub(crate) fn copied_temps(&self, alloc: Global) -> Result<Temps, AllocError>
+        ensures copy { IfOk result (λ copy. copy ≡ self.now.temps) }
         ensures memory { OnErr result (self.now.temps ≢ []) }
     {
-        let temps = self.temps.clone_in(alloc)?;
-        Ok(Frame {
+        self.temps.clone_in(alloc)
+    }
+
+    /// A frame as this one, with these temporaries.
+    #[inline(always)]
+    pub(crate) fn with_temps(&self, temps: Temps) -> Frame<P>
+        ensures { result ≡ record self.now { temps = temps } }
+    {
+        Frame {
             header: self.header,
             temps,
-        })
+        }
     }
 
     /// Whether there are no temporaries.

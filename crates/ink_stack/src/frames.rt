@@ -12,6 +12,7 @@ ghost use Rattle.ink_stack.specs.Temps.{text_of};
 
 use crate::frame::{Frame, Header};
 use crate::lowest::Lowest;
+use crate::spare::{Spare, end_temps, list_for};
 use crate::temps::{TempName, Temps};
 use ink_model::Value;
 use std::alloc::{AllocError, Global};
@@ -37,9 +38,10 @@ impl<P: Drop> Drop for Frames<P> {
         let Frames {
             lowest: _,
             headers: _,
-            temps: _,
+            temps,
             alloc: _,
         } = self;
+        end_temps(temps);
     }
 }
 
@@ -82,12 +84,12 @@ impl<P: Copy> Frames<P> {
         let _ = &self.headers;
     }
 
-    /// A copy, in the memory of a spare list where that is large enough. The one error is a refused request for memory.
+    /// A copy, in the memory of spare lists where these are large enough. The one error is a refused request for memory.
     #[inline(always)]
     pub(crate) fn clone_over(
         &self,
         alloc: Global,
-        spare: &mut Vec<Header<P>>,
+        spare: &mut Spare<P>,
     ) -> Result<Frames<P>, AllocError>
         ensures copy { IfOk result (λ copy. copy.items ≡ self.now.items) }
         ensures memory { OnErr result (self.now.items ≢ []) }
@@ -95,12 +97,10 @@ impl<P: Copy> Frames<P> {
         if self.len() == 0 {
             return Ok(Frames::new(alloc));
         }
-        let mut headers = mem::replace(spare, Vec::new(alloc));
-        headers.clear();
+        let mut headers = list_for(alloc, &mut spare.headers, self.len())?;
         headers.extend_from_slice(self.headers.as_slice())?;
-        headers.reserve(self.lowest.len())?;
         let lowest = self.lowest.share()?;
-        let temps = copied(alloc, self.temps.as_slice())?;
+        let temps = copied(alloc, self.temps.as_slice(), &mut spare.temps)?;
         Ok(Frames {
             lowest,
             headers,
@@ -286,18 +286,16 @@ impl<P: Copy> Frames<P> {
         }
     }
 
-    /// The frames go, and their list of headers becomes the spare one where it is the larger.
+    /// The frames go, and their lists become spare ones where they are larger.
     #[inline(always)]
-    pub(crate) fn give_list(self, spare: &mut Vec<Header<P>>) {
+    pub(crate) fn give_lists(self, spare: &mut Spare<P>) {
         let Frames {
             lowest: _,
             headers,
-            temps: _,
+            temps,
             alloc: _,
         } = self;
-        if headers.capacity() > spare.capacity() {
-            *spare = headers;
-        }
+        spare.keep(headers, temps);
     }
 
     /// No frame has the number of its Enter any more, of which so many, the lowest ones, do not have it.
@@ -451,14 +449,36 @@ fn fill(alloc: Global, temps: &mut Vec<Temps>, count: usize)
     }
 }
 
-/// Copies of temporaries. The one error is a refused request for memory.
-fn copied(alloc: Global, temps: &[Temps]) -> Result<Vec<Temps>, AllocError>
+/// Copies of temporaries, in the memory of a spare list where that is large enough. The one error is a refused request for memory,
+/// which none never make.
+#[inline(always)]
+fn copied(alloc: Global, temps: &[Temps], spare: &mut Vec<Temps>) -> Result<Vec<Temps>, AllocError>
     ensures copy { IfOk result (λ copies. copies.items ≡ temps.now) }
     ensures memory { OnErr result (temps.now ≢ []) }
 {
-    let mut copies = Vec::with_capacity(alloc, temps.len())?;
+    if temps.is_empty() {
+        return Ok(Vec::new(alloc));
+    }
+    let Ok(list) = list_for(alloc, spare, temps.len()) else {
+        return Err(AllocError);
+    };
+    each_copied(alloc, temps, list)
+}
+
+/// The same of some, in a list without items that has room for them. It is a call of its own, so that where there are none nothing is
+/// called.
+#[inline(never)]
+fn each_copied(alloc: Global, temps: &[Temps], list: Vec<Temps>) -> Result<Vec<Temps>, AllocError>
+    requires none { list.items ≡ [] }
+    requires room { length temps.now ≤ vec_capacity list }
+    ensures { IfOk result (λ copies. copies.items ≡ temps.now) }
+{
+    let mut copies = list;
     for own in temps {
-        copies.push_reserved(own.clone_in(alloc)?);
+        let Ok(copy) = own.clone_in(alloc) else {
+            return Err(AllocError);
+        };
+        copies.push_reserved(copy);
     }
     Ok(copies)
 }

@@ -7,6 +7,7 @@ mod listing;
 mod lowest;
 mod running;
 mod saving;
+mod spare;
 mod temp_rows;
 mod temps;
 mod thread;

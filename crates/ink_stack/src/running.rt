@@ -13,8 +13,9 @@ ghost use Rattle.ink_stack.specs.Quiet.{IsQuiet, Settled};
 ghost use Rattle.ink_stack.specs.Temps.{text_of};
 ghost use Rattle.ink_stack.specs.Outcomes.{Changes, Grows};
 
-use crate::frame::{CallKind, Frame, Header};
+use crate::frame::{CallKind, Frame};
 use crate::frames::Frames;
+use crate::spare::Spare;
 use crate::temps::TempName;
 use ink_model::{Fault, FrameKind, MAX_FRAMES, Value};
 use std::alloc::{AllocError, Global};
@@ -141,24 +142,28 @@ impl<P: Copy> Running<P> {
         ensures copy { IfOk result (λ copy. copy.thread ≡ self.now.thread) }
         ensures memory { OnErr result ((self.now.thread.frame.temps ≢ []) ⊎ (self.now.thread.below ≢ [])) }
     {
-        let mut spare = Vec::new(alloc);
+        let mut spare = Spare::new(alloc);
         self.clone_over(alloc, &mut spare)
     }
 
-    /// The same, in the memory of a spare list where that is large enough.
+    /// The same, in the memory of spare lists where these are large enough.
     #[inline(always)]
     pub(crate) fn clone_over(
         &self,
         alloc: Global,
-        spare: &mut Vec<Header<P>>,
+        spare: &mut Spare<P>,
     ) -> Result<Running<P>, AllocError>
         ensures copy { IfOk result (λ copy. copy.thread ≡ self.now.thread) }
         ensures memory { OnErr result ((self.now.thread.frame.temps ≢ []) ⊎ (self.now.thread.below ≢ [])) }
     {
-        let frame = self.frame.clone_in(alloc)?;
-        let below = self.below.clone_over(alloc, spare)?;
+        let Ok(temps) = self.frame.copied_temps(alloc) else {
+            return Err(AllocError);
+        };
+        let Ok(below) = self.below.clone_over(alloc, spare) else {
+            return Err(AllocError);
+        };
         Ok(Running {
-            frame,
+            frame: self.frame.with_temps(temps),
             below,
             previous: self.previous,
             quiet: self.quiet,
@@ -175,9 +180,9 @@ impl<P: Copy> Running<P> {
         self.below.freeze();
     }
 
-    /// The thread ends, and its list of frames becomes the spare one where it is the larger.
+    /// The thread ends, and its lists of frames become spare ones where they are larger.
     #[inline(always)]
-    pub(crate) fn give_list(self, spare: &mut Vec<Header<P>>) {
+    pub(crate) fn give_lists(self, spare: &mut Spare<P>) {
         let Running {
             frame: _,
             below,
@@ -186,7 +191,7 @@ impl<P: Copy> Running<P> {
             settled: _,
             alloc: _,
         } = self;
-        below.give_list(spare);
+        below.give_lists(spare);
     }
 
     pub(crate) fn go(&mut self, place: Option<P>)

@@ -10,6 +10,7 @@ ghost use Rattle.ink_stack.specs.Undo.{threads_stood};
 use crate::frame::{Frame, Header};
 use crate::frames::Frames;
 use crate::running::Running;
+use crate::spare::Spare;
 use crate::temp_rows::Rows;
 use crate::temps::Temps;
 use crate::thread::Thread;
@@ -188,7 +189,7 @@ impl<P: Copy> Threads<P> {
             running,
             below,
             trail: Trail::new(alloc),
-            spare: Vec::new(alloc),
+            spare: Spare::new(alloc),
             alloc,
         })
     }

@@ -29,9 +29,19 @@ impl Drop for Rows {
     }
 }
 
-// A row goes. It is a call of its own, so that where there are no rows nothing is called.
+// A row goes. Numbers and truths own nothing, so that for them nothing is called.
+#[inline(always)]
+fn end_row(row: (Shared<Text>, Value)) {
+    let (_name, value) = row;
+    match value {
+        Value::Int(_) | Value::Bool(_) => {}
+        value => end_value(value),
+    }
+}
+
+// A value goes. It is a call of its own, so that where it owns nothing nothing is called.
 #[inline(never)]
-fn end_row(_row: (Shared<Text>, Value)) {}
+fn end_value(_value: Value) {}
 
 // A list of rows goes, likewise.
 #[inline(never)]
@@ -81,15 +91,21 @@ impl Rows {
     }
 
     /// A copy of each row. The one error is a refused request for memory, which no rows never make.
-    #[inline(never)]
+    #[inline(always)]
     pub(crate) fn clone_in(&self, alloc: Global) -> Result<Rows, AllocError>
         ensures copy { IfOk result (λ copy. rows_of copy ≡ rows_of self.now) }
         ensures memory { OnErr result (rows_of self.now ≢ []) }
     {
         match self {
             Rows::Empty => Ok(Rows::Empty),
-            Rows::One(row) => Ok(Rows::One(copied(alloc, row)?)),
-            Rows::Many(rows) => Ok(Rows::Many(all_copied(alloc, rows.as_slice())?)),
+            Rows::One(row) => match copied(alloc, row) {
+                Ok(copy) => Ok(Rows::One(copy)),
+                Err(_) => Err(AllocError),
+            },
+            Rows::Many(rows) => match all_copied(alloc, rows.as_slice()) {
+                Ok(copies) => Ok(Rows::Many(copies)),
+                Err(_) => Err(AllocError),
+            },
         }
     }
 
@@ -189,12 +205,29 @@ impl Rows {
 fn copied(alloc: Global, row: &(Shared<Text>, Value)) -> Result<(Shared<Text>, Value), AllocError>
     ensures { IfOk result (λ copy. copy ≡ row.now) }
 {
-    let name = row.0.share()?;
-    let value = row.1.clone_in(alloc)?;
+    let Ok(name) = row.0.share() else {
+        return Err(AllocError);
+    };
+    let Ok(value) = copied_value(alloc, &row.1) else {
+        return Err(AllocError);
+    };
     Ok((name, value))
 }
 
+// A copy of a value. Numbers and truths, which own nothing, are copied where they stand, and others by a call.
+#[inline(always)]
+fn copied_value(alloc: Global, value: &Value) -> Result<Value, AllocError>
+    ensures { IfOk result (λ copy. copy ≡ value.now) }
+{
+    match value {
+        Value::Int(number) => Ok(Value::Int(*number)),
+        Value::Bool(truth) => Ok(Value::Bool(*truth)),
+        _ => value.clone_in(alloc),
+    }
+}
+
 // Copies of rows. The one error is a refused request for memory.
+#[inline(never)]
 fn all_copied(
     alloc: Global,
     rows: &[(Shared<Text>, Value)],

@@ -104,13 +104,10 @@ impl Temps {
         ensures copy { IfOk result (λ copy. copy ≡ self.now) }
         ensures memory { OnErr result (self.now ≢ []) }
     {
-        if self.rows.is_empty() {
-            return Ok(Temps::new(alloc));
+        match self.rows.clone_in(alloc) {
+            Ok(rows) => Ok(Temps { rows, alloc }),
+            Err(_) => Err(AllocError),
         }
-        Ok(Temps {
-            rows: self.rows.clone_in(alloc)?,
-            alloc,
-        })
     }
 
     /// The value of a name, none where there is no such temporary. Takes no memory.

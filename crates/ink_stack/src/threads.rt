@@ -11,10 +11,11 @@ ghost use Rattle.ink_stack.specs.Running.{threads_in};
 ghost use Rattle.ink_stack.specs.Temps.{text_of};
 ghost use Rattle.ink_stack.specs.Undo.{HasGone, HasMode, NotesTemp, threads_back, threads_spare, threads_stood};
 ghost use Rattle.ink_stack.specs.Outcomes.{Changes, Grows};
-ghost use Rattle.ink_trail.specs.Undo.{KeepsTrail, Notes, Trails, TrailsOrKeeps, trail_of, with_pair};
+ghost use Rattle.ink_trail.specs.Undo.{KeepsTrail, Notes, Trails, TrailsOrKeeps, trail_of, with_count, with_pair, writes_of};
 
-use crate::frame::{CallKind, Header};
+use crate::frame::CallKind;
 use crate::running::Running;
+use crate::spare::Spare;
 use crate::temps::TempName;
 use crate::thread::Thread;
 use crate::undo::{ThreadsPair, end_freshness, has_gone, has_mode};
@@ -25,13 +26,13 @@ use std::marker::Model;
 use std::mem;
 
 /// Where flow is: threads, of which there is always one on top, 100 at the most; and while a mark stands, the trail of what they
-/// were. A contract sees those below the top one with the nearest first. The list of frames of a thread that ended is kept as
-/// `spare`, so that the next copy of a thread need not ask for one.
+/// were. A contract sees those below the top one with the nearest first. The lists of frames of a thread that ended are kept as
+/// `spare`, so that the next copy of a thread need not ask for any.
 pub struct Threads<P> {
     pub(crate) running: Running<P>,
     pub(crate) below: Vec<Thread<P>>,
     pub(crate) trail: Trail<ThreadsPair<P>>,
-    pub(crate) spare: Vec<Header<P>>,
+    pub(crate) spare: Spare<P>,
     pub(crate) alloc: Global,
 }
 
@@ -74,7 +75,7 @@ impl<P: Copy> Threads<P> {
             running: Running::new(alloc, place),
             below: Vec::new(alloc),
             trail: Trail::new(alloc),
-            spare: Vec::new(alloc),
+            spare: Spare::new(alloc),
             alloc,
         }
     }
@@ -113,6 +114,7 @@ impl<P: Copy> Threads<P> {
         requires room { 2 ≤ threads_spare self.old }
         ensures threads { self.new.threads ≡ on_top (gone place) self.old.threads }
         ensures trail { Notes threads_back 2 self.old.threads self.old.trail self.new.threads self.new.trail }
+        ensures writes { writes_of self.new.trail.undo ≡ writes_of (with_count 2 self.old.trail.undo) }
         ensures stood { threads_stood self.new ≡ threads_stood self.old }
         ensures spare { threads_spare self.old ≤ threads_spare self.new + 2 }
     {
@@ -132,6 +134,7 @@ impl<P: Copy> Threads<P> {
         requires room { 2 ≤ threads_spare self.old }
         ensures threads { self.new.threads ≡ on_top (gone place) self.old.threads }
         ensures trail { Notes threads_back 2 self.old.threads self.old.trail self.new.threads self.new.trail }
+        ensures writes { writes_of self.new.trail.undo ≡ writes_of (with_count 2 self.old.trail.undo) }
         ensures stood { threads_stood self.new ≡ threads_stood self.old }
         ensures spare { threads_spare self.old ≤ threads_spare self.new + 2 }
     {
@@ -147,6 +150,7 @@ impl<P: Copy> Threads<P> {
         requires gone { HasGone (trail_of self.old.trail.undo) }
         ensures threads { self.new.threads ≡ on_top (gone place) self.old.threads }
         ensures trail { Notes threads_back 2 self.old.threads self.old.trail self.new.threads self.new.trail }
+        ensures writes { writes_of self.new.trail.undo ≡ writes_of (with_count 2 self.old.trail.undo) }
         ensures stood { threads_stood self.new ≡ threads_stood self.old }
         ensures spare { threads_spare self.old ≤ threads_spare self.new + 2 }
     {
@@ -188,6 +192,7 @@ impl<P: Copy> Threads<P> {
         requires room { 1 ≤ threads_spare self.old }
         ensures threads { self.new.threads ≡ on_top (mode_in evaluating) self.old.threads }
         ensures trail { Notes threads_back 1 self.old.threads self.old.trail self.new.threads self.new.trail }
+        ensures writes { writes_of self.new.trail.undo ≡ writes_of (with_count 1 self.old.trail.undo) }
         ensures stood { threads_stood self.new ≡ threads_stood self.old }
         ensures spare { threads_spare self.old ≤ threads_spare self.new + 1 }
     {
@@ -204,6 +209,7 @@ impl<P: Copy> Threads<P> {
         requires room { 1 ≤ threads_spare self.old }
         ensures threads { self.new.threads ≡ on_top (mode_in evaluating) self.old.threads }
         ensures trail { Notes threads_back 1 self.old.threads self.old.trail self.new.threads self.new.trail }
+        ensures writes { writes_of self.new.trail.undo ≡ writes_of (with_count 1 self.old.trail.undo) }
         ensures stood { threads_stood self.new ≡ threads_stood self.old }
         ensures spare { threads_spare self.old ≤ threads_spare self.new + 1 }
     {
@@ -221,6 +227,7 @@ impl<P: Copy> Threads<P> {
         requires mode { HasMode (trail_of self.old.trail.undo) }
         ensures threads { self.new.threads ≡ on_top (mode_in evaluating) self.old.threads }
         ensures trail { Notes threads_back 1 self.old.threads self.old.trail self.new.threads self.new.trail }
+        ensures writes { writes_of self.new.trail.undo ≡ writes_of (with_count 1 self.old.trail.undo) }
         ensures stood { threads_stood self.new ≡ threads_stood self.old }
         ensures spare { threads_spare self.old ≤ threads_spare self.new + 1 }
     {
@@ -417,7 +424,7 @@ impl<P: Copy> Threads<P> {
             return false;
         };
         let ended = mem::replace(&mut self.running, next.run());
-        ended.give_list(&mut self.spare);
+        ended.give_lists(&mut self.spare);
         true
     }
 
@@ -466,8 +473,10 @@ impl<P: Copy> Threads<P> {
         ensures fault { IfErr result (λ f. f ≡ Fault.OutOfMemory) }
         ensures memory { OnErr result ((self.now.threads.thread.frame.temps ≢ []) ⊎ (self.now.threads.thread.below ≢ [])) }
     {
-        let running = self.running.clone_in(self.alloc)?;
-        Ok(Thread { running })
+        match self.running.clone_in(self.alloc) {
+            Ok(running) => Ok(Thread { running }),
+            Err(_) => Err(Fault::OutOfMemory),
+        }
     }
 
     /// What a frame of the top thread has by a name; none where there is no such frame, or the frame has no such name. The
@@ -644,7 +653,7 @@ fn push_copy<P: Copy>(
     alloc: Global,
     running: &Running<P>,
     below: &mut Vec<Thread<P>>,
-    spare: &mut Vec<Header<P>>,
+    spare: &mut Spare<P>,
 ) -> Result<(), Fault>
     requires { length below.old.items < MAX_THREADS }
     ensures threads { Grows (doubled (threads_in running.now below.old.items)) (threads_in running.now below.old.items) (threads_in running.now below.new.items) result }

@@ -1,7 +1,8 @@
 //! The objects that the program binds to names (docs/PROGRAM.md).
 
-ghost use Rattle.std.specs.Prelude.{◌≡◌, bytes_eq, option_map};
+ghost use Rattle.std.specs.Prelude.{◌≡◌, [], bytes_eq, length, map, option_map};
 ghost use Rattle.ink_protocol.specs.Answers.{values_text};
+ghost use Rattle.ink_words.specs.Scripts.{gifts};
 ghost use Rattle.ink_words.specs.Tables.{answer_in};
 
 use ink_host::{PureFn, Recorder, TurnFn};
@@ -13,17 +14,19 @@ use std::alloc::Global;
 #[derive(Drop)]
 pub struct Script {
     answers: Vec<Given>,
-    next: usize,
     noted: Recorder,
     alloc: Global,
+    ghost scripted: { map (λ call. call.gave) noted.log ≡ gifts answers.items (length noted.log) },
 }
 
 impl Script {
     /// A function that was not called yet.
-    pub fn new(alloc: Global, answers: Vec<Given>) -> Script {
+    pub fn new(alloc: Global, answers: Vec<Given>) -> Script
+        ensures answers { result.answers.items ≡ answers.items }
+        ensures calls { result.noted.log ≡ [] }
+    {
         Script {
             answers,
-            next: 0,
             noted: Recorder::new(alloc),
             alloc,
         }
@@ -36,16 +39,15 @@ impl TurnFn for Script {
     ghost refusals = { λ s. s.noted.refusals };
 
     fn call(&mut self, stamp: u64, arguments: &[Value]) -> Result<Given, HostFault> {
+        let turn = self.noted.calls().len();
         let call = self.noted.open(stamp, arguments)?;
-        let Some(given) = self.answers.get(self.next) else {
+        let Some(given) = self.answers.get(turn) else {
             return Err(self.noted.refuse(call));
         };
         let Ok(given) = given.clone_in(self.alloc) else {
             return Err(self.noted.lack());
         };
-        let answer = self.noted.answer(call, given)?;
-        self.next += 1;
-        Ok(answer)
+        self.noted.answer(call, given)
     }
 }
 

@@ -6,7 +6,7 @@
 mod report;
 
 use ink_player::{
-    Counting, Observer, PlayFault, Player, RunFault, Sink, Source, open_story, serve, serve_story,
+    Counting, Observer, PlayFault, Player, RunFault, Sink, Source, open_story, serve, serve_to_end,
 };
 use ink_words::{PlayDesk, Script, Table, read_story_file, read_words, words};
 use report::{refuse_file, refuse_words, tell};
@@ -43,8 +43,11 @@ fn serve_input<S: Source, T: Sink>(
     source: &mut S,
     sink: &mut T,
 ) -> u8 {
-    match serve_story(alloc, source, sink, desk) {
-        Ok(_desk) => SERVED,
+    match serve_to_end(alloc, source, sink, desk) {
+        Ok(player) => {
+            leave(player);
+            SERVED
+        }
         Err(end) => tell(rt, &end.fault),
     }
 }
@@ -88,9 +91,13 @@ fn serve_player<S: Source, T: Sink>(
 ) -> Result<(), RunFault> {
     let mut player = player;
     let outcome = serve(alloc, source, sink, &mut player);
-    // The program ends here, so that nothing of the story and the game has to be walked to be let go.
-    mem::forget(player);
+    leave(player);
     outcome
+}
+
+/// The program ends here, so that nothing of the story and the game has to be walked to be let go.
+fn leave(player: Player<Table, Script, Observer>) {
+    mem::forget(player);
 }
 
 /// The exit status of a session, once its fault is told.

@@ -1,5 +1,5 @@
 use Rattle.std.proofs.Common.{◌∙◌, ap, sym, Some}
-use Rattle.ink_host.specs.Desk.{answer_of}
+use Rattle.ink_host.specs.Desk.{answer_of, lacks_of}
 use Rattle.ink_host.specs.declared.objects.Bound.TheVariants as bound
 use Rattle.ink_host.proofs.Entries.{found, none-not-some, turn-not-pure}
 use Rattle.ink_host.proofs.rows.ask_at.Goals as goal
@@ -15,6 +15,12 @@ returns-clause-refused g c is =
     ap (λ b. answer_of g.P.PureFn.meaning b c.args.arguments.now)
     (sym (found c.args.name.now c.args.functions.now.entries) ∙ sym c.in-Some-Pure.ensures.value ∙ ap Some c.in-Some-Pure.field-0-is)
     ∙ c.ask.ensures.refused is
+
+pub returns-clause-memory : goal.returns-clause-memory
+returns-clause-memory g c is =
+    ap (λ b. lacks_of g.P.PureFn.may_lack b c.args.arguments.now)
+    (sym (found c.args.name.now c.args.functions.now.entries) ∙ sym c.in-Some-Pure.ensures.value ∙ ap Some c.in-Some-Pure.field-0-is)
+    ∙ c.ask.ensures.memory is
 
 pub unreachable-requires : goal.unreachable-requires
 unreachable-requires g c =

@@ -1,6 +1,7 @@
 use Rattle.std.proofs.Common.{◌∙◌, ap, refl, reverse, subst, sym}
 use Rattle.ink_stack.proofs.Common.{reverse-reverse, notes-trails, trail_of, threads_in, HasGone, threads_back}
 use Rattle.ink_stack.proofs.Backs.{spare-noted, stood-noted}
+use Rattle.ink_stack.proofs.Counting.{writes-unmarked}
 use Rattle.ink_stack.proofs.Holding.{held-same}
 use Rattle.ink_stack.proofs.Unmarked.{free}
 use Rattle.ink_stack.proofs.threads.Threads.go.Goals as goal
@@ -13,7 +14,7 @@ pub returns : goal.returns
 returns g c =
     let trail = notes-trails threads_back 2 _ _ _ _ (free 2 _ _ c.self.inside.trail (sym c.is_marked.ensures ∙ c.if-is_marked.false)) in
     let threads = ap (λ v. threads_in v c.self.inside.below.items) c.go.ensures in
-    rw (← c.self.view_is) (record { threads = threads; trail = trail; stood = stood-noted 2 _ _ trail; spare = spare-noted 2 _ _ trail })
+    rw (← c.self.view_is) (record { threads = threads; trail = trail; writes = writes-unmarked 2 _ (sym c.is_marked.ensures ∙ c.if-is_marked.false); stood = stood-noted 2 _ _ trail; spare = spare-noted 2 _ _ trail })
 
 pub go_further-requires : goal.go_further-requires
 go_further-requires g c =
