@@ -1,5 +1,5 @@
 -- What the check of a story comes to, place by place.
-use Rattle.std.proofs.Common.{◌≡◌, ℕ, suc, ◌+◌, ◌-◌, ◌<◌, ◌≤◌, Bool, true, false, List, [], ◌∷◌, ◌++◌, get_or, map, length, take, drop, refl, sym, ap, ap₂, ◌∙◌, arith, Option, Some, None, Ok, Err}
+use Rattle.std.proofs.Common.{◌≡◌, ℕ, suc, ◌+◌, ◌-◌, ◌<◌, ◌≤◌, Bool, true, false, List, [], ◌∷◌, ◌++◌, get_or, map, cond, is_some, length, take, drop, refl, sym, ap, ap₂, ◌∙◌, arith, Option, Some, None, Ok, Err}
 use Rattle.std.specs.Borrow.{Bor}
 use Rattle.std.specs.List.{filter, slice_get}
 use Rattle.std.specs.Option.{option_and_then, option_map, unwrap_or}
@@ -17,7 +17,10 @@ use Rattle.ink_model.specs.declared.fault.Failure.{Failure}
 use Rattle.ink_model.specs.declared.fault.Failure.TheVariants.{OutOfMemory, Refused}
 use Rattle.ink_tree.specs.Nodes.{node_place}
 use Rattle.ink_tree.specs.declared.spot.NodeId.{NodeId}
-use Rattle.ink_check.specs.Names.{names, names_from, variable_of, with_variable}
+use Rattle.ink_names.specs.Names.{number_of}
+use Rattle.ink_names.proofs.Numbers.{number_behind, still}
+use Rattle.ink_check.specs.Links as links
+use Rattle.ink_check.specs.Names.{names, names_from, number_in, variable_number, variable_of, with_name, with_variable}
 use Rattle.ink_check.specs.Outcome.{Follows, IsFirstBad}
 use Rattle.ink_check.specs.declared.link.Link.{Link}
 use Rattle.ink_check.specs.declared.link.Link.TheVariants.{Nothing}
@@ -94,6 +97,46 @@ pub names_next : (s : StoryTree) (n : ℕ) (now new : List (List ℕ)) → n < l
     → names_from s (drop (n + 1) (places s)) new ≡ names s
 names_next s n now new h is so_far =
     ap (names_from s (drop (n + 1) (places s))) is ∙ sym (ap (λ ps. names_from s ps now) (drop_next (places s) n h)) ∙ so_far
+
+-- a name keeps its number where others come
+with_still : (name q : List ℕ) (now : List (List ℕ)) (i : ℕ) → number_of now q ≡ Some i → number_of (with_name name now) q ≡ Some i
+with_still name q now i its = by (is_some (number_of now name))
+  where
+    by : (b : Bool) → number_of (cond b now (now ++ name ∷ [])) q ≡ Some i
+    by true = its
+    by false = still now name q i its
+
+from_still : (s : StoryTree) (ps : List (List Part)) (now : List (List ℕ)) (q : List ℕ) (i : ℕ) → number_of now q ≡ Some i → number_of (names_from s ps now) q ≡ Some i
+from_still s [] now q i its = its
+from_still s (p ∷ ps) now q i its = from_still s ps (with_variable (variable_of (at s p)) now) q i (by (variable_of (at s p)))
+  where
+    by : (variable : Option (List ℕ)) → number_of (with_variable variable now) q ≡ Some i
+    by None = its
+    by (Some name) = with_still name q now i its
+
+-- and a name that came has one
+has_number : (name : List ℕ) (now : List (List ℕ)) → (i : ℕ) × (number_of (with_name name now) name ≡ Some i)
+has_number name now = by (number_of now name) refl
+  where
+    by : (found : Option ℕ) → number_of now name ≡ found → (i : ℕ) × (number_of (cond (is_some found) now (now ++ name ∷ [])) name ≡ Some i)
+    by None absent = (length now, number_behind now name absent)
+    by (Some i) its = (i, its)
+
+numbered : (s : StoryTree) (ps : List (List Part)) (variable : Option (List ℕ)) (now : List (List ℕ))
+    → number_in (with_variable variable now) variable ≡ number_in (names_from s ps (with_variable variable now)) variable
+numbered s ps None now = refl
+numbered s ps (Some name) now =
+    let its = has_number name now in
+    its.1 ∙ sym (from_still s ps (with_name name now) name its.0 its.1)
+
+-- the number of a variable is that among all names
+pub number_next : (s : StoryTree) (n : ℕ) (now new : List (List ℕ)) (l : Link) → n < length (places s)
+    → new ≡ with_variable (variable_of (at s (node_place s (node n)))) now → links.number_of l ≡ number_in new (variable_of (at s (node_place s (node n))))
+    → names_from s (drop n (places s)) now ≡ names s → links.number_of l ≡ variable_number s (node_place s (node n))
+number_next s n now new l h is its so_far =
+    let variable = variable_of (at s (node_place s (node n))) in
+    let all = names_next s n now (with_variable variable now) h refl so_far in
+    its ∙ ap (λ ns. number_in ns variable) is ∙ numbered s (drop (n + 1) (places s)) variable now ∙ ap (λ ns. number_in ns variable) all
 
 -- ---- links
 

@@ -1,5 +1,5 @@
 -- How the check of paths ends.
-use Rattle.std.specs.Prelude.{◌≡◌, ◌⊎◌, ⊤, ℕ, List, true, false, Option, Some, None, Result, Ok, Err}
+use Rattle.std.specs.Prelude.{◌≡◌, ◌⊎◌, ⊤, ℕ, List, Bool, true, false, ◌||◌, Option, Some, None, is_some, Result, Ok, Err}
 use Rattle.ink_model.specs.Story.Acceptance.{accepted, bad_path, content_counted, content_target, good_content, leads}
 use Rattle.ink_model.specs.Story.Grammar.{here}
 use Rattle.ink_model.specs.Story.Path.{ends_in_index, read_path, target}
@@ -8,6 +8,7 @@ use Rattle.ink_model.specs.declared.fault.Cause.TheVariants as cause
 use Rattle.ink_model.specs.declared.fault.Failure.{Failure}
 use Rattle.ink_model.specs.declared.fault.Failure.TheVariants.{OutOfMemory, Refused}
 use Rattle.ink_model.specs.declared.fault.ReadRefusal.{ReadRefusal}
+use Rattle.ink_model.specs.declared.place.Part.{Part}
 use Rattle.ink_model.specs.declared.place.Path.{Path}
 use Rattle.ink_tree.specs.Nodes.{node_place, place_of}
 use Rattle.ink_tree.specs.declared.spot.NodeId.{NodeId}
@@ -22,11 +23,15 @@ Leads s n text (Ok lead) = (path : Path) × (read_path text ≡ Some path) × (t
 Leads s n text (Err OutOfMemory) = ⊥
 Leads s n text (Err (Refused m)) = (m ≡ n) × (leads s (node_place s n) text ≡ None)
 
--- what the written path of a node's content comes to, or the number of its variable; or it is bad; memory is asked for only to keep a path that is pushed
+-- memory is asked for only to keep a path that is pushed, or the name of a variable
+abbrev pub takes_memory : StoryTree → List Part → Option StoryTree → Bool
+takes_memory s p t = keeps_path s p t || is_some (variable_of t)
+
+-- what the written path of a node's content comes to, or the number of its variable; or it is bad
 abbrev pub Follows : StoryTree → List (List ℕ) → NodeId → Option StoryTree → Result Link (Failure NodeId) → Type 0
 Follows s names n t (Ok l) = (good_content s (node_place s n) t ≡ true) × (target_place s l ≡ content_target s (node_place s n) t)
     × (counted_place s l ≡ content_counted s (node_place s n) t) × (pushed_of l ≡ pushed_path t) × (number_of l ≡ number_in names (variable_of t))
-Follows s names n t (Err OutOfMemory) = keeps_path s (node_place s n) t ≡ true
+Follows s names n t (Err OutOfMemory) = takes_memory s (node_place s n) t ≡ true
 Follows s names n t (Err (Refused m)) = (m ≡ n) × (good_content s (node_place s n) t ≡ false)
 
 -- the first bad path of a story

@@ -1,8 +1,8 @@
 //! Accepting a story (docs/STORY_FORMAT.md, "Paths").
 
-ghost use Rattle.std.specs.Prelude.{◌≡◌, ◌⊎◌, [], map, Some, IfOk, IfErr, Ok, Err};
+ghost use Rattle.std.specs.Prelude.{◌≡◌, ◌⊎◌, [], map, Some, IfOk, IfErr, OnOk, Ok, Err};
 ghost use Rattle.ink_check.specs.Links.{counted_place, number_of, pushed_of, pushed_path, target_place};
-ghost use Rattle.ink_check.specs.Names.{names as story_names, variable_number};
+ghost use Rattle.ink_check.specs.Names.{variable_number, variable_of, with_variable};
 ghost use Rattle.ink_check.specs.Outcome.{Follows, IsFirstBad, IsRefusedFor};
 ghost use Rattle.ink_check.specs.Standing.{story_tree};
 ghost use Rattle.ink_json.specs.Story.{tree};
@@ -16,7 +16,6 @@ ghost use Rattle.ink_tree.specs.Nodes as nodes;
 use crate::forms::leaf_link;
 use crate::link::Link;
 use crate::links::Links;
-use crate::names::variable_names;
 use crate::story::Story;
 use ink_json::RawStory;
 use ink_model::{Cause, Failure, ReadRefusal};
@@ -52,13 +51,13 @@ fn written_links(alloc: Global, tree: &Tree) -> Result<Links, Failure<NodeId>>
         IfOk result (λ links. map number_of links ≡ map (variable_number s) (places s)) }
     ensures err { IfErr result (λ failure. IsFirstBad (nodes.story_tree tree.now) failure) }
 {
-    let names = variable_names(alloc, tree)?;
-    links_of(alloc, tree, &names)
+    let mut names = Names::new(alloc);
+    links_of(alloc, tree, &mut names)
 }
 
-// The same, with the names of the story's variables.
-fn links_of(alloc: Global, tree: &Tree, names: &Names) -> Result<Links, Failure<NodeId>>
-    requires { names.now ≡ story_names (nodes.story_tree tree.now) }
+// The same. The names of variables come to these, of which there is none yet.
+fn links_of(alloc: Global, tree: &Tree, names: &mut Names) -> Result<Links, Failure<NodeId>>
+    requires { names.old ≡ [] }
     ensures good { IfOk result (λ _. bad_places (nodes.story_tree tree.now) ≡ []) }
     ensures leading { let s = nodes.story_tree tree.now in
         IfOk result (λ links. map (target_place s) links ≡ map (written_target s) (places s)) }
@@ -80,13 +79,16 @@ fn links_of(alloc: Global, tree: &Tree, names: &Names) -> Result<Links, Failure<
     Ok(links)
 }
 
+// What the path of one content comes to, or the number of its variable, whose name is among the names then.
+#[inline(always)]
 fn node_link(
     alloc: Global,
     tree: &Tree,
-    names: &Names,
+    names: &mut Names,
     node: NodeId,
 ) -> Result<Link, Failure<NodeId>>
-    ensures { let s = nodes.story_tree tree.now in Follows s names.now node (at s (nodes.node_place s node)) result }
+    ensures names { let s = nodes.story_tree tree.now in OnOk result (names.new ≡ with_variable (variable_of (at s (nodes.node_place s node))) names.old) }
+    ensures link { let s = nodes.story_tree tree.now in Follows s names.new node (at s (nodes.node_place s node)) result }
 {
     match tree.leaf(node) {
         Some(leaf) => leaf_link(alloc, tree, names, node, leaf),

@@ -1,55 +1,61 @@
 //! The forms of content that have a path (docs/STORY_FORMAT.md, "Paths").
 
-ghost use Rattle.std.specs.Prelude.{◌≡◌, None, Some, option_map};
+ghost use Rattle.std.specs.Prelude.{◌≡◌, ℕ, List, Some, OnOk, option_map};
 ghost use Rattle.ink_check.specs.Links as links;
-ghost use Rattle.ink_check.specs.Names.{number_in, variable_name};
+ghost use Rattle.ink_check.specs.Names.{variable_name, with_variable};
 ghost use Rattle.ink_check.specs.Outcome.{Follows};
 ghost use Rattle.ink_model.specs.Story.Tree as trees;
+ghost use Rattle.ink_model.specs.declared.content.Leaf.{Leaf as AnyLeaf};
 ghost use Rattle.ink_tree.specs.Nodes.{story_tree};
 
 use crate::leading::{follow, link};
 use crate::link::{Link, Purpose};
-use crate::names::variable;
+use crate::names::{number, variable};
 use ink_model::choice_flags::is_once_only;
 use ink_model::{Destination, Failure, Leaf};
 use ink_names::Names;
 use ink_tree::{NodeId, Tree};
 use std::alloc::Global;
 
-/// What the path of a leaf comes to; of a leaf without one, the number of its variable, if it has one.
+/// What the path of a leaf comes to; of a leaf without one, the number of its variable, if it has one, whose name comes to the
+/// names where it is not among them.
+#[inline(always)]
 pub(crate) fn leaf_link(
     alloc: Global,
     tree: &Tree,
-    names: &Names,
+    names: &mut Names,
     node: NodeId,
     leaf: &Leaf,
 ) -> Result<Link, Failure<NodeId>>
-    ensures { Follows (story_tree tree.now) names.now node (Some (trees.leaf leaf.now)) result }
+    ensures names { OnOk result (names.new ≡ with_variable (variable_name leaf.now) names.old) }
+    ensures link { Follows (story_tree tree.now) names.new node (Some (trees.leaf leaf.now)) result }
 {
-    let Some((text, purpose)) = written(leaf) else {
-        return Ok(variable_link(names, leaf));
-    };
+    if let Some((text, purpose)) = written(leaf) {
+        return path_link(alloc, tree, node, text, purpose);
+    }
+    match variable(leaf) {
+        Some(name) => Ok(Link::Variable(number(alloc, names, name)?)),
+        None => Ok(Link::Nothing),
+    }
+}
+
+// What a path comes to that is written for a purpose.
+#[inline(never)]
+fn path_link(
+    alloc: Global,
+    tree: &Tree,
+    node: NodeId,
+    text: &str,
+    purpose: Purpose,
+) -> Result<Link, Failure<NodeId>>
+    ensures { (names : List (List ℕ)) (leaf : AnyLeaf) → links.written leaf ≡ Some (text.now, purpose)
+        → Follows (story_tree tree.now) names node (Some (trees.leaf leaf)) result }
+{
     let lead = follow(tree, node, text)?;
     match link(alloc, tree, text, lead, purpose) {
         Ok(Some(link)) => Ok(link),
         Ok(None) => Err(Failure::Refused(node)),
         Err(_) => Err(Failure::OutOfMemory),
-    }
-}
-
-// The number of a leaf's variable.
-fn variable_link(names: &Names, leaf: &Leaf) -> Link
-    ensures target { links.target_of result ≡ None }
-    ensures counted { links.counted_of result ≡ None }
-    ensures pushed { links.pushed_of result ≡ None }
-    ensures number { links.number_of result ≡ number_in names.now (variable_name leaf.now) }
-{
-    let Some(name) = variable(leaf) else {
-        return Link::Nothing;
-    };
-    match names.number(name) {
-        Some(number) => Link::Variable(number),
-        None => Link::Nothing,
     }
 }
 

@@ -4,7 +4,9 @@ use Rattle.ink_json.proofs.Common.{Data, null, boolean, number, string, array, o
 use Rattle.json_tape.specs.Other.{has_other}
 use Rattle.json_tape.specs.Value.{json_data, members_of, Entry, members_data}
 use Rattle.json_tape.proofs.Conditions.{both, neither}
-use Rattle.ink_model.specs.Story.Tree.{StoryTree, container, Keyed, no_keys}
+use Rattle.ink_model.specs.Story.Leaves.{string_leaf}
+use Rattle.ink_model.specs.Story.Tree.{StoryTree, leaf, container, Keyed, no_keys}
+use Rattle.ink_model.specs.declared.content.Leaf.{Leaf}
 use Rattle.ink_model.specs.declared.limits.TheConstants.{MAX_NESTING}
 use Rattle.ink_model.specs.Story.Grammar.{here, under, first, own, own_after, is_empty, is_last, are_flags, member_of, name_key, flags_key, flags_of, name_in, name_of, is_misnamed, is_taken, with_name, is_own, content, faults, faults_inside, faults_keyed, faults_by, tree_of, content_of, keyed_in, keyed_last, keyed_by}
 use Rattle.ink_model.specs.declared.fault.Cause.TheVariants.{Shape}
@@ -137,6 +139,15 @@ module _ (version : InkVersion) (nesting i : ℕ) (d e : Data) (ds : Items) (tak
 
   pub element_stops : (error : Failure ReadRefusal) → Fails error (first (map (under (Index i)) (faults version (nesting + 1) (is_misnamed taken d) d)) (tree_of version true d)) → IsFirst error all
   element_stops error given = rw same (fails_first error _ _ (tree_of version true d) given)
+
+-- a word is the leaf that it stands for
+pub word_read : (version : InkVersion) (nesting i : ℕ) (misnamed : Bool) (d : Data) (text : List ℕ) (l : Leaf) → d ≡ string text → string_leaf text ≡ Ok l
+    → first (map (under (Index i)) (faults version nesting misnamed d)) (tree_of version true d) ≡ Ok (leaf l)
+word_read version nesting i misnamed d text l is read = rw (is, read) refl
+
+-- and gives no name
+pub word_names : (d : Data) (text : List ℕ) (taken : List (List ℕ)) → d ≡ string text → with_name taken (name_of d) ≡ taken
+word_names d text taken is = rw is refl
 
 -- ---- the containers by key
 

@@ -1,17 +1,17 @@
 -- The list of a story's nodes, as content is read.
-use Rattle.std.proofs.Common.{◌≡◌, ℕ, suc, ◌+◌, ◌^◌, ◌≤◌, ◌<◌, List, [], ◌∷◌, ◌++◌, length, Bool, true, false, cond, Option, None, Result, Ok, Err, refl, sym, ap, ◌∙◌, append_assoc, arith}
+use Rattle.std.proofs.Common.{◌≡◌, ℕ, suc, ◌+◌, ◌^◌, ◌≤◌, ◌<◌, List, [], ◌∷◌, ◌++◌, length, Bool, true, false, cond, Option, None, Some, Result, Ok, Err, refl, sym, ap, ◌∙◌, append_assoc, arith}
 use Rattle.ink_json.proofs.Common.{length-append, Data, Items, no_items, item, Members, no_members, member, size, items_size, members_size, size_positive, count_keys, Leaf, Part, Index, InkVersion, Node}
 use Rattle.std.specs.Result.{result_unwrap_or}
 use Rattle.json_tape.specs.Value.{json_data, Entry, members_data}
 use Rattle.ink_model.specs.Story.Grammar.{first, leaf_faults, is_own, own_after, tree_of, content_of, keyed_by}
 use Rattle.ink_model.specs.Story.Places.{places, places_from}
-use Rattle.ink_model.specs.Story.Tree.{StoryTree, leaf, container, Trees, Keyed, key, count}
+use Rattle.ink_model.specs.Story.Tree.{StoryTree, leaf, container, Trees, tree, Keyed, key, count}
 use Rattle.ink_model.specs.declared.content.Content.TheVariants as contents
 use Rattle.ink_model.specs.declared.content.Leaf.TheVariants.{Newline}
 use Rattle.ink_model.specs.declared.fault.Cause.{Cause}
 use Rattle.ink_json.specs.Listing.{IsListed, container_node, nodes_of, nodes_from, nodes_by_key, nodes_inside, rebuilt}
 use Rattle.ink_json.specs.Reading.{placed}
-use Rattle.ink_json.proofs.Listing.{listed, many, many_from}
+use Rattle.ink_json.proofs.Listing.{from_more, listed, many, many_from}
 use Rattle.ink_json.proofs.Many.{places_within, under_more}
 
 -- ---- leaves
@@ -63,6 +63,15 @@ inside_listed old l1 l2 number content keyed ks elements named same =
 pub grown : (version : InkVersion) (old new : List Node) (n h : ℕ) (x : Option Part) (listed : Bool) (d : Data) (t : StoryTree) → new ≡ old ++ nodes_of n h x t → tree_of version listed d ≡ t → length new ≤ length old + size d
 grown version old new n h x listed d t is same =
     omega (arith, ap length is, length-append old (nodes_of n h x t), many n h x t, ap (λ u. length (places u)) same, places_within version listed d)
+
+-- one element more
+pub element_listed : (version : InkVersion) (now new whole : List Node) (h i : ℕ) (here next : Data) (left rest : Items) → rest ≡ item next left → (t : StoryTree) → tree_of version true here ≡ t
+    → new ≡ now ++ nodes_of (length now) h (Some (Index i)) t → now ++ nodes_from (length now) h i (content_of version (item here rest)) ≡ whole
+    → new ++ nodes_from (length new) h (i + 1) (content_of version (item next left)) ≡ whole
+element_listed version now new whole h i here next left rest e t is more listed =
+    from_more now new whole h i t (content_of version (item next left))
+    (ap (λ u. now ++ nodes_from (length now) h i (tree u (content_of version (item next left)))) (sym is)
+    ∙ ap (λ ds. now ++ nodes_from (length now) h i (content_of version (item here ds))) (sym e) ∙ listed) more
 
 -- after the elements there is room for the last one
 elements_within : (version : InkVersion) (i : ℕ) (d : Data) (ds : Items) → length (places_from i (content_of version (item d ds))) + size (own_after d ds) ≤ items_size (item d ds)

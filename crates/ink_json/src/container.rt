@@ -17,7 +17,7 @@ ghost use Rattle.ink_json.specs.Size.{FitsLimits};
 
 use crate::error::{ReadFailure, at_index, at_name, refused};
 use crate::last::Last;
-use crate::leaf::{read_number, read_string};
+use crate::leaf::{read_number, read_string, word_in};
 use crate::names::Given;
 use crate::nodes::Nodes;
 use crate::object::read_object_leaf;
@@ -218,8 +218,12 @@ fn read_elements<'t, 'a>(
     let mut left = items;
     let mut index = 0;
     while let Some(next) = left.next() {
-        let misnamed = names.give(label_of(&here))?;
-        read_element(alloc, texts, nodes, number, &here, index, inside, misnamed)?;
+        if let Some(leaf) = word_in(&here) {
+            nodes.push(alloc, number, Last::index(index), Content::Leaf(leaf))?;
+        } else {
+            let misnamed = names.give(label_of(&here))?;
+            read_element(alloc, texts, nodes, number, &here, index, inside, misnamed)?;
+        }
         here = next;
         index += 1;
     }

@@ -1,8 +1,10 @@
 //! Reading content that holds no other.
 
-ghost use Rattle.std.specs.Prelude.{length, nat_lt, Ok, Err, if◌then◌else◌, ok_or};
+ghost use Rattle.std.specs.Prelude.{◌≡◌, ℕ, List, length, nat_lt, IfSome, Ok, Err, if◌then◌else◌, ok_or};
+ghost use Rattle.serde_json.specs.Data.{string};
 ghost use Rattle.serde_json.specs.Find.{as_integer};
 ghost use Rattle.json_tape.specs.Number.{num};
+ghost use Rattle.json_tape.specs.Value.{json_data};
 ghost use Rattle.ink_model.specs.Story.Word.{word};
 ghost use Rattle.ink_model.specs.Story.Leaves.{string_leaf, integer_leaf};
 ghost use Rattle.ink_json.specs.Reading.{Reads, placed};
@@ -13,6 +15,7 @@ use crate::texts::Texts;
 use crate::word::word_leaf;
 use ink_model::{Cause, Leaf, MAX_TEXT};
 use json_tape::Number;
+use json_tape::value::Value;
 use std::alloc::Global;
 
 /// The leaf that a string is.
@@ -43,6 +46,18 @@ fn read_word(alloc: Global, text: &str) -> Result<Leaf, ReadFailure>
     match word_leaf(text) {
         Some(leaf) => Ok(leaf),
         None => Err(refused(alloc, Cause::Unsupported)),
+    }
+}
+
+/// The leaf that a value is which is a word, as most elements are; none where it is none.
+#[inline(always)]
+pub(crate) fn word_in(value: &Value<'_, '_>) -> Option<Leaf>
+    ensures { IfSome result (λ leaf. (text : List ℕ) × (json_data value.now ≡ string text) × (string_leaf text ≡ Ok leaf)) }
+{
+    let text = value.as_str()?;
+    match text.strip_prefix('^') {
+        Some(_) => None,
+        None => word_leaf(text),
     }
 }
 

@@ -7,6 +7,7 @@ ghost use Rattle.ink_json.specs.Words.{evaluation_word, section_word, frame_word
 use ink_model::{Control, Leaf, Op};
 
 /// The leaf that a word stands for.
+#[inline(always)]
 #[tactic(auto, unfolding(ink_model::specs::Story::Word::word))]
 pub(crate) fn word_leaf(text: &str) -> Option<Leaf>
     ensures { result ≡ word text.now }

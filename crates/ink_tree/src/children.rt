@@ -4,6 +4,7 @@ ghost use Rattle.std.specs.Prelude.{◌≡◌, ◌≤◌, ◌*◌, ◌^◌, leng
 ghost use Rattle.std.specs.Int.{IsPowerOfTwo};
 
 use ink_json::{Key, Nodes, compare_parts};
+use ink_model::Content;
 use std::alloc::{AllocError, Global};
 use std::cmp::Ordering;
 
@@ -34,7 +35,7 @@ impl Children {
         ensures { IfOk result (λ children. length children.slots.items ≤ max (8 * length nodes.now) 1024) }
     {
         let mut ends = Vec::from_elem(alloc, 0, nodes.len())?;
-        let named = count_all(nodes, &mut ends);
+        let named = start_all(nodes, &mut ends);
         let mut numbers = Vec::from_elem(alloc, 0, nodes.len())?;
         let mut slots = Vec::from_elem(alloc, 0, slots_for(named))?;
         for number in 1..nodes.len() {
@@ -112,29 +113,26 @@ impl Children {
     }
 }
 
-// Counts the contents in each container, then puts where its block starts in place of the count, and answers how many contents have
-// names.
-fn count_all(nodes: &Nodes, counts: &mut Vec<u32>) -> usize
+// Puts for each content where the block of what is in it starts, and answers how many contents have names.
+fn start_all(nodes: &Nodes, starts: &mut Vec<u32>) -> usize
     ensures { result ≤ length nodes.now }
 {
+    let mut before: usize = 0;
     let mut named: usize = 0;
-    for number in 1..nodes.len() {
-        let node = nodes.at(number);
-        count_up(counts, node.holder() as usize);
-        if let Some(Key::Name(_)) = node.last() {
-            named = named.wrapping_add(1);
+    for number in 0..nodes.len() {
+        note(starts, number, before);
+        if let Content::Container(container) = nodes.at(number).content() {
+            let keys = container.keys as usize;
+            before = before
+                .wrapping_add(container.width as usize)
+                .wrapping_add(keys);
+            named = named.wrapping_add(keys);
         }
     }
-    let mut before: u32 = 0;
-    for start in counts.iter_mut() {
-        let count = *start;
-        *start = before;
-        before = before.wrapping_add(count);
-    }
-    named
+    named.min(nodes.len())
 }
 
-// Notes the number of a content at a place.
+// Notes a number at a place.
 fn note(numbers: &mut Vec<u32>, place: usize, number: usize)
     ensures { length numbers.new.items ≡ length numbers.old.items }
 {

@@ -1,14 +1,16 @@
-use Rattle.std.proofs.Common.{◌≡◌, ◌+◌, ◌++◌, [], true, false, cond, None, Ok, length, refl, ap, ap₂, sym, subst, ◌∙◌, arith}
+use Rattle.std.proofs.Common.{◌≡◌, ◌+◌, ◌++◌, [], map, true, false, cond, None, Some, Ok, length, refl, ap, ap₂, sym, subst, ◌∙◌, arith}
 use Rattle.ink_json.proofs.Common.{append-nil, array, item, items_size, members_size, size_positive, count_keys, Leaf}
 use Rattle.std.proofs.lemmas.Result.{err_from_is_err_and}
 use Rattle.json_tape.specs.Value.{json_data, items_left, members_of, Entry, members_data}
-use Rattle.ink_model.specs.Story.Grammar.{with_name, name_of, name_in, flags_of, own_of, own_after, content, content_of, tree_of, faults_inside, faults_keyed, faults_by, keyed_in, keyed_last, keyed_by, first}
-use Rattle.ink_model.specs.Story.Tree.{container, count, key, tree, no_keys}
-use Rattle.ink_json.specs.Listing.{Lists, nodes_from, nodes_by_key, nodes_inside}
-use Rattle.ink_json.specs.Reading.{IsFirst, is_whole}
-use Rattle.ink_json.proofs.Containers.{own_only, first_ok, fails_first, keyed_takes, container_unsound, container_misnamed, container_takes, container_stops, container_read, keyed_is, keyed_members, last_within, element_goes, element_stops, own_key_faults, key_stops, key_goes}
-use Rattle.ink_json.proofs.Growing.{container_listed, grown, inside_listed, keys_within, last_grown, next_key, opened_listed, opened_room, opened_within, own_key}
-use Rattle.ink_json.proofs.Listing.{by_key_more, from_more}
+use Rattle.ink_model.specs.Story.Grammar.{with_name, name_of, name_in, flags_of, own_of, own_after, is_misnamed, content, content_of, tree_of, faults, faults_inside, faults_keyed, faults_by, keyed_in, keyed_last, keyed_by, first, under}
+use Rattle.ink_model.specs.declared.place.Part.TheVariants.{Index}
+use Rattle.ink_model.specs.Story.Tree.{StoryTree, leaf, container, count, key, no_keys}
+use Rattle.ink_json.specs.Listing.{Lists, nodes_of, nodes_from, nodes_by_key, nodes_inside}
+use Rattle.ink_json.specs.Reading.{Holds, IsFirst, is_whole}
+use Rattle.ink_json.proofs.Containers.{own_only, first_ok, fails_first, keyed_takes, container_unsound, container_misnamed, container_takes, container_stops, container_read, keyed_is, keyed_members, last_within, element_goes, element_stops, own_key_faults, key_stops, key_goes, word_names, word_read}
+use Rattle.ink_json.proofs.Growing.{container_listed, element_listed, grown, inside_listed, keys_within, last_grown, next_key, opened_listed, opened_room, opened_within, own_key}
+use Rattle.ink_json.proofs.Listing.{by_key_more}
+use Rattle.ink_json.proofs.container.+content.Goals.{read_elements-in-Some-word_in+in_ok-push, read_elements-in_default-word_in+in_ok-misnamed+in_ok-read_element}
 use Rattle.ink_json.proofs.container.+content.Goals as goal
 
 pub read_keyed-read_named-requires : goal.read_keyed-read_named-requires
@@ -176,24 +178,36 @@ pub read_elements-loop-next-preserved : goal.read_elements-loop-next-preserved
 read_elements-loop-next-preserved t c =
     let l = c.loop-next in
     let e = c.in-Some.ensures.value in
+    let version = c.args.context.version in
+    let nesting = c.args.context.nesting in
     let here = json_data l.here in
     let next = json_data c.in-Some.next in
     let left = items_left c.next.new.self in
     let names = l.invariant.names in
-    let read = rw (c.in_ok-misnamed.ensures.misnamed names.0 names.1 here c.label_of.ensures, c.inside-inside.ensures.version, c.inside-inside.ensures.nesting) at c.in_ok-read_element.ensures in
-    let same = names.2 ∙ ap (λ ds. faults_inside c.args.context.version c.args.context.nesting l.index names.0 (item here ds)) e in
-    let goes = element_goes c.args.context.version c.args.context.nesting l.index here next left names.0 _ same read.0 read.1 in
     let now = l.nodes in
-    let listed = l.invariant.listed in
+    let read : (u : StoryTree) × (first (map (under (Index l.index)) (faults version (nesting + 1) (is_misnamed names.0 here) here)) (tree_of version true here) ≡ Ok u)
+    × (c.match-word_in.nodes ≡ now ++ nodes_of (length now) c.args.number (Some (Index l.index)) u) × Holds c.match-word_in.names (with_name names.0 (name_of here)) =
+    elim c.match-word_in.branch [
+      | read_elements-in-Some-word_in+in_ok-push w ↦
+          let word = w.in-Some-word_in.ensures in (
+            leaf w.in-Some-word_in.leaf,
+            word_read version (nesting + 1) l.index (is_misnamed names.0 here) here word.0 w.in-Some-word_in.leaf word.1 word.2,
+            w.nodes-is ∙ rw w.index.ensures at w.in_ok-push.ensures,
+            rw (w.names-is, word_names here word.0 names.0 word.1) names.1,
+          )
+      | read_elements-in_default-word_in+in_ok-misnamed+in_ok-read_element w ↦
+          let its = rw (w.in_ok-misnamed.ensures.misnamed names.0 names.1 here w.label_of.ensures, c.inside-inside.ensures.version, c.inside-inside.ensures.nesting) at w.in_ok-read_element.ensures in
+          (its.0, its.1, w.nodes-is ∙ its.2, rw (w.names-is, ← w.label_of.ensures.1) (w.in_ok-misnamed.ensures.given names.0 names.1))
+    ] in
+    let same = names.2 ∙ ap (λ ds. faults_inside version nesting l.index names.0 (item here ds)) e in
+    let goes = element_goes version nesting l.index here next left names.0 _ same read.0 read.1 in
     record {
-      listed = from_more now c.read_element.new.nodes _ c.args.number l.index read.0 (content_of c.args.context.version (item next left))
-          (ap (λ u. now ++ nodes_from (length now) c.args.number l.index (tree u (content_of c.args.context.version (item next left)))) (sym goes.1)
-          ∙ ap (λ ds. now ++ nodes_from (length now) c.args.number l.index (content_of c.args.context.version (item here ds))) (sym e) ∙ listed) read.2;
-      wide = omega (arith, l.invariant.wide, ap (λ ds. count (content_of c.args.context.version (item here ds))) e);
-      names = (with_name names.0 (name_of here), rw c.label_of.ensures.1 at (c.in_ok-misnamed.ensures.given names.0 names.1), goes.0);
+      listed = element_listed version now c.match-word_in.nodes _ c.args.number l.index here next left (items_left l.left) e read.0 goes.1 read.2 l.invariant.listed;
+      wide = omega (arith, l.invariant.wide, ap (λ ds. count (content_of version (item here ds))) e);
+      names = (with_name names.0 (name_of here), read.3, goes.0);
       last = l.invariant.last ∙ ap (own_after here) e;
       within = omega (arith, l.invariant.within, ap items_size e, size_positive here);
-      room = omega (arith, l.invariant.room, ap items_size e, grown c.args.context.version now c.read_element.new.nodes _ _ _ true here read.0 read.2 goes.1);
+      room = omega (arith, l.invariant.room, ap items_size e, grown version now c.match-word_in.nodes (length now) c.args.number (Some (Index l.index)) true here read.0 read.2 goes.1);
     }
 
 -- ---- the containers by key
