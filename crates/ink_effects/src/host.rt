@@ -4,7 +4,7 @@ ghost use Rattle.ink_value.specs.Undo.{stack_spare, stack_stood};
 ghost use Rattle.std.specs.Prelude.{◌≡◌, ◌≤◌, ℕ, List, Bool, Option, Some, Ok, Err, IfOk, IfErr, true, false, is_some, length, option_map, ◌+◌};
 ghost use Rattle.std.specs.List.{list_all};
 ghost use Rattle.ink_check.specs.Standing.{story_tree};
-ghost use Rattle.ink_host.specs.Desk.{Grew, at, bound_by};
+ghost use Rattle.ink_host.specs.Desk.{Grew, StandsAt, at, bound_by, value_at};
 ghost use Rattle.ink_host.specs.Telling.{log_of};
 ghost use Rattle.ink_host.specs.declared.objects.Bound.TheVariants as bound;
 ghost use Rattle.ink_model.specs.Run.Effect.{Fields};
@@ -117,10 +117,12 @@ fn call_bound<'a, P: PureFn, T: TurnFn, W: Watcher>(
     ensures watchers { desk.new.watchers ≡ desk.old.watchers }
     ensures mark { stack_stood stack.new ≡ stack_stood stack.old }
 {
-    match desk.kind(call.name) {
-        None => fall_back(story, call.name),
-        Some(FnKind::Turn) => call_turn(call, stack, output, desk),
-        Some(FnKind::Pure) => ask_pure(call, stack, desk),
+    let Some(found) = desk.find(call.name) else {
+        return fall_back(story, call.name);
+    };
+    match found.kind {
+        FnKind::Turn => call_turn(call, found.place, stack, output, desk),
+        FnKind::Pure => ask_pure(call, found.place, stack, desk),
     }
 }
 
@@ -139,13 +141,15 @@ fn fall_back<'a>(story: &Story, name: &str) -> Result<Transfer<'a>, Fault>
     Ok(Transfer::Call(CallKind::Function, entering(place)))
 }
 
-// The turn function of that name is called.
+// The turn function of that name, at this place, is called.
 fn call_turn<'a, P, T: TurnFn, W: Watcher>(
     call: &External<'_>,
+    place: usize,
     stack: &mut EvalStack,
     output: &Output,
     desk: &mut Desk<P, T, W>,
 ) -> Result<Transfer<'a>, Fault>
+    requires place { StandsAt call.now.name.now place desk.old.functions }
     requires bound { (t : T) × (at call.now.name.now desk.old.functions ≡ Some (bound.Turn t)) }
     requires room { length stack.old.items ≤ stack_spare stack.old }
     ensures call { let k = call_of call.now in let turn = Some turn_function in (s : StoryTree) (evaluating : Bool) (fresh : Option ℕ) (globals : Values)
@@ -160,27 +164,28 @@ fn call_turn<'a, P, T: TurnFn, W: Watcher>(
         return Err(Fault::UnsafeInString);
     }
     let arguments = lend_arguments(stack, call.arguments)?;
-    match desk.call(call.name, arguments) {
+    match desk.call_found(place, call.name, arguments) {
         Ok(given) => answer(stack, call.arguments, given),
         Err(fault) => Err(fault),
     }
 }
 
-// The pure function of that name is asked.
+// The pure function at this place is asked.
 fn ask_pure<'a, P: PureFn, T, W>(
     call: &External<'_>,
+    place: usize,
     stack: &mut EvalStack,
     desk: &Desk<P, T, W>,
 ) -> Result<Transfer<'a>, Fault>
-    requires bound { (p : P) × (at call.now.name.now desk.now.functions ≡ Some (bound.Pure p)) }
+    requires bound { (p : P) × (value_at place desk.now.functions ≡ Some (bound.Pure p)) }
     requires room { length stack.old.items ≤ stack_spare stack.old }
-    ensures effect { let k = call_of call.now in (p : P) → at call.now.name.now desk.now.functions ≡ Some (bound.Pure p) → let pure = Some (pure_function (P.meaning p)) in
+    ensures effect { let k = call_of call.now in (p : P) → value_at place desk.now.functions ≡ Some (bound.Pure p) → let pure = Some (pure_function (P.meaning p)) in
         (s : StoryTree) (evaluating : Bool) (fresh : Option ℕ) (page : Page) (globals : Values) → let f = fields evaluating fresh stack.old.items page globals in
         Performs s (binding_asks pure k.arguments f) (rules.ask_pure (P.meaning p) k.arguments f) (fields evaluating fresh stack.new.items page globals) result }
     ensures mark { stack_stood stack.new ≡ stack_stood stack.old }
 {
     let arguments = lend_arguments(stack, call.arguments)?;
-    match desk.ask(call.name, arguments) {
+    match desk.ask_found(place, arguments) {
         Ok(given) => answer(stack, call.arguments, given),
         Err(fault) => Err(fault),
     }

@@ -1,17 +1,19 @@
 -- The entries of a map as rows.
-use Rattle.std.proofs.Common.{◌≡◌, ◌∙◌, ap, refl, sym, ℕ, List, [], ◌∷◌, ◌++◌, Bool, true, false, cond, is_some, Option, Some, None, String, Global, string_bytes, bytes_eq, if◌then◌else◌}
+use Rattle.std.proofs.Common.{◌≡◌, ◌∙◌, ◌<◌, ap, arith, refl, subst, sym, ℕ, zero, suc, List, [], ◌∷◌, ◌++◌, Bool, true, false, cond, is_some, Option, Some, None, String, Global, string_bytes, bytes_eq, get_or, length, position, slice_get, if◌then◌else◌}
 use Rattle.std.proofs.lemmas.List.{append-nil}
+use Rattle.std.proofs.lemmas.List.Quantifiers.{position-Some}
 use Rattle.std.proofs.lemmas.Slice.Eq.{bytes_eq-Decides}
 use Rattle.std.specs.Bool.{one_answer}
-use Rattle.std.specs.Map.{keys_of, lookup, remove_entry, set_value}
+use Rattle.std.specs.Map.{keys_of, lookup, remove_entry, set_value, values_of}
 use Rattle.std.specs.List.{AllByRecursion, IsDistinct}
 use Rattle.std.specs.String.{string_eq}
-use Rattle.indexmap.specs.IndexMap.{insert_entry}
+use Rattle.std.specs.Option.{option_map}
+use Rattle.indexmap.specs.IndexMap.{insert_entry, set_value_at}
 use Rattle.ink_model.specs.declared.host.Event.{Event}
 use Rattle.ink_model.specs.declared.host.Event.TheVariants.{Call}
 use Rattle.ink_model.specs.declared.host.Given.{Given}
 use Rattle.ink_model.specs.declared.value.Value.{Value}
-use Rattle.ink_host.specs.Desk.{DeskView, Rows, among, at, by_log, called, each, logs, names, noting, put, entries_as_rows, without}
+use Rattle.ink_host.specs.Desk.{DeskView, Rows, StandsAt, among, at, by_log, called, each, logs, names, noting, put, entries_as_rows, value_at, without}
 use Rattle.ink_host.specs.declared.objects.Bound.{Bound}
 use Rattle.ink_host.specs.declared.objects.Bound.TheVariants as bound
 use Rattle.ink_host.specs.declared.objects.Called.{Called}
@@ -91,6 +93,52 @@ module _ {X : Type 0} where
       by true more = refl
       by false more = ap (λ rows. (string_bytes e.0, e.1) ∷ rows) more
 
+  -- ---- at a place
+
+  -- the value of the row there, and of the entry
+  pub there : (name : List ℕ) (i : ℕ) (rows : Rows X) → StandsAt name i rows → value_at i rows ≡ at name rows
+  there name i [] h = absurd h
+  there name zero (r ∷ rows) h = sym (ap (λ b. if b then Some r.1 else at name rows) h)
+  there name (suc i) (r ∷ rows) h = there name i rows h.1 ∙ sym (ap (λ b. if b then Some r.1 else at name rows) h.0)
+
+  pub pair-there : (i : ℕ) (es : List (String Global × X)) → option_map (λ p. p.1) (slice_get es i) ≡ value_at i (rows_of es)
+  pair-there i [] = refl
+  pair-there zero (e ∷ es) = refl
+  pair-there (suc i) (e ∷ es) = pair-there i es
+
+  pub value-there : (i : ℕ) (es : List (String Global × X)) → slice_get (values_of es) i ≡ value_at i (rows_of es)
+  value-there i [] = refl
+  value-there zero (e ∷ es) = refl
+  value-there (suc i) (e ∷ es) = value-there i es
+
+  -- what is written there is written at the name
+  pub written-there : (name : List ℕ) (i : ℕ) (y : X) (es : List (String Global × X)) → StandsAt name i (rows_of es)
+      → set_value_at es i y ≡ set_value (λ k. bytes_eq name (string_bytes k)) es y
+  written-there name i y [] h = absurd h
+  written-there name zero y (e ∷ es) h = sym (ap (λ b. cond b ((e.0, y) ∷ es) (e ∷ set_value (λ k. bytes_eq name (string_bytes k)) es y)) h)
+  written-there name (suc i) y (e ∷ es) h =
+      ap (λ l. e ∷ l) (written-there name i y es h.1) ∙ sym (ap (λ b. cond b ((e.0, y) ∷ es) (e ∷ set_value (λ k. bytes_eq name (string_bytes k)) es y)) h.0)
+
+  pub looked-up : (name : List ℕ) (i : ℕ) (x : X) (es : List (String Global × X)) → StandsAt name i (rows_of es) → Some x ≡ slice_get (values_of es) i
+      → lookup (λ k. bytes_eq name (string_bytes k)) es ≡ Some x
+  looked-up name i x es h is = found name es ∙ sym (is ∙ value-there i es ∙ there name i (rows_of es) h)
+
+  -- where a name is found
+  pub found-place : (name : List ℕ) (es : List (String Global × X)) (i : ℕ) → position (λ k. bytes_eq name (string_bytes k)) (keys_of es) ≡ Some i → StandsAt name i (rows_of es)
+  found-place name [] i h = absurd (cc)
+  found-place name (x ∷ es) i h =
+      let place = position-Some (λ k. bytes_eq name (string_bytes k)) (keys_of (x ∷ es)) i x.0 h in
+      first (x ∷ es) i place.0 place.1 place.2
+    where
+      first : (es : List (String Global × X)) (i : ℕ) → i < length (keys_of es) → bytes_eq name (string_bytes (get_or (keys_of es) i x.0)) ≡ true
+          → ((k : ℕ) → k < i → bytes_eq name (string_bytes (get_or (keys_of es) k x.0)) ≡ false) → StandsAt name i (rows_of es)
+      first [] i l h before = absurd (omega arith)
+      first (e ∷ es) zero l h before = h
+      first (e ∷ es) (suc i) l h before =
+          let more : i < length (keys_of es) = omega arith in
+          let front : 0 < suc i = omega arith in
+          (before 0 front, first es i more h (λ k under. let further : suc k < suc i = omega arith in before (suc k) further))
+
 -- a name of a row is among the names
 pub watched : {X : Type 0} (name : List ℕ) (rows : Rows X) → is_some (at name rows) ≡ among (names rows) name
 watched name [] = refl
@@ -103,12 +151,13 @@ watched name (r ∷ rows) = by (bytes_eq name r.0) (watched name rows)
 abbrev pub desk_of : {P T W : Type 0} → Rows (Bound P T) → Rows W → List Event → ℕ → DeskView P T W
 desk_of fs ws es n = record { functions = fs; watchers = ws; events = es; next = n }
 
+-- a place in a desk, as it is seen
+pub seen : {P T W : Type 0} {a b : DeskView P T W} (name : List ℕ) (i : ℕ) → a ≡ b → StandsAt name i b.functions → StandsAt name i a.functions
+seen name i is h = subst (λ d. StandsAt name i d.functions) (sym is) h
+
 -- ---- calls
 
 module _ {P T : Type 0} where
-  pub turn-not-pure : (t : T) (p : P) → ◌≡◌ {A = Option (Bound P T)} (Some (bound.Turn t)) (Some (bound.Pure p)) → ⊥
-  turn-not-pure t p h = cc
-
   pub none-not-some : (b : Bound P T) → ◌≡◌ {A = Option (Bound P T)} None (Some b) → ⊥
   none-not-some b h = cc
 

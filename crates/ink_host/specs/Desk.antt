@@ -1,5 +1,5 @@
 -- The desk, as contracts see it: what is bound and who watches, by name, and what happened (docs/HOST.md).
-use Rattle.std.specs.Prelude.{◌≡◌, ℕ, List, [], ◌∷◌, ◌++◌, ◌+◌, ◌%◌, ◌^◌, map, Bool, true, false, bytes_eq, Option, Some, None, Result, Ok, Err, if◌then◌else◌}
+use Rattle.std.specs.Prelude.{◌≡◌, ℕ, zero, suc, List, [], ◌∷◌, ◌++◌, ◌+◌, ◌%◌, ◌^◌, map, Bool, true, false, bytes_eq, Option, Some, None, Result, Ok, Err, if◌then◌else◌}
 use Rattle.std.specs.Option.{option_map}
 use Rattle.ink_model.specs.Host.Events.{after, later}
 use Rattle.ink_model.specs.Host.Bindings as host
@@ -28,6 +28,18 @@ module _ {X : Type 0} where
   abbrev pub has_rows : Rows X → Bool
   has_rows [] = false
   has_rows (r ∷ rows) = true
+
+-- the value of the row at a place
+abbrev pub value_at : {X : Type 0} → ℕ → Rows X → Option X
+value_at i [] = None
+value_at zero (r ∷ rows) = Some r.1
+value_at (suc i) (r ∷ rows) = value_at i rows
+
+-- the first row of a name is the one at this place
+abbrev pub StandsAt : {X : Type 0} → List ℕ → ℕ → Rows X → Type 0
+StandsAt name i [] = ⊥
+StandsAt name zero (r ∷ rows) = bytes_eq name r.0 ≡ true
+StandsAt name (suc i) (r ∷ rows) = (bytes_eq name r.0 ≡ false) × StandsAt name i rows
 
 -- each row changed, by its name
 abbrev pub each : {X Y : Type 0} → (List ℕ → X → Y) → Rows X → Rows Y

@@ -1,12 +1,12 @@
 //! The desk: what a host has bound and who watches, and what happened.
 
-ghost use Rattle.std.specs.Prelude.{◌≡◌, ◌⊎◌, [], ◌∷◌, List, None, Some, Ok, Err, option_map, string_bytes, true, IfOk, IfErr, OnOk, OnErr};
+ghost use Rattle.std.specs.Prelude.{◌≡◌, ◌⊎◌, [], ◌∷◌, List, None, Some, Ok, Err, option_map, string_bytes, true, IfOk, IfErr, IfSome, OnOk, OnErr};
 ghost use Rattle.ink_model.specs.Host.Bindings.{shares};
 ghost use Rattle.ink_model.specs.declared.fault.Fault.TheVariants as fault;
 ghost use Rattle.ink_model.specs.declared.host.Event.{Event as Happening};
 ghost use Rattle.ink_model.specs.declared.host.Event.TheVariants as event;
 ghost use Rattle.ink_model.specs.declared.host.Given.{Given as Answer};
-ghost use Rattle.ink_host.specs.Desk.{DeskView, Grew, answer_of, at, counted, empty_desk, has_rows, kind_of, lacks_of, put, refusals_at, entries_as_rows, without};
+ghost use Rattle.ink_host.specs.Desk.{DeskView, Grew, StandsAt, answer_of, at, counted, empty_desk, has_rows, kind_of, lacks_of, put, refusals_at, entries_as_rows, value_at, without};
 ghost use Rattle.ink_host.specs.Desk as view;
 ghost use Rattle.ink_host.specs.Telling.{log_of};
 ghost use Rattle.ink_host.specs.declared.objects.Bound.TheVariants as bound;
@@ -17,10 +17,18 @@ use indexmap::IndexMap;
 use ink_model::{Event, Fault, Given, HostFault, Seq, Text, Value};
 use std::alloc::Global;
 use std::marker::Model;
-use std::mem;
+use std::{fmt, mem};
+
+/// What a name is bound to: a function of this kind, at this place among all that are bound.
+#[derive(Clone, Copy)]
+pub struct Found {
+    pub kind: FnKind,
+    pub place: usize,
+}
 
 /// Functions and watchers by name, in the order in which they came, and the events that nobody has taken yet. It is
-/// generic in the objects and asks nothing of them but their traits: each that is given is kept or handed back.
+/// generic in the objects and asks nothing of them but their traits: each that is given is kept or handed back. A host binds
+/// objects, looks at them and takes them away; asking, calling and telling them is what a player does with it.
 pub struct Desk<P, T, W> {
     pub(crate) functions: IndexMap<String, Bound<P, T>>,
     pub(crate) watchers: IndexMap<String, W>,
@@ -38,6 +46,13 @@ impl<P: Drop, T: Drop, W: Drop> Drop for Desk<P, T, W> {
             next: _,
             alloc: _,
         } = self;
+    }
+}
+
+/// Its name alone, whatever the objects on it are.
+impl<P, F, O> fmt::Debug for Desk<P, F, O> {
+    fn fmt<W: fmt::Write>(&self, f: &mut fmt::Formatter<W>) -> fmt::Result {
+        f.debug_struct("Desk").finish_non_exhaustive()
     }
 }
 
@@ -112,6 +127,20 @@ impl<P, T, W> Desk<P, T, W> {
         self.functions.shift_remove(name)
     }
 
+    /// What a name is bound to, and where; none where it is not bound. Takes no memory.
+    pub fn find(&self, name: &str) -> Option<Found>
+        ensures kind { option_map (λ f. f.kind) result ≡ option_map kind_of (at name.now self.now.functions) }
+        ensures place { IfSome result (λ f. StandsAt name.now f.place self.now.functions) }
+    {
+        let Some((place, _, function)) = self.functions.get_full(name) else {
+            return None;
+        };
+        Some(Found {
+            kind: kind_of(function),
+            place,
+        })
+    }
+
     /// Which kind of function a name is bound to; none where it is not bound. Takes no memory.
     pub fn kind(&self, name: &str) -> Option<FnKind>
         ensures { result ≡ option_map kind_of (at name.now self.now.functions) }
@@ -121,6 +150,20 @@ impl<P, T, W> Desk<P, T, W> {
             Some(Bound::Pure(_)) => Some(FnKind::Pure),
             Some(Bound::Turn(_)) => Some(FnKind::Turn),
         }
+    }
+
+    /// What a name is bound to, lent; none where it is not bound. Takes no memory.
+    pub fn function(&self, name: &str) -> Option<&Bound<P, T>>
+        ensures { option_map (λ b. b.now) result ≡ at name.now self.now.functions }
+    {
+        self.functions.get(name)
+    }
+
+    /// The watcher of a global, lent; none where nobody watches it. Takes no memory.
+    pub fn watcher(&self, name: &str) -> Option<&W>
+        ensures { option_map (λ w. w.now) result ≡ at name.now self.now.watchers }
+    {
+        self.watchers.get(name)
     }
 
     /// Whether somebody watches a global.
@@ -164,7 +207,21 @@ impl<P: PureFn, T, W> Desk<P, T, W> {
         ensures memory { result ≡ Err fault.OutOfMemory → lacks_of P.may_lack (at name.now self.now.functions) arguments.now ≡ true }
         ensures faults { IfErr result (λ f. (f ≡ fault.HostRefused) ⊎ (f ≡ fault.OutOfMemory)) }
     {
-        match ask_at(&self.functions, name, arguments) {
+        match self.find(name) {
+            Some(found) => self.ask_found(found.place, arguments),
+            None => unreachable!(),
+        }
+    }
+
+    /// The same of the function at a place, where `find` has found it.
+    pub fn ask_found(&self, place: usize, arguments: &[Value]) -> Result<Given, Fault>
+        requires { (p : P) × (value_at place self.now.functions ≡ Some (bound.Pure p)) }
+        ensures answer { (g : Answer) → result ≡ Ok g → answer_of P.meaning (value_at place self.now.functions) arguments.now ≡ Some g }
+        ensures refused { result ≡ Err fault.HostRefused → answer_of P.meaning (value_at place self.now.functions) arguments.now ≡ None }
+        ensures memory { result ≡ Err fault.OutOfMemory → lacks_of P.may_lack (value_at place self.now.functions) arguments.now ≡ true }
+        ensures faults { IfErr result (λ f. (f ≡ fault.HostRefused) ⊎ (f ≡ fault.OutOfMemory)) }
+    {
+        match ask_at(&self.functions, place, arguments) {
             Ok(given) => Ok(given),
             Err(HostFault::Refused) => Err(Fault::HostRefused),
             Err(HostFault::OutOfMemory) => Err(Fault::OutOfMemory),
@@ -190,11 +247,37 @@ impl<P, T: TurnFn, W: Watcher> Desk<P, T, W> {
         ensures others { without name.now self.new.functions ≡ without name.now self.old.functions }
         ensures watchers { self.new.watchers ≡ self.old.watchers }
     {
+        match self.find(name) {
+            Some(found) => self.call_found(found.place, name, arguments),
+            None => unreachable!(),
+        }
+    }
+
+    /// The same of the function at a place, where `find` has found it.
+    pub fn call_found(
+        &mut self,
+        place: usize,
+        name: &str,
+        arguments: &[Value],
+    ) -> Result<Given, Fault>
+        requires place { StandsAt name.now place self.old.functions }
+        requires bound { (t : T) × (at name.now self.old.functions ≡ Some (bound.Turn t)) }
+        ensures answer { (g : Answer) → result ≡ Ok g → Grew T.log (log_of W.state) self.old (event.Call name.now arguments.now (Some g) self.old.next ∷ []) self.new }
+        ensures refused { result ≡ Err fault.HostRefused → Grew T.log (log_of W.state) self.old (event.Call name.now arguments.now None self.old.next ∷ []) self.new }
+        ensures memory { result ≡ Err fault.OutOfMemory → (self.new ≡ self.old)
+            ⊎ ((Grew T.log (log_of W.state) self.old [] self.new × (refusals_at T.refusals (at name.now self.new.functions) ≡ counted (refusals_at T.refusals (at name.now self.old.functions))))
+            ⊎ ((g : Answer) × shares g × Grew T.log (log_of W.state) self.old (event.Call name.now arguments.now (Some g) self.old.next ∷ []) self.new)) }
+        ensures faults { IfErr result (λ f. (f ≡ fault.HostRefused) ⊎ (f ≡ fault.OutOfMemory)) }
+        ensures refusals { (refusals_at T.refusals (at name.now self.new.functions) ≡ refusals_at T.refusals (at name.now self.old.functions))
+            ⊎ ((result ≡ Err fault.OutOfMemory) × (self.new.events ≡ self.old.events) × (refusals_at T.refusals (at name.now self.new.functions) ≡ counted (refusals_at T.refusals (at name.now self.old.functions)))) }
+        ensures others { without name.now self.new.functions ≡ without name.now self.old.functions }
+        ensures watchers { self.new.watchers ≡ self.old.watchers }
+    {
         let noted = Text::from_str(self.alloc, name)?;
         let noted_arguments = copied_values(self.alloc, arguments)?;
         self.events.reserve(1)?;
         let stamp = self.next;
-        match call_at(&mut self.functions, name, stamp, arguments) {
+        match call_at(&mut self.functions, place, stamp, arguments) {
             Ok(given) => {
                 let copy = given.clone_in(self.alloc);
                 let event = Event::Call {
@@ -221,6 +304,16 @@ impl<P, T: TurnFn, W: Watcher> Desk<P, T, W> {
             }
             Err(HostFault::OutOfMemory) => return Err(Fault::OutOfMemory),
         }
+    }
+}
+
+// The kind of a function.
+fn kind_of<P, T>(function: &Bound<P, T>) -> FnKind
+    ensures { result ≡ kind_of function.now }
+{
+    match function {
+        Bound::Pure(_) => FnKind::Pure,
+        Bound::Turn(_) => FnKind::Turn,
     }
 }
 

@@ -14,7 +14,7 @@ use std::alloc::{AllocError, Global};
 
 /// A call of a turn function, as the function itself notes it: which event it is, with what, and what it gave, nothing where
 /// it refused.
-#[derive(Drop)]
+#[derive(Debug, Drop)]
 pub struct Called {
     pub stamp: u64,
     pub arguments: Seq<Value>,
@@ -27,7 +27,7 @@ pub fn copied_values(alloc: Global, values: &[Value]) -> Result<Seq<Value>, Allo
     ensures copies { IfOk result (λ copies. copies ≡ values.now) }
     ensures memory { OnErr result (values.now ≢ []) }
 {
-    let mut copies = Vec::new(alloc);
+    let mut copies = Vec::with_capacity(alloc, values.len())?;
     for value in values {
         copies.push(value.clone_in(alloc)?)?;
     }
@@ -35,7 +35,7 @@ pub fn copied_values(alloc: Global, values: &[Value]) -> Result<Seq<Value>, Allo
 }
 
 /// A new value of a global, as a watcher notes it: which event it is, the name of the global, and its value.
-#[derive(Drop)]
+#[derive(Debug, Drop)]
 pub struct Seen {
     pub stamp: u64,
     pub name: Text,
@@ -96,14 +96,14 @@ pub trait Watcher {
 }
 
 /// A function that is bound to a name.
-#[derive(Drop)]
+#[derive(Debug, Drop)]
 pub enum Bound<P, T> {
     Pure(P),
     Turn(T),
 }
 
 /// Which kind of function is bound to a name.
-#[derive(Clone, Copy, PartialEq, Eq)]
+#[derive(Clone, Copy, Debug, PartialEq, Eq)]
 pub enum FnKind {
     Pure,
     Turn,

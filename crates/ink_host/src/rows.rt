@@ -1,11 +1,11 @@
 //! What the desk does to its parts: maps by name, and the events.
 
-ghost use Rattle.std.specs.Prelude.{◌≡◌, ◌+◌, ◌≤◌, ◌++◌, [], ◌∷◌, None, Some, Ok, Err, string_bytes, vec_capacity, vec_len, IfOk, IfErr, OnOk, OnErr, is_some, true};
+ghost use Rattle.std.specs.Prelude.{◌≡◌, ℕ, ◌+◌, ◌≤◌, List, ◌++◌, [], ◌∷◌, None, Some, Ok, Err, string_bytes, vec_capacity, vec_len, IfOk, IfErr, OnOk, OnErr, is_some, true};
 ghost use Rattle.ink_model.specs.Host.Events.{after};
 ghost use Rattle.ink_model.specs.declared.host.Event.TheVariants as event;
 ghost use Rattle.ink_model.specs.declared.host.Given.{Given as Answer};
 ghost use Rattle.ink_model.specs.declared.host.HostFault.TheVariants as fault;
-ghost use Rattle.ink_host.specs.Desk.{answer_of, at, by_log, called, each, lacks_of, logs, noting, put, refusals_after, refusals_at, refusals_of, entries_as_rows, without};
+ghost use Rattle.ink_host.specs.Desk.{StandsAt, answer_of, at, by_log, called, each, lacks_of, logs, noting, put, refusals_after, refusals_at, refusals_of, entries_as_rows, value_at, without};
 ghost use Rattle.ink_host.specs.declared.objects.Bound.TheVariants as bound;
 
 use crate::objects::{Bound, PureFn, TurnFn};
@@ -55,39 +55,51 @@ fn keep_over<X>(rows: &mut IndexMap<String, X>, name: &str, object: X) -> X
     }
 }
 
-/// Asks the pure function at a name.
+/// Asks the pure function at a place.
 pub(crate) fn ask_at<P: PureFn, T>(
     functions: &IndexMap<String, Bound<P, T>>,
-    name: &str,
+    place: usize,
     arguments: &[Value],
 ) -> Result<Given, HostFault>
-    requires { (p : P) × (at name.now (entries_as_rows string_bytes (λ b. b) functions.now.entries) ≡ Some (bound.Pure p)) }
-    ensures answer { (g : Answer) → result ≡ Ok g → answer_of P.meaning (at name.now (entries_as_rows string_bytes (λ b. b) functions.now.entries)) arguments.now ≡ Some g }
-    ensures refused { result ≡ Err fault.Refused → answer_of P.meaning (at name.now (entries_as_rows string_bytes (λ b. b) functions.now.entries)) arguments.now ≡ None }
-    ensures memory { result ≡ Err fault.OutOfMemory → lacks_of P.may_lack (at name.now (entries_as_rows string_bytes (λ b. b) functions.now.entries)) arguments.now ≡ true }
+    requires { (p : P) × (value_at place (entries_as_rows string_bytes (λ b. b) functions.now.entries) ≡ Some (bound.Pure p)) }
+    ensures answer { (g : Answer) → result ≡ Ok g → answer_of P.meaning (value_at place (entries_as_rows string_bytes (λ b. b) functions.now.entries)) arguments.now ≡ Some g }
+    ensures refused { result ≡ Err fault.Refused → answer_of P.meaning (value_at place (entries_as_rows string_bytes (λ b. b) functions.now.entries)) arguments.now ≡ None }
+    ensures memory { result ≡ Err fault.OutOfMemory → lacks_of P.may_lack (value_at place (entries_as_rows string_bytes (λ b. b) functions.now.entries)) arguments.now ≡ true }
 {
-    match functions.get(name) {
-        Some(Bound::Pure(function)) => function.ask(arguments),
-        Some(Bound::Turn(_)) => unreachable!(),
+    match functions.get_index(place) {
+        Some((_, object)) => ask_bound(object, arguments),
         None => unreachable!(),
     }
 }
 
-/// Calls the turn function at a name.
+// Asks a pure function.
+fn ask_bound<P: PureFn, T>(object: &Bound<P, T>, arguments: &[Value]) -> Result<Given, HostFault>
+    requires { (p : P) × (object.now ≡ bound.Pure p) }
+    ensures answer { (g : Answer) → result ≡ Ok g → answer_of P.meaning (Some object.now) arguments.now ≡ Some g }
+    ensures refused { result ≡ Err fault.Refused → answer_of P.meaning (Some object.now) arguments.now ≡ None }
+    ensures memory { result ≡ Err fault.OutOfMemory → lacks_of P.may_lack (Some object.now) arguments.now ≡ true }
+{
+    match object {
+        Bound::Pure(function) => function.ask(arguments),
+        Bound::Turn(_) => unreachable!(),
+    }
+}
+
+/// Calls the turn function at a place.
 pub(crate) fn call_at<P, T: TurnFn>(
     functions: &mut IndexMap<String, Bound<P, T>>,
-    name: &str,
+    place: usize,
     stamp: u64,
     arguments: &[Value],
 ) -> Result<Given, HostFault>
-    requires { (t : T) × (at name.now (entries_as_rows string_bytes (λ b. b) functions.old.entries) ≡ Some (bound.Turn t)) }
-    ensures answer { (g : Answer) → result ≡ Ok g → logs T.log (entries_as_rows string_bytes (λ b. b) functions.new.entries) ≡ each (called (event.Call name.now arguments.now (Some g) stamp ∷ [])) (logs T.log (entries_as_rows string_bytes (λ b. b) functions.old.entries)) }
-    ensures refused { result ≡ Err fault.Refused → logs T.log (entries_as_rows string_bytes (λ b. b) functions.new.entries) ≡ each (called (event.Call name.now arguments.now None stamp ∷ [])) (logs T.log (entries_as_rows string_bytes (λ b. b) functions.old.entries)) }
-    ensures memory { result ≡ Err fault.OutOfMemory → logs T.log (entries_as_rows string_bytes (λ b. b) functions.new.entries) ≡ logs T.log (entries_as_rows string_bytes (λ b. b) functions.old.entries) }
-    ensures refusals { refusals_at T.refusals (at name.now (entries_as_rows string_bytes (λ b. b) functions.new.entries)) ≡ refusals_after result (refusals_at T.refusals (at name.now (entries_as_rows string_bytes (λ b. b) functions.old.entries))) }
-    ensures others { without name.now (entries_as_rows string_bytes (λ b. b) functions.new.entries) ≡ without name.now (entries_as_rows string_bytes (λ b. b) functions.old.entries) }
+    requires { (t : T) × (value_at place (entries_as_rows string_bytes (λ b. b) functions.old.entries) ≡ Some (bound.Turn t)) }
+    ensures answer { (name : List ℕ) → StandsAt name place (entries_as_rows string_bytes (λ b. b) functions.old.entries) → (g : Answer) → result ≡ Ok g → logs T.log (entries_as_rows string_bytes (λ b. b) functions.new.entries) ≡ each (called (event.Call name arguments.now (Some g) stamp ∷ [])) (logs T.log (entries_as_rows string_bytes (λ b. b) functions.old.entries)) }
+    ensures refused { (name : List ℕ) → StandsAt name place (entries_as_rows string_bytes (λ b. b) functions.old.entries) → result ≡ Err fault.Refused → logs T.log (entries_as_rows string_bytes (λ b. b) functions.new.entries) ≡ each (called (event.Call name arguments.now None stamp ∷ [])) (logs T.log (entries_as_rows string_bytes (λ b. b) functions.old.entries)) }
+    ensures memory { (name : List ℕ) → StandsAt name place (entries_as_rows string_bytes (λ b. b) functions.old.entries) → result ≡ Err fault.OutOfMemory → logs T.log (entries_as_rows string_bytes (λ b. b) functions.new.entries) ≡ logs T.log (entries_as_rows string_bytes (λ b. b) functions.old.entries) }
+    ensures refusals { (name : List ℕ) → StandsAt name place (entries_as_rows string_bytes (λ b. b) functions.old.entries) → refusals_at T.refusals (at name (entries_as_rows string_bytes (λ b. b) functions.new.entries)) ≡ refusals_after result (refusals_at T.refusals (at name (entries_as_rows string_bytes (λ b. b) functions.old.entries))) }
+    ensures others { (name : List ℕ) → StandsAt name place (entries_as_rows string_bytes (λ b. b) functions.old.entries) → without name (entries_as_rows string_bytes (λ b. b) functions.new.entries) ≡ without name (entries_as_rows string_bytes (λ b. b) functions.old.entries) }
 {
-    match functions.get_mut(name) {
+    match functions.get_index_mut(place) {
         Some(object) => call_bound(object, stamp, arguments),
         None => unreachable!(),
     }
@@ -119,7 +131,7 @@ pub(crate) fn note(events: &mut Vec<Event>, next: &mut u64, event: Event)
     ensures len { vec_len events.new ≡ vec_len events.old + 1 }
     ensures room { vec_capacity events.old ≤ vec_capacity events.new }
 {
-    events.push(event).unwrap();
+    events.push_reserved(event);
     *next = stamp_after(*next);
 }
 

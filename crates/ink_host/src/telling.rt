@@ -16,7 +16,7 @@ use ink_model::{Change, Event, Text, Value};
 use std::alloc::{AllocError, Global};
 
 /// Why not all changes were told: there was no room for them, and nobody was told anything, or a watcher was refused memory.
-#[derive(Clone, Copy, PartialEq, Eq)]
+#[derive(Clone, Copy, Debug, PartialEq, Eq)]
 pub enum TellFault {
     NoRoom,
     Watcher,

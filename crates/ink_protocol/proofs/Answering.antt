@@ -9,6 +9,7 @@ use Rattle.json.specs.Written.{Written}
 use Rattle.serde_json.specs.Data.{Data, array, string}
 use Rattle.serde_json.specs.Written.{comma_if, compact_text, items_text}
 use Rattle.serde_json.proofs.OnLiterals.{serde_json_on_literals}
+use Rattle.ink_model.specs.Protocol.ValueJson.{value_data}
 use Rattle.ink_model.specs.Protocol.Answer.{Reply, Counts, Saves, Shows, Tells, items_of, reply_data, shown_data, answer}
 use Rattle.ink_model.specs.declared.passage.Passage.{Passage}
 use Rattle.ink_model.specs.declared.passage.Shown.{Shown}
@@ -76,21 +77,35 @@ plain_choice text plain = ap (λ t. codes "{\"tags\":[],\"text\":\"" ++ t) (appe
 pub choice_of : (choice : Shown) (text : List ℕ) → choice.tags ≡ [] → text ≡ choice.text → shown_data choice ≡ shown_data (record { tags = []; text = text })
 choice_of choice text none same = ap (λ ts. shown_data (record choice { tags = ts })) none ∙ ap (λ t. shown_data (record { tags = []; text = t })) (sym same)
 
--- one more, and what is still to come behind it
-pub one_choice : (line : List ℕ) (later : Bool) (i : ℕ) (choices : List Shown) (choice : Shown) (a b all : List ℕ) → i < length choices → choice ≡ get_or choices i choice
-    → a ≡ line ++ comma_if later → b ≡ a ++ compact_text (shown_data choice) → line ++ items_text later (items_of (map shown_data (drop i choices))) ≡ all
-    → b ++ items_text true (items_of (map shown_data (drop (i + 1) choices))) ≡ all
-one_choice line later i choices choice a b all h is comma put was =
-    let text : List ℕ = compact_text (shown_data choice) in
-    let rest : List ℕ = items_text true (items_of (map shown_data (drop (i + 1) choices))) in
-    let next : drop i choices ≡ choice ∷ drop (i + 1) choices = drop-cons choices i choice h ∙ ap (λ x. x ∷ drop (suc i) choices) (sym is) ∙ ap (λ n. choice ∷ drop n choices) (sym (add-one i)) in
-    ap (λ l. l ++ rest) (put ∙ ap (λ l. l ++ text) comma) ∙ append_assoc (line ++ comma_if later) text rest ∙ append_assoc line (comma_if later) (text ++ rest)
-    ∙ ap (λ cs. line ++ items_text later (items_of (map shown_data cs))) (sym next) ∙ was
+-- ---- lists
 
--- no more
-pub last_choice : (line : List ℕ) (later : Bool) (i : ℕ) (choices : List Shown) (end all : List ℕ) → length choices ≤ i → end ≡ line ++ 93 ∷ []
-    → line ++ items_text later (items_of (map shown_data (drop i choices))) ≡ all → end ≡ all
-last_choice line later i choices end all h ends was = ends ∙ ap (λ cs. line ++ items_text later (items_of (map shown_data cs))) (sym (drop_all i choices h)) ∙ was
+module _ {A : Type 0} (json : A → Data) where
+  -- one more, and what is still to come behind it
+  pub one_item : (line : List ℕ) (later : Bool) (i : ℕ) (xs : List A) (x : A) (a b all : List ℕ) → i < length xs → x ≡ get_or xs i x
+      → a ≡ line ++ comma_if later → b ≡ a ++ compact_text (json x) → line ++ items_text later (items_of (map json (drop i xs))) ≡ all
+      → b ++ items_text true (items_of (map json (drop (i + 1) xs))) ≡ all
+  one_item line later i xs x a b all h is comma put was =
+      let text : List ℕ = compact_text (json x) in
+      let rest : List ℕ = items_text true (items_of (map json (drop (i + 1) xs))) in
+      let next : drop i xs ≡ x ∷ drop (i + 1) xs = drop-cons xs i x h ∙ ap (λ y. y ∷ drop (suc i) xs) (sym is) ∙ ap (λ n. x ∷ drop n xs) (sym (add-one i)) in
+      ap (λ l. l ++ rest) (put ∙ ap (λ l. l ++ text) comma) ∙ append_assoc (line ++ comma_if later) text rest ∙ append_assoc line (comma_if later) (text ++ rest)
+      ∙ ap (λ ys. line ++ items_text later (items_of (map json ys))) (sym next) ∙ was
+
+  -- no more
+  pub last_item : (line : List ℕ) (later : Bool) (i : ℕ) (xs : List A) (end all : List ℕ) → length xs ≤ i → end ≡ line ++ 93 ∷ []
+      → line ++ items_text later (items_of (map json (drop i xs))) ≡ all → end ≡ all
+  last_item line later i xs end all h ends was = ends ∙ ap (λ ys. line ++ items_text later (items_of (map json ys))) (sym (drop_all i xs h)) ∙ was
+
+-- ---- values
+
+-- the text of an integer
+pub integer_text : (z : ℤ) → compact_text (value_data (value.Int z)) ≡ signed_decimal z
+integer_text (pos n) = refl
+integer_text (negsuc n) = refl
+
+-- of a string that stands in JSON as it is
+pub plain_string : (text : List ℕ) → escape text ≡ text → compact_text (string text) ≡ codes "\"" ++ (text ++ codes "\"")
+plain_string text plain = ap (λ t. 34 ∷ (t ++ 34 ∷ [])) plain
 
 -- ---- passages
 

@@ -465,14 +465,82 @@ fn put_saved(line: &mut Vec<u8>, text: &str) -> Result<(), AllocError>
     put_between(line, "{\"saved\":", text, "}\n")
 }
 
+/// The room that is asked for at first for the text of values.
+const VALUES_ROOM: usize = 64;
+
 /// Values as the JSON array that answers tell them as (docs/PROTOCOL.md, "Answers"). The one error is a refused request for
 /// memory.
 pub fn print_values(alloc: Global, values: &[Value]) -> Result<Vec<u8>, AllocError>
     ensures { IfOk result (λ text. text.items ≡ values_text values.now) }
 {
-    let mut out = Writer::new(Vec::new(alloc));
-    write_list(alloc, &mut out, values)?;
-    Ok(out.into_inner())
+    let mut text = Vec::with_capacity(alloc, VALUES_ROOM)?;
+    text.push(b'[')?;
+    print_all(alloc, &mut text, values)?;
+    Ok(text)
+}
+
+// Values, with commas between them and the bracket behind the last, behind what is written already.
+fn print_all(alloc: Global, line: &mut Vec<u8>, values: &[Value]) -> Result<(), AllocError>
+    ensures { OnOk result (line.new.items ≡ line.old.items ++ items_text false (items_of (map value_data values.now))) }
+{
+    let mut follows = false;
+    for value in values {
+        put_comma(line, follows)?;
+        print_value(alloc, line, value)?;
+        follows = true;
+    }
+    line.push(b']')?;
+    Ok(())
+}
+
+// A value, behind what is written already. An integer, a truth value and a plain text need no writer of JSON.
+fn print_value(alloc: Global, line: &mut Vec<u8>, value: &Value) -> Result<(), AllocError>
+    ensures { OnOk result (line.new.items ≡ line.old.items ++ compact_text (value_data value.now)) }
+{
+    match value {
+        Value::Int(number) => print_integer(line, *number),
+        Value::Bool(true) => append(line, "true"),
+        Value::Bool(false) => append(line, "false"),
+        Value::Text(text) => print_string(alloc, line, text.as_str()),
+        _ => value_behind(alloc, line, value),
+    }
+}
+
+// An integer, behind what is written already.
+fn print_integer(line: &mut Vec<u8>, number: i32) -> Result<(), AllocError>
+    ensures { OnOk result (line.new.items ≡ line.old.items ++ signed_decimal number) }
+{
+    let mut digits = itoa::Buffer::new();
+    append(line, digits.format(number))
+}
+
+// A string, behind what is written already.
+fn print_string(alloc: Global, line: &mut Vec<u8>, text: &str) -> Result<(), AllocError>
+    ensures { OnOk result (line.new.items ≡ line.old.items ++ compact_text (string text.now)) }
+{
+    if is_plain(text.as_bytes()) {
+        return print_plain(line, text);
+    }
+    string_behind(alloc, line, text)
+}
+
+// The same of a string that stands in JSON as it is.
+fn print_plain(line: &mut Vec<u8>, text: &str) -> Result<(), AllocError>
+    requires { escape text.now ≡ text.now }
+    ensures { OnOk result (line.new.items ≡ line.old.items ++ compact_text (string text.now)) }
+{
+    put_between(line, "\"", text, "\"")
+}
+
+// Any value, behind what is written already.
+#[inline(never)]
+fn value_behind(alloc: Global, line: &mut Vec<u8>, value: &Value) -> Result<(), AllocError>
+    ensures { OnOk result (line.new.items ≡ line.old.items ++ compact_text (value_data value.now)) }
+{
+    let mut out = writer_behind(alloc, line);
+    write_value(alloc, &mut out, value)?;
+    *line = out.into_inner();
+    Ok(())
 }
 
 // ---- parts of answers

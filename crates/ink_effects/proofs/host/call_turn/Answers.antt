@@ -29,7 +29,7 @@ returns-in-Ok-clause-call g c s evaluating fresh globals =
     let f = fields evaluating fresh c.args.stack.now.items page globals in
     let new = fields evaluating fresh c.answer.new.stack.items page globals in
     let safe = sym c.in_string.ensures ∙ c.if-in_string.false in
-    turn_gave s call.name.now call.arguments f new safe c.in_ok-arguments.arguments.now c.in_ok-arguments.ensures.ok g.T.TurnFn.log (log_of g.W.Watcher.state) c.args.desk.now c.call.new.self c.in-Ok.given
+    turn_gave s call.name.now call.arguments f new safe c.in_ok-arguments.arguments.now c.in_ok-arguments.ensures.ok g.T.TurnFn.log (log_of g.W.Watcher.state) c.args.desk.now c.call_found.new.self c.in-Ok.given
     (c.in-Ok.ensures.answer c.in-Ok.given refl) c.answer.result
     (c.answer.ensures.effect s evaluating fresh page globals _ _ (there s call.name.now call.arguments f new safe c.in_ok-arguments.arguments.now c.in_ok-arguments.ensures.ok))
 
@@ -38,7 +38,7 @@ returns-in-Err-clause-call g c s evaluating fresh globals =
     let call = c.args.call.now in
     let f = fields evaluating fresh c.args.stack.now.items c.args.output.now.page globals in
     turn_failed s call.name.now call.arguments f f (sym c.in_string.ensures ∙ c.if-in_string.false) c.in_ok-arguments.arguments.now c.in_ok-arguments.ensures.ok g.T.TurnFn.log (log_of g.W.Watcher.state) c.args.desk.now
-    c.call.new.self c.in-Err.fault (λ is. c.in-Err.ensures.refused (ap Err is)) (λ is. c.in-Err.ensures.memory (ap Err is)) c.in-Err.ensures.faults
+    c.call_found.new.self c.in-Err.fault (λ is. c.in-Err.ensures.refused (ap Err is)) (λ is. c.in-Err.ensures.memory (ap Err is)) c.in-Err.ensures.faults
 
 -- it is not called again
 pub returns-then-in_string-clause-refusals : goal.returns-then-in_string-clause-refusals
@@ -49,10 +49,10 @@ returns-in_err-arguments-clause-refusals g c = stops_kept g.T.TurnFn.refusals c.
 
 pub returns-in-Ok-clause-refusals : goal.returns-in-Ok-clause-refusals
 returns-in-Ok-clause-refusals g c =
-    stops_kept g.T.TurnFn.refusals c.args.desk.now c.call.new.self c.answer.result
-    (called_so g.T.TurnFn.refusals c.args.call.now.name.now c.args.desk.now c.call.new.self c.call.ensures.others (Ok c.in-Ok.given) c.in-Ok.ensures.refusals)
+    stops_kept g.T.TurnFn.refusals c.args.desk.now c.call_found.new.self c.answer.result
+    (called_so g.T.TurnFn.refusals c.args.call.now.name.now c.args.desk.now c.call_found.new.self c.call_found.ensures.others (Ok c.in-Ok.given) c.in-Ok.ensures.refusals)
 
 pub returns-in-Err-clause-refusals : goal.returns-in-Err-clause-refusals
 returns-in-Err-clause-refusals g c =
     let failed : Result Given Fault = Err c.in-Err.fault in
-    called_so g.T.TurnFn.refusals c.args.call.now.name.now c.args.desk.now c.call.new.self c.call.ensures.others failed c.in-Err.ensures.refusals
+    called_so g.T.TurnFn.refusals c.args.call.now.name.now c.args.desk.now c.call_found.new.self c.call_found.ensures.others failed c.in-Err.ensures.refusals

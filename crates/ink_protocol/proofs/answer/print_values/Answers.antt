@@ -1,11 +1,10 @@
-use Rattle.std.proofs.Common.{◌∙◌, map}
-use Rattle.serde_json.specs.Data.{array}
+use Rattle.std.proofs.Common.{◌∙◌, ◌∷◌, ◌++◌, [], ap, false, map, List, ℕ}
+use Rattle.serde_json.specs.Written.{items_text}
 use Rattle.ink_model.specs.Protocol.Answer.{items_of}
 use Rattle.ink_model.specs.Protocol.ValueJson.{value_data}
-use Rattle.ink_tokens.proofs.Adding.{text_from_tokens}
 use Rattle.ink_protocol.proofs.answer.print_values.Goals as goal
 
 pub returns : goal.returns
 returns c =
-    text_from_tokens (array (items_of (map value_data c.args.values.now))) _ _ _ (c.new-out.ensures.before ∙ c.new.ensures.items) c.new-out.ensures.tokens
-    c.in_ok-write_list.ensures c.into_inner.ensures.items
+    c.in_ok-print_all.ensures
+    ∙ ap (λ (xs : List ℕ). xs ++ items_text false (items_of (map value_data c.args.values.now))) (c.in_ok-push.ensures.items ∙ ap (λ (xs : List ℕ). xs ++ 91 ∷ []) c.in_ok-text.ensures.items)
