@@ -9,7 +9,7 @@ use Rattle.ink_player.proofs.Common.{Bindings, DeskView, Watching, Called, Buffe
 use Rattle.ink_protocol.specs.Input.{Takes}
 use Rattle.ink_protocol.specs.Lines.{TakesLine, GivesLine}
 use Rattle.ink_player.specs.Ends.{IsLastLine}
-use Rattle.ink_player.specs.Playing.{IsStoryLine, PlaysOn, EndsEarly, PlayFails, PlayEnds, Plays, play_fault, OpenFails, Opens}
+use Rattle.ink_player.specs.Playing.{IsStoryLine, PlaysOn, EndsEarly, PlayFails, PlayEnds, Plays, PlaysToEnd, play_fault, OpenFails, Opens}
 use Rattle.ink_player.specs.Serving.{RunEnds, Runs}
 use Rattle.ink_protocol.specs.Spelled.{HasRoom}
 use Rattle.ink_player.specs.Standing.{PlayerView, Scene, anew, scene_of, story_of}
@@ -58,6 +58,10 @@ TakesStory a b o n line = TakesLine a b o n (MAX_STORY + 1) (line ++ 10 ∷ []) 
 abbrev pub TakesAll : Option (List ℕ) → Option (List ℕ) → Buffered → Buffered → List ℕ → Type 0
 TakesAll a b o n line = TakesLine a b o n (MAX_STORY + 1) line line × (length line ≤ MAX_STORY) × (n.unread ≡ []) × IsAtEnd b
 
+-- all that came is the story
+all_got : (a b : Option (List ℕ)) (o n : Buffered) (line : List ℕ) → o ≡ fresh → (t : TakesAll a b o n line) → t.0.takes.got ≡ line
+all_got a b o n line e t = got_is a b o n line e t.0.takes ∙ ap (λ l. line ++ l) t.2 ∙ append-nil line
+
 all_is : (a b : Option (List ℕ)) (o n : Buffered) (line : List ℕ) → TakesAll a b o n line → IsStoryLine b (line ++ n.unread) line []
 all_is a b o n line t = record {
   plain = t.0.plain;
@@ -67,12 +71,14 @@ all_is a b o n line t = record {
 
 pub is_last_line : (a b : Option (List ℕ)) (o n : Buffered) (line : List ℕ) (f : PlayFault) → o ≡ fresh → TakesAll a b o n line → OpenFails line f → IsLastLine a b f
 is_last_line a b o n line f e t p =
-    let whole : t.0.takes.got ≡ line = got_is a b o n line e t.0.takes ∙ (ap (λ l. line ++ l) t.2 ∙ append-nil line) in
-    (line, subst (λ l. Consumes a b l) whole t.0.takes.consumed, t.3, t.0.plain, t.1, p)
+    (line, subst (λ l. Consumes a b l) (all_got a b o n line e t) t.0.takes.consumed, t.3, t.0.plain, t.1, p)
 
 module _ {P F O : Type 0} (turn_log : F → List Called) (refusals : F → ℕ) (state : O → Watching) (host : Bindings) (old : DeskView P F O) where
   abbrev Played : Option (List ℕ) → Option (List ℕ) → Option (List ℕ) → Option (List ℕ) → Result (DeskView P F O) (PlayEnd P F O) → Type 0
   Played a b h i r = Plays turn_log refusals state host old a b h i r
+
+  abbrev PlayedOn : Option (List ℕ) → Option (List ℕ) → Option (List ℕ) → Option (List ℕ) → Result (PlayerView P F O) (PlayEnd P F O) → Type 0
+  PlayedOn a b h i r = PlaysToEnd turn_log refusals state host old a b h i r
 
   abbrev Opened : Option (List ℕ) → List ℕ → List ℕ → Result (Unit {0}) RunFault → DeskView P F O → Type 0
   Opened left bytes written r new = PlaysOn turn_log refusals state host old left bytes written r new
@@ -123,44 +129,60 @@ module _ {P F O : Type 0} (turn_log : F → List Called) (refusals : F → ℕ) 
       plays_early a b h o n g.part _ e g.takes.takes bound (early _ bound, refl, inr (inl (refl, w)))
 
   pub no_story : (a b h : Option (List ℕ)) (o n : Buffered) (f : RunFault) (pf : PlayFault) → o ≡ fresh → GivesLine a b o n MAX_STORY (Err f) → pf ≡ play_fault f
-      → Played a b h h (Err (record { fault = pf; desk = old }))
+      → PlayedOn a b h h (Err (record { fault = pf; desk = old }))
   no_story a b h o n f pf e g k =
-      subst (λ x. Played a b h h (Err (record { fault = x; desk = old }))) (sym k) (no_story_for a b h o n f e g)
+      (subst (λ x. Played a b h h (Err (record { fault = x; desk = old }))) (sym k) (no_story_for a b h o n f e g), tt)
 
   pub unopened : (a b h : Option (List ℕ)) (o n : Buffered) (line : List ℕ) (x : PlayEnd P F O) → o ≡ fresh → TakesStory a b o n line → Opens line (Err x) → x.desk ≡ old
-      → Played a b h h (Err x)
+      → PlayedOn a b h h (Err x)
   unopened a b h o n line x e t p same =
-      let bound = story_bound a b o n (line ++ 10 ∷ []) line e t.0 in
-      plays_early a b h o n (line ++ 10 ∷ []) (Err x) e t.0.takes bound
-      (fails_early b _ line n.unread x.fault x.desk (record { plain = t.0.plain; within = t.1; whole = inl (append_assoc line (10 ∷ []) n.unread) }) bound p same)
+      let bound = story_bound a b o n (line ++ 10 ∷ []) line e t.0 in (
+        plays_early a b h o n (line ++ 10 ∷ []) (Err x) e t.0.takes bound
+            (fails_early b _ line n.unread x.fault x.desk (record { plain = t.0.plain; within = t.1; whole = inl (append_assoc line (10 ∷ []) n.unread) }) bound p same),
+        tt,
+      )
 
   pub unopened_last : (a b h : Option (List ℕ)) (o n : Buffered) (line : List ℕ) (x : PlayEnd P F O) → o ≡ fresh → TakesAll a b o n line → Opens line (Err x) → x.desk ≡ old
-      → Played a b h h (Err x)
+      → PlayedOn a b h h (Err x)
   unopened_last a b h o n line x e t p same =
       let bound = story_bound a b o n line line e t.0 in
-      plays_early a b h o n line (Err x) e t.0.takes bound (fails_early b _ line [] x.fault x.desk (all_is a b o n line t) bound p same)
+      (plays_early a b h o n line (Err x) e t.0.takes bound (fails_early b _ line [] x.fault x.desk (all_is a b o n line t) bound p same), tt)
 
   -- ---- a session after the story
-
-  -- there is nothing after it
-  pub plays_last : (a b h : Option (List ℕ)) (o n : Buffered) (line : List ℕ) (p : PlayerView P F O) (d : DeskView P F O) → o ≡ fresh → TakesAll a b o n line → Opens line (Ok p) → d.events ≡ [] → d ≡ anew old
-      → Played a b h h (Ok d)
-  plays_last a b h o n line p d e t opens taken same =
-      plays_early a b h o n line (Ok d) e t.0.takes (story_bound a b o n line line e t.0) (record {
-        tree = story_of p;
-        story = record { line = line; input = []; story_line = all_is a b o n line t; reads = opens.0 };
-        first = opens.1.0;
-        opens = opens.1.1;
-        last = record { state = opened opens.1.0; desk = anew old };
-        ends = record { at_end = t.3; within = none_within _; each = tt; session = ([], (refl, refl, refl), refl) };
-        desk = same;
-        taken = taken;
-      })
 
   -- the player that was opened is as its story begins, and has the desk
   opened_scene : (p : PlayerView P F O) (line : List ℕ) (opens : Opens line (Ok p)) → p.desk ≡ anew old → scene_of p ≡ record { state = opened opens.1.0; desk = anew old }
   opened_scene p line opens desk =
       ap (λ s. let x : Scene P F O = record { state = s; desk = p.desk } in x) opens.1.2 ∙ ap (λ d. let x : Scene P F O = record { state = opened opens.1.0; desk = d } in x) desk
+
+  -- there is nothing after it
+  pub plays_last : (a b h : Option (List ℕ)) (o n : Buffered) (line : List ℕ) (p : PlayerView P F O) → o ≡ fresh → TakesAll a b o n line → Opens line (Ok p) → p.desk ≡ anew old
+      → PlayedOn a b h h (Ok p)
+  plays_last a b h o n line p e t opens begun = (
+    record {
+      bytes = t.0.takes.got;
+      consumed = t.0.takes.consumed;
+      bound = omega (arith, story_bound a b o n line line e t.0, ap length (got_is a b o n line e t.0.takes));
+      written = [];
+      appended = Appends-nil h;
+      ends = record {
+        tree = story_of p;
+        story = record {
+          line = line;
+          input = [];
+          story_line = record { plain = t.0.plain; within = t.1; whole = inr (all_got a b o n line e t, refl, t.3) };
+          reads = opens.0;
+        };
+        first = opens.1.0;
+        opens = opens.1.1;
+        last = record { state = opened opens.1.0; desk = anew old };
+        ends = record { at_end = t.3; within = none_within _; each = tt; session = ([], (refl, refl, refl), refl) };
+        desk = begun;
+        taken = ap (λ d. d.events) begun;
+      };
+    },
+    (refl, opened_scene p line opens begun),
+  )
 
   plays_from : (a b c h j : Option (List ℕ)) (o n : Buffered) (line : List ℕ) (p : PlayerView P F O) (last : Scene P F O) (d : DeskView P F O) (r : Result (Unit {0}) RunFault) (x : Result (DeskView P F O) (PlayEnd P F O))
       → o ≡ fresh → TakesStory a b o n line → Opens line (Ok p) → p.desk ≡ anew old → Runs turn_log refusals state (story_of p) host n.spare n.unread b c h j (scene_of p) last r
@@ -196,14 +218,15 @@ module _ {P F O : Type 0} (turn_log : F → List Called) (refusals : F → ℕ) 
         });
       }
 
-  pub plays_on : (a b c h j : Option (List ℕ)) (o n : Buffered) (line : List ℕ) (p : PlayerView P F O) (last : Scene P F O) (d : DeskView P F O)
-      → o ≡ fresh → TakesStory a b o n line → Opens line (Ok p) → p.desk ≡ anew old → Runs turn_log refusals state (story_of p) host n.spare n.unread b c h j (scene_of p) last (Ok tt)
-      → d.events ≡ [] → d ≡ last.desk → Played a c h j (Ok d)
-  plays_on a b c h j o n line p last d e t opens begun q taken same =
-      plays_from a b c h j o n line p last d (Ok tt) (Ok d) e t opens begun q taken same (λ bytes written y. y)
+  pub plays_on : (a b c h j : Option (List ℕ)) (o n : Buffered) (line : List ℕ) (p new : PlayerView P F O)
+      → o ≡ fresh → TakesStory a b o n line → Opens line (Ok p) → p.desk ≡ anew old → Runs turn_log refusals state (story_of p) host n.spare n.unread b c h j (scene_of p) (scene_of new) (Ok tt)
+      → new.desk.events ≡ [] → story_of new ≡ story_of p → PlayedOn a c h j (Ok new)
+  unfolding plays_from
+  plays_on a b c h j o n line p new e t opens begun q taken same =
+      (plays_from a b c h j o n line p (scene_of new) new.desk (Ok tt) (Ok new.desk) e t opens begun q taken refl (λ bytes written y. y), (same, refl))
 
   pub plays_short : (a b c h j : Option (List ℕ)) (o n : Buffered) (line : List ℕ) (p : PlayerView P F O) (last : Scene P F O) (f : RunFault) (d : DeskView P F O)
       → o ≡ fresh → TakesStory a b o n line → Opens line (Ok p) → p.desk ≡ anew old → Runs turn_log refusals state (story_of p) host n.spare n.unread b c h j (scene_of p) last (Err f)
-      → d.events ≡ [] → d ≡ last.desk → Played a c h j (Err (record { fault = play.Run f; desk = d }))
+      → d.events ≡ [] → d ≡ last.desk → PlayedOn a c h j (Err (record { fault = play.Run f; desk = d }))
   plays_short a b c h j o n line p last f d e t opens begun q taken same =
-      plays_from a b c h j o n line p last d (Err f) (Err (record { fault = play.Run f; desk = d })) e t opens begun q taken same (λ bytes written y. inr y)
+      (plays_from a b c h j o n line p last d (Err f) (Err (record { fault = play.Run f; desk = d })) e t opens begun q taken same (λ bytes written y. inr y), tt)

@@ -20,7 +20,7 @@ use Rattle.ink_model.specs.declared.fault.ReadRefusal.{ReadRefusal}
 use Rattle.ink_player.specs.Serving.{RunEnds}
 use Rattle.ink_protocol.specs.Spelled.{HasRoom}
 use Rattle.ink_step.specs.Steps.{FailsToOpen}
-use Rattle.ink_player.specs.Standing.{PlayerView, Scene, anew, desk_of, state_of, story_of}
+use Rattle.ink_player.specs.Standing.{PlayerView, Scene, anew, desk_of, scene_of, state_of, story_of}
 use Rattle.ink_player.specs.declared.end.PlayEnd.{PlayEnd}
 use Rattle.ink_player.specs.declared.end.PlayFault.{PlayFault}
 use Rattle.ink_player.specs.declared.end.PlayFault.TheVariants as play
@@ -132,3 +132,13 @@ module _ {P F O : Type 0} where
   abbrev pub OpensDesk : DeskView P F O → Result (PlayerView P F O) (PlayEnd P F O) → Type 0
   OpensDesk desk (Ok p) = desk_of p ≡ anew desk
   OpensDesk desk (Err e) = e.desk ≡ desk
+
+module _ {P F O : Type 0} (turn_log : F → List Called) (refusals : F → ℕ) (state : O → Watching) (h : Bindings) (old : DeskView P F O) where
+  -- A player that played a story to the end has the story that was brought, and stands where its last line left it.
+  abbrev pub StandsThere : {left left' held held' : Option (List ℕ)} (result : Result (PlayerView P F O) (PlayEnd P F O)) → Plays turn_log refusals state h old left left' held held' (played result) → Type 0
+  StandsThere (Ok p) x = (story_of p ≡ x.ends.tree) × (scene_of p ≡ x.ends.last)
+  StandsThere (Err e) x = Unit {0}
+
+  -- what a play does whose player comes back
+  abbrev pub PlaysToEnd : (left left' held held' : Option (List ℕ)) → Result (PlayerView P F O) (PlayEnd P F O) → Type 0
+  PlaysToEnd left left' held held' result = (x : Plays turn_log refusals state h old left left' held held' (played result)) × StandsThere result x

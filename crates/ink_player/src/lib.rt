@@ -19,7 +19,9 @@ pub use ink_model::{
     Cause, Change, Event, Fault, Given, Halt, HostFault, MAX_STORY, MAX_TEXT, Part, Passage, Path,
     Place, ReadRefusal, Refusal, Seq, Shared, Shown, Text, Value,
 };
+pub use ink_path::print_path;
 pub use ink_protocol::{Counting, ReadFailed, RunFault, Sink, Source, WriteFailed, print_values};
+pub use ink_value::same_value;
 pub use player::{OpenFault, Player};
 pub use playing::{open_story, play, serve_story, serve_to_end};
 pub use session::{run, serve};

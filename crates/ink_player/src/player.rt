@@ -67,6 +67,13 @@ impl<P: Drop, F: Drop, O: Drop> Drop for Player<P, F, O> {
     }
 }
 
+/// Its name alone, whatever the objects on its desk are.
+impl<P, F, O> fmt::Debug for Player<P, F, O> {
+    fn fmt<W: fmt::Write>(&self, f: &mut fmt::Formatter<W>) -> fmt::Result {
+        f.debug_struct("Player").finish_non_exhaustive()
+    }
+}
+
 impl<P, F, O> Model for Player<P, F, O> {
     ghost use Rattle.std.specs.Coded.{codes};
     ghost use Rattle.ink_check.specs.Standing.{story_tree};
@@ -237,8 +244,9 @@ impl<P: PureFn, F: TurnFn, O: Watcher> Player<P, F, O> {
         }
     }
 
-    /// Takes the memory of a passage, for one that is answered later. Nothing else changes. Takes no memory.
-    pub(crate) fn reuse(&mut self, passage: Passage)
+    /// Takes the memory of a passage that has been shown, for the text and the tags of a later one: a game that plays line by line
+    /// need ask for none then (docs/SPEED.md). Nothing else changes. Takes no memory.
+    pub fn reuse(&mut self, passage: Passage)
         ensures same { self.new ≡ self.old }
     {
         let Passage {
@@ -587,6 +595,13 @@ impl<P: PureFn, F: TurnFn, O: Watcher> Player<P, F, O> {
         ensures story { story_of self.new ≡ story_of self.old }
     {
         self.desk.unwatch(name)
+    }
+
+    /// The desk, lent: between commands a host looks at what it has bound. Takes no memory.
+    pub fn desk(&self) -> &Desk<P, F, O>
+        ensures { result.now ≡ desk_of self.now }
+    {
+        &self.desk
     }
 
     /// The fault by which the player is broken, until a load or a restart; none where it is not broken. Takes no memory.

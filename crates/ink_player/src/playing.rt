@@ -6,7 +6,7 @@ ghost use Rattle.ink_host.specs.Desk.{Resting};
 ghost use Rattle.ink_host.specs.Telling.{rests};
 ghost use Rattle.ink_model.specs.Story.Acceptance as rules;
 ghost use Rattle.ink_player.specs.Ends.{PlayEndsOnce, play_reads_fail, play_writes_fail};
-ghost use Rattle.ink_player.specs.Playing.{IsRefused, Opens, OpensDesk, Plays, desk_left, play_fault, played};
+ghost use Rattle.ink_player.specs.Playing.{IsRefused, Opens, OpensDesk, Plays, PlaysToEnd, desk_left, play_fault, played};
 ghost use Rattle.ink_player.specs.Standing.{bindings};
 ghost use Rattle.ink_protocol.specs.Ends.{Reports};
 
@@ -65,15 +65,15 @@ pub fn serve_story<S: Source, T: Sink, P: PureFn, F: TurnFn, O: Watcher>(
     }
 }
 
-/// Plays a story as `serve_story` does, and hands back the player, which has the desk: a program that ends here need not let go of
-/// what the player holds. At an error the desk is handed back.
+/// Plays a story as `serve_story` does, and hands back the player, which stands where the last line left it and has the desk: a host
+/// may save it or go on with it, and a program that ends here need not let go of what it holds. At an error the desk is handed back.
 pub fn serve_to_end<S: Source, T: Sink, P: PureFn, F: TurnFn, O: Watcher>(
     alloc: Global,
     source: &mut S,
     sink: &mut T,
     desk: Desk<P, F, O>,
 ) -> Result<Player<P, F, O>, PlayEnd<P, F, O>>
-    ensures plays { Plays F.log F.refusals O.state (bindings P.meaning desk) desk (S.remaining source.old) (S.remaining source.new) (T.contents sink.old) (T.contents sink.new) (played result) }
+    ensures plays { PlaysToEnd F.log F.refusals O.state (bindings P.meaning desk) desk (S.remaining source.old) (S.remaining source.new) (T.contents sink.old) (T.contents sink.new) result }
     ensures rest { Resting (rests O.state) desk.watchers → Resting (rests O.state) (desk_left (played result)).watchers }
     ensures source { Reports (play_reads_fail (played result)) (S.failures source.old) (S.failures source.new) (S.name source.old) (S.name source.new) }
     ensures ends { PlayEndsOnce (S.remaining source.old) (S.remaining source.new) (played result) (S.ends source.old) (S.ends source.new) }

@@ -18,9 +18,9 @@ returns-in-Err-open_story-clause-plays g c =
 pub returns-in-Ok-outcome-clause-plays : goal.returns-in-Ok-outcome-clause-plays
 returns-in-Ok-outcome-clause-plays g c =
     let begun = c.in-Ok-open_story.ensures.desk in
-    plays_on g.F.TurnFn.log g.F.TurnFn.refusals g.O.Watcher.state _ _ _ _ _ _ _ _ _ c.in-Whole.line.items c.in-Ok-open_story.player _ _ c.new-ahead.ensures (rw c.in-Whole.is at c.in-Ok.ensures.gives)
+    plays_on g.F.TurnFn.log g.F.TurnFn.refusals g.O.Watcher.state _ _ _ _ _ _ _ _ _ c.in-Whole.line.items c.in-Ok-open_story.player c.serve_lines-outcome.new.player c.new-ahead.ensures (rw c.in-Whole.is at c.in-Ok.ensures.gives)
     (opens_as _ _ (Ok c.in-Ok-open_story.player) c.deref.ensures.value c.in-Ok-open_story.ensures.opens) begun
-    (runs_for g.F.TurnFn.log g.F.TurnFn.refusals g.O.Watcher.state _ _ _ _ _ _ _ _ _ _ _ _ (ap (bindings g.P.PureFn.meaning) begun) c.in-Ok-outcome.ensures.runs) c.has_no_events.ensures refl
+    (runs_for g.F.TurnFn.log g.F.TurnFn.refusals g.O.Watcher.state _ _ _ _ _ _ _ _ _ _ _ _ (ap (bindings g.P.PureFn.meaning) begun) c.in-Ok-outcome.ensures.runs) c.has_no_events.ensures c.in-Ok-outcome.ensures.story
 
 pub returns-in-Whole-clause-plays : goal.returns-in-Whole-clause-plays
 returns-in-Whole-clause-plays g c =
@@ -31,9 +31,8 @@ returns-in-Whole-clause-plays g c =
 
 pub returns-in-Ok-open_story-2-clause-plays : goal.returns-in-Ok-open_story-2-clause-plays
 returns-in-Ok-open_story-2-clause-plays g c =
-    plays_last g.F.TurnFn.log g.F.TurnFn.refusals g.O.Watcher.state _ _ _ _ _ _ _ c.in-Last.line.items c.in-Ok-open_story-2.player _ c.new-ahead.ensures (rw c.in-Last.is at c.in-Ok.ensures.gives)
-    (opens_as _ _ (Ok c.in-Ok-open_story-2.player) c.deref-in-Last.ensures.value c.in-Ok-open_story-2.ensures.opens)
-    (ap (λ d. d.events) c.in-Ok-open_story-2.ensures.desk) c.in-Ok-open_story-2.ensures.desk
+    plays_last g.F.TurnFn.log g.F.TurnFn.refusals g.O.Watcher.state _ _ _ _ _ _ _ c.in-Last.line.items c.in-Ok-open_story-2.player c.new-ahead.ensures (rw c.in-Last.is at c.in-Ok.ensures.gives)
+    (opens_as _ _ (Ok c.in-Ok-open_story-2.player) c.deref-in-Last.ensures.value c.in-Ok-open_story-2.ensures.opens) c.in-Ok-open_story-2.ensures.desk
 
 pub returns-clause-plays : goal.returns-clause-plays
 returns-clause-plays g c =
