@@ -1,23 +1,26 @@
 //! Functions of a story that are asked of its reader.
 
-ghost use Rattle.std.specs.Prelude.{◌≡◌, [], IfOk, string_bytes};
+ghost use Rattle.std.specs.Prelude.{◌≡◌, [], IfOk, OnOk, option_map, string_bytes};
 ghost use Rattle.ink_check.specs.Standing as accepted;
+ghost use Rattle.ink_model.specs.Story.Tree as trees;
 ghost use Rattle.ink_page.specs.Lines.{IsPage};
-ghost use Rattle.ink_page.specs.Turns.{AsksMore, log_of, refusals_of};
-ghost use Rattle.ink_tree.specs.Nodes.{story_tree};
+ghost use Rattle.ink_page.specs.Turns.{AllAnswered, AsksMore, IsAnswered, function_at, log_of, refusals_of};
+ghost use Rattle.ink_tree.specs.Nodes.{node_place, story_tree};
 
 use crate::given::read_given;
 use crate::page::{Look, line_page};
+use crate::sentences::refusal_words;
 use ink_check::Story;
 use ink_host::{Desk, Recorder, TurnFn};
-use ink_model::{Given, HostFault, Leaf, Text, Value};
+use ink_model::{Given, HostFault, Leaf, Refusal, Text, Value};
 use ink_protocol::print_values;
 use ink_tree::{NodeId, Tree};
 use std::alloc::{AllocError, Global};
-use std::io;
+use std::io::{self, ErrorKind};
 
-/// A function that asks the reader: it shows its name and its arguments, and what is typed in one line is its answer. At the end of
-/// the input it refuses, and so it does where there is no memory for what was typed: it has asked then.
+/// A function that asks the reader: it shows its name and its arguments, and what is typed in one line is its answer. A line that is
+/// no UTF-8 is told to be not understood, and it asks again. It refuses at the end of the input, where showing or reading fails, and
+/// where there is no memory for what was typed: it has asked then.
 #[derive(Drop)]
 pub struct Asked<R> {
     name: Text,
@@ -43,15 +46,33 @@ impl<R: Input + Print + Drop> Asked<R> {
         })
     }
 
-    // Asks, and gives what is answered: none at the end of the input, where it fails, or where memory was refused for what was
-    // typed. The one error is a refused request for memory before it asks.
+    // Asks, and gives what is answered, none where it is not. The one error is a refused request for memory before it asks.
     fn ask(&self, arguments: &[Value]) -> Result<Option<Given>, AllocError> {
         let question = question(self.alloc, self.look, self.name.as_str(), arguments)?;
-        let mut line = String::new(self.alloc);
-        match ask_line(&self.rt, question.as_str(), &mut line) {
-            Ok(count) if count > 0 => Ok(read_given(self.alloc, line.as_str()).ok()),
-            _ => Ok(None),
+        Ok(self.answer(question.as_str()))
+    }
+
+    // Asks until a line is UTF-8, and gives what it answers: none at the end of the input, where showing or reading fails, or where
+    // memory was refused for what was typed.
+    fn answer(&self, question: &str) -> Option<Given> {
+        // Each loop has to end. So the lines are counted, up to a number that nobody types.
+        for _line in 0..u64::MAX {
+            let mut line = String::new(self.alloc);
+            match ask_line(&self.rt, question, &mut line) {
+                Ok(0) => return None,
+                Ok(_) => return read_given(self.alloc, line.as_str()).ok(),
+                Err(error) if error.kind() == ErrorKind::InvalidData => self.say_unclear()?,
+                Err(_) => return None,
+            }
         }
+        None
+    }
+
+    // Says that a line was not understood; none where that fails.
+    fn say_unclear(&self) -> Option<()> {
+        let words = refusal_words(Refusal::BadCommand);
+        let page = line_page(self.alloc, self.look, words, &[]).ok()?;
+        println!(&self.rt; "{}", page.as_str()).ok()
     }
 }
 
@@ -91,11 +112,17 @@ fn question(
     let mut text = String::from_str(alloc, name)?;
     text.push('(')?;
     let values = print_values(alloc, arguments)?;
-    if let Ok(values) = str::from_utf8(&values) {
-        text.push_str(values.trim_start_matches('[').trim_end_matches(']'))?;
+    if let Some(values) = between_brackets(values.as_slice()) {
+        text.push_str(values)?;
     }
     text.push(')')?;
     line_page(alloc, look, text.as_str(), &[])
+}
+
+// The values of an array, without the bracket at each end.
+fn between_brackets(array: &[u8]) -> Option<&str> {
+    let text = str::from_utf8(array).ok()?;
+    text.strip_prefix("[")?.strip_suffix("]")
 }
 
 /// A turn function that was bound, or one that asks.
@@ -119,6 +146,7 @@ impl<F: TurnFn, G: TurnFn> TurnFn for Turn<F, G> {
 }
 
 /// Binds each function that a story calls, that nothing is bound to yet and that has no knot of its own, to an object that asks.
+/// The one error is a refused request for memory; functions that were found before ask then.
 pub fn ask_for_the_rest<R: Input + Print + Copy + Drop, P, F, O>(
     alloc: Global,
     rt: R,
@@ -126,7 +154,8 @@ pub fn ask_for_the_rest<R: Input + Print + Copy + Drop, P, F, O>(
     story: &Story,
     desk: &mut Desk<P, Turn<F, Asked<R>>, O>,
 ) -> Result<(), AllocError>
-    ensures { AsksMore (accepted.story_tree story.now) desk.old desk.new }
+    ensures asks { AsksMore look (accepted.story_tree story.now) desk.old desk.new }
+    ensures all { OnOk result (AllAnswered (accepted.story_tree story.now) desk.new.functions) }
 {
     let tree = story.tree();
     for number in 0..tree.len() {
@@ -146,7 +175,8 @@ fn ask_for<R: Input + Print + Copy + Drop, P, F, O>(
     name: &str,
     desk: &mut Desk<P, Turn<F, Asked<R>>, O>,
 ) -> Result<(), AllocError>
-    ensures { AsksMore (story_tree tree.now) desk.old desk.new }
+    ensures asks { AsksMore look (story_tree tree.now) desk.old desk.new }
+    ensures answered { OnOk result (IsAnswered (story_tree tree.now) name.now desk.new.functions) }
 {
     if desk.kind(name).is_some() || tree.knot(name).is_some() {
         return Ok(());
@@ -163,7 +193,9 @@ fn ask_for<R: Input + Print + Copy + Drop, P, F, O>(
 }
 
 // The function of the host that a content calls.
-fn called(tree: &Tree, node: NodeId) -> Option<&str> {
+fn called(tree: &Tree, node: NodeId) -> Option<&str>
+    ensures { let s = story_tree tree.now in option_map (λ name. name.now) result ≡ function_at (trees.at s (node_place s node)) }
+{
     match tree.leaf(node) {
         Some(Leaf::External { name, .. }) => Some(name.as_str()),
         _ => None,

@@ -67,7 +67,9 @@ pub struct Table {
 
 impl Table {
     /// The function with these rows.
-    pub fn new(alloc: Global, rows: Vec<Row>) -> Table {
+    pub fn new(alloc: Global, rows: Vec<Row>) -> Table
+        ensures rows { result.rows.items ≡ rows.items }
+    {
         Table { rows, alloc }
     }
 }

@@ -1,6 +1,6 @@
-//! A small game that plays its story as any game would: it binds objects of its own, shows line by line what comes and then the
-//! choices, and takes a choice for each line of its input, which is the choice's number (docs/HOST.md). A line `s` saves the game,
-//! and `l` goes back to that save, also after a fault.
+//! A small game that plays its story as any game would: it binds objects of its own, shows line by line what comes with its tags,
+//! and then the choices or that the story is over, and takes a choice for each line of its input, which is the choice's number
+//! (docs/HOST.md). A line `s` saves the game, and `l` goes back to that save, also after a fault.
 #![tactic(auto)]
 
 mod objects;
@@ -176,10 +176,21 @@ fn tell<R: Print + Drop>(rt: &impl Print, game: &mut Game<R>) -> io::Result<()> 
     Ok(())
 }
 
-/// Shows a line, and behind the last one the choices.
+/// Shows a line and its tags, and behind the last one the choices, or that the story is over.
 fn show(rt: &impl Print, line: &Passage) -> io::Result<()> {
     print!(rt; "{}", line.text.as_str())?;
+    for tag in line.tags.as_slice() {
+        println!(rt; "  # {}", tag.as_str())?;
+    }
+    if is_over(line) {
+        return println!(rt; "The story is over.");
+    }
     list(rt, line.choices.as_slice())
+}
+
+/// Whether nothing comes behind a line: flow has stopped, and there is no choice.
+fn is_over(line: &Passage) -> bool {
+    !line.more && line.choices.is_empty()
 }
 
 /// Shows choices by their numbers.
