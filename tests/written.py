@@ -1,5 +1,5 @@
 #!/usr/bin/env python3
-"""Sessions written by hand, by somebody who knew the rules alone and not the code.
+"""Sessions written by hand, by two who knew the rules alone and not the code.
 
     tests/written.py [PROGRAM]      the program is ./inkplay unless another is named
 
