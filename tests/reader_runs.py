@@ -66,7 +66,7 @@ FAULTS = (
         "a\x1b[31mb\x9b2Jc": ["^One.", "\n"] + DIVIDES + ["done", None]}], "One.\n", "a [31mb 2Jc.2"),
 )
 
-# Stories that call a function, words, what is typed, and what is printed.
+# Stories that call a function, words, what is typed (bytes where it is no UTF-8), and what is printed.
 CALLS = ["ev", {"x()": "f"}, "out", "/ev", "\n", "done", None]
 THREE = "3\nThe story ends here.\n> "
 QUESTIONS = (
@@ -76,6 +76,12 @@ QUESTIONS = (
     ("a function that a word binds, beside one that asks", [["ev", {"x()": "g"}, "out", "/ev"] + CALLS, "done", {}], ["--answer", "f=[3]"], "2\n", "g() = 2" + THREE),
     ("a function at the end of the input", [CALLS, "done", {}], [], "",
      "f() = A function had no answer to give.\n%sThe line that broke off began at 0.\n> " % BROKE_OFF),
+    ("a question that is answered by no UTF-8", [CALLS, "done", {}], [], b"\xe9\n\xff\n3\n", "f() = That was not understood.\n" * 2 + "f() = " + THREE),
+    ("a question that is answered by no UTF-8 at the end of the input", [CALLS, "done", {}], [], b"\xe9",
+     "f() = That was not understood.\nf() = A function had no answer to give.\n%sThe line that broke off began at 0.\n> " % BROKE_OFF),
+    ("a question with brackets", [
+        ["ev", "str", "^[a]]", "/str", "str", "^[", "/str", {"x()": "f", "exArgs": 2}, "out", "/ev", "\n", "done", None], "done", {}], [], "3\n",
+     'f("[a]]","[") = ' + THREE),
     ("a question with control characters", [
         ["ev", "str", "^\x9b2Jc", "/str", {"x()": "a\x1b[31mb\x9b2J", "exArgs": 1}, "out", "/ev", "\n", "done", None], "done", {}], [], "3\n",
      'a [31mb 2J(" 2Jc") = ' + THREE),
@@ -85,7 +91,8 @@ QUESTIONS = (
 def run(program, folder, words, typed, **env):
     """What a reading prints, its standard error and its status."""
     env = dict({name: value for name, value in os.environ.items() if name not in ("COLUMNS", "NO_COLOR", "TERM")}, **env)
-    done = subprocess.run([program] + words, input=typed.encode(), cwd=folder, env=env, stdout=subprocess.PIPE, stderr=subprocess.PIPE)
+    typed = typed if isinstance(typed, bytes) else typed.encode()
+    done = subprocess.run([program] + words, input=typed, cwd=folder, env=env, stdout=subprocess.PIPE, stderr=subprocess.PIPE)
     return done.stdout.decode(), done.stderr.decode(), done.returncode
 
 
