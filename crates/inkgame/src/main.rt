@@ -1,12 +1,15 @@
 //! A small game that plays its story as any game would: it binds objects of its own, shows line by line what comes with its tags,
 //! and then the choices or that the story is over, and takes a choice for each line of its input, which is the choice's number
-//! (docs/HOST.md). A line `s` saves the game, and `l` goes back to that save, also after a fault.
+//! (docs/HOST.md). A line `s` saves the game, and `l` goes back to that save, also after a fault. `n` tells what the game's objects
+//! have noted.
 #![tactic(auto)]
 
 mod objects;
 mod story;
 
-use ink_player::{Desk, Passage, PlayEnd, PlayFault, Player, Refusal, Shown, Text, open_story};
+use ink_player::{
+    Bound, Desk, Passage, PlayEnd, PlayFault, Player, Refusal, Shown, Text, open_story,
+};
 use objects::{Die, Inn, Purse};
 use std::alloc::{AllocError, Global};
 use std::io;
@@ -103,6 +106,7 @@ fn play<R: Print + Drop>(
         match line.trim() {
             "s" => save(rt, game, &mut saved)?,
             "l" => load(rt, game, &saved)?,
+            "n" => count(rt, game)?,
             word => match word.parse::<u32>() {
                 Ok(number) => take(rt, game, number)?,
                 Err(_) => println!(rt; "There is no such choice.")?,
@@ -142,6 +146,17 @@ fn load<R: Print + Drop>(
     }
 }
 
+/// Shows how often the die was thrown and the gold has changed. The objects on the desk have noted it.
+fn count<R: Print + Drop>(rt: &impl Print, game: &Game<R>) -> io::Result<()> {
+    if let Some(Bound::Turn(die)) = game.desk().function("throw") {
+        println!(rt; "The die was thrown {} times.", die.throws())?;
+    }
+    if let Some(purse) = game.desk().watcher("gold") {
+        println!(rt; "The gold has changed {} times.", purse.changes())?;
+    }
+    Ok(())
+}
+
 /// Shows the choices that are open.
 fn offer<R: Print + Drop>(rt: &impl Print, game: &Game<R>) -> io::Result<()> {
     match game.choices() {
@@ -166,7 +181,9 @@ fn tell<R: Print + Drop>(rt: &impl Print, game: &mut Game<R>) -> io::Result<()> 
         match game.continue_line() {
             Ok(line) => {
                 show(rt, &line)?;
-                if !line.more {
+                let more = line.more;
+                game.reuse(line);
+                if !more {
                     return Ok(());
                 }
             }

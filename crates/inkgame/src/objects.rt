@@ -42,6 +42,11 @@ impl Die {
             noted: Recorder::new(alloc),
         }
     }
+
+    /// How often it was called.
+    pub(crate) fn throws(&self) -> usize {
+        self.noted.calls().len()
+    }
 }
 
 impl TurnFn for Die {
@@ -85,6 +90,11 @@ impl<R: Print> Purse<R> {
             rt,
             noted: Observer::new(alloc),
         }
+    }
+
+    /// How often the gold has changed.
+    pub(crate) fn changes(&self) -> usize {
+        self.noted.seen().len()
     }
 }
 
