@@ -20,9 +20,11 @@ use std::marker::Model;
 use std::{fmt, mem};
 
 /// What a name is bound to: a function of this kind, at this place among all that are bound.
-#[derive(Clone, Copy)]
+#[derive(Clone, Copy, Debug)]
 pub struct Found {
+    /// Which kind of function it is.
     pub kind: FnKind,
+    /// Its place among all that are bound, counted from 0.
     pub place: usize,
 }
 

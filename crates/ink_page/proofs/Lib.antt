@@ -5,3 +5,5 @@ pub mod PageLines
 mod Writing
 mod Typing
 mod Asking
+mod Questions
+mod Pieces

@@ -5,4 +5,6 @@ pub mod Sentences
 pub mod Page
 pub mod Showing
 pub mod Given
+pub mod Question
+pub mod Piece
 pub mod Turns

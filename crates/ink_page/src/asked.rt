@@ -1,19 +1,18 @@
 //! Functions of a story that are asked of its reader.
 
-ghost use Rattle.std.specs.Prelude.{◌≡◌, [], IfOk, OnOk, option_map, string_bytes};
+ghost use Rattle.std.specs.Prelude.{◌≡◌, [], IfOk, OnOk, option_map};
 ghost use Rattle.ink_check.specs.Standing as accepted;
 ghost use Rattle.ink_model.specs.Story.Tree as trees;
-ghost use Rattle.ink_page.specs.Lines.{IsPage};
 ghost use Rattle.ink_page.specs.Turns.{AllAnswered, AsksMore, IsAnswered, function_at, log_of, refusals_of};
 ghost use Rattle.ink_tree.specs.Nodes.{node_place, story_tree};
 
 use crate::given::read_given;
 use crate::page::{Look, line_page};
+use crate::question::question;
 use crate::sentences::refusal_words;
 use ink_check::Story;
 use ink_host::{Desk, Recorder, TurnFn};
 use ink_model::{Given, HostFault, Leaf, Refusal, Text, Value};
-use ink_protocol::print_values;
 use ink_tree::{NodeId, Tree};
 use std::alloc::{AllocError, Global};
 use std::io::{self, ErrorKind};
@@ -31,7 +30,7 @@ pub struct Asked<R> {
 }
 
 impl<R: Input + Print + Drop> Asked<R> {
-    /// The function of a name, which was not called yet.
+    /// The function of a name, which was not called yet. The one error is a refused request for memory.
     pub fn new(alloc: Global, rt: R, look: Look, name: &str) -> Result<Asked<R>, AllocError>
         ensures name { IfOk result (λ asked. asked.name ≡ name.now) }
         ensures look { IfOk result (λ asked. asked.look ≡ look) }
@@ -98,31 +97,6 @@ impl<R: Input + Print + Drop> TurnFn for Asked<R> {
 fn ask_line(rt: &(impl Input + Print), question: &str, line: &mut String) -> io::Result<usize> {
     print!(rt; "{question} = ")?;
     rt.read_line(line)
-}
-
-// A call as it is asked: the function's name, and its arguments in parentheses.
-fn question(
-    alloc: Global,
-    look: Look,
-    name: &str,
-    arguments: &[Value],
-) -> Result<String, AllocError>
-    ensures lines { IfOk result (λ page. IsPage look.dims look.columns 0 (string_bytes page)) }
-{
-    let mut text = String::from_str(alloc, name)?;
-    text.push('(')?;
-    let values = print_values(alloc, arguments)?;
-    if let Some(values) = between_brackets(values.as_slice()) {
-        text.push_str(values)?;
-    }
-    text.push(')')?;
-    line_page(alloc, look, text.as_str(), &[])
-}
-
-// The values of an array, without the bracket at each end.
-fn between_brackets(array: &[u8]) -> Option<&str> {
-    let text = str::from_utf8(array).ok()?;
-    text.strip_prefix("[")?.strip_suffix("]")
 }
 
 /// A turn function that was bound, or one that asks.

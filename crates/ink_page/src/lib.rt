@@ -5,6 +5,7 @@ mod asked;
 mod given;
 mod page;
 mod piece;
+mod question;
 mod sentences;
 mod sheet;
 mod showing;

@@ -1,4 +1,5 @@
-//! The pages of a reading: lines of a story with their tags, and choices by their numbers (docs/READER.md, "What is shown").
+//! The pages of a reading: lines of a story with their tags, and choices by their numbers (docs/READER.md, "What is shown"). The
+//! one error is a refused request for memory.
 
 ghost use Rattle.std.specs.Prelude.{◌≡◌, OnOk, IfOk, IsUtf8, length, string_bytes};
 ghost use Rattle.ink_page.specs.Lines.{AreTexts, IsPage};

@@ -8,7 +8,8 @@ use std::marker::Model;
 use unicode_width::UnicodeWidthChar;
 
 /// A paragraph that is being laid out in so many columns: words that one blank parts, each on the line of the word before it where
-/// it fits there, else on a line of its own behind a margin. A word that is wider than a line goes on in the next.
+/// it fits there, else on a line of its own behind a margin. A word that is wider than a line goes on in the next. The one error of
+/// its calls is a refused request for memory.
 #[derive(Drop)]
 pub struct Sheet {
     columns: u16,

@@ -67,7 +67,8 @@ impl<P: PureFn, F: TurnFn, O: Watcher> Reader<P, F, O> {
         player.close()
     }
 
-    /// Does what was typed. Only quitting is left to the caller.
+    /// Does what was typed. Only quitting is left to the caller. The error is `Write` exactly where the sink failed in this call, or
+    /// took no byte; else it is `OutOfMemory`, or `TooLong` after 2^64 - 1 lines that were told at once.
     #[tactic(auto, using(crate::proofs::Causes::unread, crate::proofs::Causes::unread_shown))]
     pub fn answer<T: Sink, S: Shelf>(
         &mut self,
@@ -100,7 +101,7 @@ impl<P: PureFn, F: TurnFn, O: Watcher> Reader<P, F, O> {
         }
     }
 
-    /// Tells the story from where the player stands, up to where it stops.
+    /// Tells the story from where the player stands, up to where it stops. The errors are those of `answer`.
     pub fn begin<T: Sink, S: Shelf>(&mut self, sink: &mut T, shelf: &mut S) -> Result<(), RunFault>
         ensures reads { (ds : List Deed) × UpTo (is_ok result) (IsBeginning self.old.saves (places_of self.old.past)) ds (places_of self.new.past)
             × Played P.meaning F.log F.refusals O.state self.old.look self.old.player ds self.new.player (T.contents sink.old) (T.contents sink.new) (S.kept shelf.old) (S.kept shelf.new) (is_ok result) }
@@ -116,7 +117,7 @@ impl<P: PureFn, F: TurnFn, O: Watcher> Reader<P, F, O> {
     }
 
     /// Goes on where the save stands that is kept, and tells whether it does. Where there is none that stands in this story, it is
-    /// said why, and the reading saves no more by itself, so that what is kept stays.
+    /// said why, and the reading saves no more by itself, so that what is kept stays. The errors are those of `answer`.
     pub fn resume<T: Sink, S: Shelf>(
         &mut self,
         sink: &mut T,
@@ -139,7 +140,8 @@ impl<P: PureFn, F: TurnFn, O: Watcher> Reader<P, F, O> {
         Ok(loaded)
     }
 
-    /// Saves where the story stands at a choice, unless it is not to save by itself: the reading ends.
+    /// Saves where the story stands at a choice, unless it is not to save by itself: the reading ends. The error is `Write` exactly
+    /// where the sink failed in this call, or took no byte, and else `OutOfMemory`.
     pub fn quit<T: Sink, S: Shelf>(&self, sink: &mut T, shelf: &mut S) -> Result<(), RunFault>
         ensures reads { (ds : List Deed) × UpTo (is_ok result) (IsEnding self.now.saves (places_of self.now.past)) ds (places_of self.now.past)
             × Played P.meaning F.log F.refusals O.state self.now.look self.now.player ds self.now.player (T.contents sink.old) (T.contents sink.new) (S.kept shelf.old) (S.kept shelf.new) (is_ok result) }

@@ -30,7 +30,7 @@ pub(crate) enum PlayOption<'a> {
     Watch { name: &'a str },
 }
 
-/// What the words of a program with this name may be.
+/// What the words of a program with this name may be. The one error is a refused request for memory.
 pub fn command<'a>(alloc: Global, name: &'a str) -> Result<Command<'a>, AllocError> {
     Command::new(alloc, name)
         .disable_help_flag(true)

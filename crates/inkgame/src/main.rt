@@ -146,10 +146,10 @@ fn load<R: Print + Drop>(
     }
 }
 
-/// Shows how often the die was thrown and the gold has changed. The objects on the desk have noted it.
+/// Shows how often the die was asked for a throw and the gold has changed. The objects on the desk have noted it.
 fn count<R: Print + Drop>(rt: &impl Print, game: &Game<R>) -> io::Result<()> {
     if let Some(Bound::Turn(die)) = game.desk().function("throw") {
-        println!(rt; "The die was thrown {} times.", die.throws())?;
+        println!(rt; "The die was asked for a throw {} times.", die.throws())?;
     }
     if let Some(purse) = game.desk().watcher("gold") {
         println!(rt; "The gold has changed {} times.", purse.changes())?;

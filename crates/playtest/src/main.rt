@@ -7,6 +7,7 @@
 
 mod bindings;
 mod boxes;
+mod looked;
 mod objects;
 mod players;
 mod plays;

@@ -10,6 +10,8 @@
 //! - `flow NAME`, `drop NAME`, where NAME is what stands behind the word as it is; `flow_name`, and `flows`, apart by spaces
 //! - `turn NAME DEED..`, `pure NAME DEED`, `watch NAME`, `unbind NAME`, `unwatch NAME`: what is handed back, or `nothing`. A deed
 //!   is a value, `refuses` or `short`, which finds no memory; a watcher does not with `watch NAME short`
+//! - `kind NAME`: `pure`, `turn` or `nothing`; `has_watchers`; `path NAME`, the text of a target that a global has; `same NAME NAME`
+//! - `debug player`, `debug desk`, `debug called NAME`, `debug seen NAME`: what `{:?}` makes of them, of each that was noted
 //! - `short CALL`: `continue`, `through`, `restart`, `set`, `load` or `load_text`, of which want of memory is an answer, with the
 //!   events until then
 //!
@@ -18,6 +20,7 @@
 //! refused, the calls up to the next story are not made.
 
 use crate::bindings::{bind_pure, bind_turn, unbind, unwatch, watch};
+use crate::looked::{show_debug, show_kind, show_path, show_same};
 use crate::objects::{Constant, Script, Witness};
 use crate::shown::{show_done, show_passage, show_text};
 use ink_check::{Story, check};
@@ -243,6 +246,11 @@ fn ask(said: &mut Report, player: &TestPlayer, word: &str, rest: &str) -> Result
         "choices" => show_choices(said, player),
         "flows" => show_flows(said, player),
         "save" => save(said, player),
+        "kind" => show_kind(said, player, rest),
+        "has_watchers" => tell(said, player.desk().has_watchers()),
+        "path" => show_path(said, player, rest),
+        "same" => show_same(said, player, rest),
+        "debug" => show_debug(said, player, rest),
         _ => Err(NoAnswer::NoQuestion),
     }
 }
