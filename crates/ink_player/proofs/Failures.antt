@@ -1,8 +1,9 @@
 -- Whose failure ended a session or a play.
-use Rattle.std.proofs.Common.{◌≡◌, refl, subst, sym, ℕ, List, Bool, Option, Err}
-use Rattle.ink_player.proofs.Common.{Watching, Called, Bindings, StoryTree, Answers, Scene, PlayFault, Buffered, RunFault}
-use Rattle.ink_player.specs.Ends.{in_run}
-use Rattle.ink_player.specs.Playing.{OpenFails, play_fault}
+use Rattle.std.proofs.Common.{◌≡◌, refl, subst, sym, ℕ, List, Bool, Option, Result, Ok, Err}
+use Rattle.ink_player.proofs.Common.{Watching, Called, Bindings, StoryTree, Answers, PlayerView, Scene, PlayFault, Buffered, RunFault}
+use Rattle.ink_player.specs.Ends.{in_run, play_reads_fail, play_writes_fail}
+use Rattle.ink_player.specs.Playing.{OpenFails, Opens, play_fault, played}
+use Rattle.ink_player.specs.declared.end.PlayEnd.{PlayEnd}
 use Rattle.ink_player.specs.declared.end.PlayFault.TheVariants as play
 use Rattle.ink_protocol.specs.Ends.{Reports, after_call, is_read, is_write}
 use Rattle.ink_protocol.specs.Lines.{GivesLine}
@@ -50,3 +51,12 @@ pub open_failed : (test : RunFault → Bool) (line : List ℕ) (f : PlayFault) (
 open_failed test line (play.Story r) had has name name' fails same named = (same, named)
 open_failed test line (play.Start r) had has name name' fails same named = (same, named)
 open_failed test line (play.Run r) had has name name' fails same named = absurd fails
+
+-- one that is opened or not
+pub open_reads : {P F O : Type 0} (line : List ℕ) (r : Result (PlayerView P F O) (PlayEnd P F O)) (had has name name' : ℕ) → Opens line r → has ≡ had → name' ≡ name → Reports (play_reads_fail (played r)) had has name name'
+open_reads line (Ok p) had has name name' opens same named = (same, named)
+open_reads line (Err e) had has name name' opens same named = open_failed is_read line e.fault had has name name' opens same named
+
+pub open_writes : {P F O : Type 0} (line : List ℕ) (r : Result (PlayerView P F O) (PlayEnd P F O)) (had has name name' : ℕ) → Opens line r → has ≡ had → name' ≡ name → Reports (play_writes_fail (played r)) had has name name'
+open_writes line (Ok p) had has name name' opens same named = (same, named)
+open_writes line (Err e) had has name name' opens same named = open_failed is_write line e.fault had has name name' opens same named

@@ -1,15 +1,16 @@
 -- How a play goes on from its story's line.
-use Rattle.std.proofs.Common.{◌≡◌, ℕ, ◌+◌, ◌-◌, ◌<◌, ◌≤◌, List, [], ◌∷◌, ◌++◌, length, false, Option, Result, Ok, Err, ap, ◌∙◌, sym, refl, subst, inl, inr, arith, append_assoc, append-nil, length-append}
+use Rattle.std.proofs.Common.{◌≡◌, ℕ, ◌+◌, ◌-◌, ◌<◌, ◌≤◌, List, [], ◌∷◌, ◌++◌, length, true, false, Option, Result, Ok, Err, ap, ◌∙◌, sym, refl, subst, inl, inr, arith, append_assoc, append-nil, length-append}
 use Rattle.std.specs.Io.KnownBytes.{Consumes, IsAtEnd}
 use Rattle.std.proofs.KnownBytes.{Appends-nil, Consumes-trans}
 use Rattle.ink_model.specs.Text.Bytes.{has_newline}
 use Rattle.ink_model.specs.declared.limits.TheConstants.{MAX_STORY, MAX_INPUT}
 use Rattle.ink_model.specs.Run.Opening.{opened}
-use Rattle.ink_player.proofs.Common.{Bindings, DeskView, Watching, Called, Buffered, PlayFault, RunFault}
+use Rattle.ink_player.proofs.Common.{Bindings, DeskView, Watching, Called, Buffered, PlayFault, RunFault, after_call}
+use Rattle.ink_player.proofs.Endings.{fails_once}
 use Rattle.ink_protocol.specs.Input.{Takes}
 use Rattle.ink_protocol.specs.Lines.{TakesLine, GivesLine}
-use Rattle.ink_player.specs.Ends.{IsLastLine}
-use Rattle.ink_player.specs.Playing.{IsStoryLine, PlaysOn, EndsEarly, PlayFails, PlayEnds, Plays, PlaysToEnd, play_fault, OpenFails, Opens}
+use Rattle.ink_player.specs.Ends.{IsLastLine, PlayEndsOnce}
+use Rattle.ink_player.specs.Playing.{IsStoryLine, PlaysOn, EndsEarly, PlayFails, PlayEnds, Plays, PlaysToEnd, play_fault, played, OpenFails, Opens, OpensDesk}
 use Rattle.ink_player.specs.Serving.{RunEnds, Runs}
 use Rattle.ink_protocol.specs.Spelled.{HasRoom}
 use Rattle.ink_player.specs.Standing.{PlayerView, Scene, anew, scene_of, story_of}
@@ -69,9 +70,15 @@ all_is a b o n line t = record {
   whole = inr (ap (λ l. line ++ l) t.2 ∙ append-nil line, refl, t.3);
 }
 
-pub is_last_line : (a b : Option (List ℕ)) (o n : Buffered) (line : List ℕ) (f : PlayFault) → o ≡ fresh → TakesAll a b o n line → OpenFails line f → IsLastLine a b f
+is_last_line : (a b : Option (List ℕ)) (o n : Buffered) (line : List ℕ) (f : PlayFault) → o ≡ fresh → TakesAll a b o n line → OpenFails line f → IsLastLine a b f
 is_last_line a b o n line f e t p =
     (line, subst (λ l. Consumes a b l) (all_got a b o n line e t) t.0.takes.consumed, t.3, t.0.plain, t.1, p)
+
+-- the source of a play without a session was at its end once
+pub ends_last : {P F O : Type 0} (a b : Option (List ℕ)) (o n : Buffered) (line : List ℕ) (r : Result (PlayerView P F O) (PlayEnd P F O)) (was is : ℕ) → o ≡ fresh → TakesAll a b o n line → Opens line r
+    → is ≡ after_call true was → PlayEndsOnce a b (played r) was is
+ends_last a b o n line (Ok p) was is e t opens once = once
+ends_last a b o n line (Err x) was is e t opens once = fails_once a b x.fault was is (is_last_line a b o n line x.fault e t opens) once
 
 module _ {P F O : Type 0} (turn_log : F → List Called) (refusals : F → ℕ) (state : O → Watching) (host : Bindings) (old : DeskView P F O) where
   abbrev Played : Option (List ℕ) → Option (List ℕ) → Option (List ℕ) → Option (List ℕ) → Result (DeskView P F O) (PlayEnd P F O) → Type 0
@@ -142,7 +149,7 @@ module _ {P F O : Type 0} (turn_log : F → List Called) (refusals : F → ℕ) 
         tt,
       )
 
-  pub unopened_last : (a b h : Option (List ℕ)) (o n : Buffered) (line : List ℕ) (x : PlayEnd P F O) → o ≡ fresh → TakesAll a b o n line → Opens line (Err x) → x.desk ≡ old
+  unopened_last : (a b h : Option (List ℕ)) (o n : Buffered) (line : List ℕ) (x : PlayEnd P F O) → o ≡ fresh → TakesAll a b o n line → Opens line (Err x) → x.desk ≡ old
       → PlayedOn a b h h (Err x)
   unopened_last a b h o n line x e t p same =
       let bound = story_bound a b o n line line e t.0 in
@@ -156,9 +163,9 @@ module _ {P F O : Type 0} (turn_log : F → List Called) (refusals : F → ℕ) 
       ap (λ s. let x : Scene P F O = record { state = s; desk = p.desk } in x) opens.1.2 ∙ ap (λ d. let x : Scene P F O = record { state = opened opens.1.0; desk = d } in x) desk
 
   -- there is nothing after it
-  pub plays_last : (a b h : Option (List ℕ)) (o n : Buffered) (line : List ℕ) (p : PlayerView P F O) → o ≡ fresh → TakesAll a b o n line → Opens line (Ok p) → p.desk ≡ anew old
+  opened_last : (a b h : Option (List ℕ)) (o n : Buffered) (line : List ℕ) (p : PlayerView P F O) → o ≡ fresh → TakesAll a b o n line → Opens line (Ok p) → p.desk ≡ anew old
       → PlayedOn a b h h (Ok p)
-  plays_last a b h o n line p e t opens begun = (
+  opened_last a b h o n line p e t opens begun = (
     record {
       bytes = t.0.takes.got;
       consumed = t.0.takes.consumed;
@@ -183,6 +190,11 @@ module _ {P F O : Type 0} (turn_log : F → List Called) (refusals : F → ℕ) 
     },
     (refl, opened_scene p line opens begun),
   )
+
+  pub plays_last : (a b h : Option (List ℕ)) (o n : Buffered) (line : List ℕ) (r : Result (PlayerView P F O) (PlayEnd P F O)) → o ≡ fresh → TakesAll a b o n line → Opens line r → OpensDesk old r
+      → PlayedOn a b h h r
+  plays_last a b h o n line (Ok p) e t opens begun = opened_last a b h o n line p e t opens begun
+  plays_last a b h o n line (Err x) e t opens same = unopened_last a b h o n line x e t opens same
 
   plays_from : (a b c h j : Option (List ℕ)) (o n : Buffered) (line : List ℕ) (p : PlayerView P F O) (last : Scene P F O) (d : DeskView P F O) (r : Result (Unit {0}) RunFault) (x : Result (DeskView P F O) (PlayEnd P F O))
       → o ≡ fresh → TakesStory a b o n line → Opens line (Ok p) → p.desk ≡ anew old → Runs turn_log refusals state (story_of p) host n.spare n.unread b c h j (scene_of p) last r

@@ -93,26 +93,19 @@ pub fn serve_to_end<S: Source, T: Sink, P: PureFn, F: TurnFn, O: Watcher>(
                 Ok(player) => player,
                 Err(end) => return Err(end),
             };
-            let outcome = serve_lines(alloc, &mut ahead, source, sink, &mut player);
-            match outcome {
+            match serve_lines(alloc, &mut ahead, source, sink, &mut player) {
                 Ok(()) => {
                     // No effect at run time: a proof reads from it that no event waits on the desk.
                     player.has_no_events();
                     Ok(player)
                 }
-                Err(fault) => {
-                    let desk = player.close();
-                    Err(PlayEnd {
-                        fault: PlayFault::Run(fault),
-                        desk,
-                    })
-                }
+                Err(fault) => Err(PlayEnd {
+                    fault: PlayFault::Run(fault),
+                    desk: player.close(),
+                }),
             }
         }
-        Line::Last(line) => match open_story(alloc, &line, desk) {
-            Ok(player) => Ok(player),
-            Err(end) => Err(end),
-        },
+        Line::Last(line) => open_story(alloc, &line, desk),
     }
 }
 
@@ -155,11 +148,7 @@ fn accepted_story(alloc: Global, bytes: &[u8]) -> Result<Story, ReadRefusal>
     ensures ok { IfOk result (λ s. rules.accepted_story bytes.now ≡ Ok (story_tree s)) }
     ensures err { IfErr result (IsRefused bytes.now) }
 {
-    let raw = match read_story(alloc, bytes) {
-        Ok(raw) => raw,
-        Err(refusal) => return Err(refusal),
-    };
-    check(alloc, raw)
+    check(alloc, read_story(alloc, bytes)?)
 }
 
 // Why there is no story.

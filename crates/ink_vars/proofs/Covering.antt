@@ -70,18 +70,18 @@ new_here n (b ∷ bs) h = (λ is. h.0 (omega (arith, is)), new_here n bs h.1)
 
 new_fewer : (n : ℕ) (bs : List Before) → AreNew n bs → NewAt (n - 1) bs → AreNew (n - 1) bs
 new_fewer n [] h k = tt
-new_fewer n (b ∷ bs) h k = (λ le. by (cases_lt b.number n) le, new_fewer n bs h.1 k.1)
+new_fewer n (b ∷ bs) h k = (λ le. by (cases_lt b.index n) le, new_fewer n bs h.1 k.1)
   where
-    by : (b.number < n) ⊎ (n ≤ b.number) → n - 1 ≤ b.number → b.value ≡ None
+    by : (b.index < n) ⊎ (n ≤ b.index) → n - 1 ≤ b.index → b.value ≡ None
     by (inl lt) le = k.0 (omega (arith, lt, le))
     by (inr ge) le = h.0 ge
 
 new_noted : (i : ℕ) (bs : List Before) → NewAt i bs → is_some (noted_at i bs) ≡ true → noted_at i bs ≡ Some None
 new_noted i [] k h = absurd (cc)
-new_noted i (b ∷ bs) k h = by (cases_Bool (eqb i b.number)) (new_noted i bs k.1)
+new_noted i (b ∷ bs) k h = by (cases_Bool (eqb i b.index)) (new_noted i bs k.1)
   where
-    by : (eqb i b.number ≡ true) ⊎ (eqb i b.number ≡ false) → (is_some (noted_at i bs) ≡ true → noted_at i bs ≡ Some None) → noted_at i (b ∷ bs) ≡ Some None
-    by (inl t) on = ap (λ x. if x then Some b.value else noted_at i bs) t ∙ ap Some (k.0 (eqb-true i b.number t))
+    by : (eqb i b.index ≡ true) ⊎ (eqb i b.index ≡ false) → (is_some (noted_at i bs) ≡ true → noted_at i bs ≡ Some None) → noted_at i (b ∷ bs) ≡ Some None
+    by (inl t) on = ap (λ x. if x then Some b.value else noted_at i bs) t ∙ ap Some (k.0 (eqb-true i b.index t))
     by (inr t) on =
         let rest : noted_at i (b ∷ bs) ≡ noted_at i bs = ap (λ x. if x then Some b.value else noted_at i bs) t in
         rest ∙ on (sym (ap is_some rest) ∙ h)
@@ -121,25 +121,25 @@ were_back bs (Changed i v) es now covers = were_changed bs 0 i v now (ap (λ k. 
 -- ---- more is noted
 
 stays_noted : (i : ℕ) (bs : List Before) (b : Before) → is_some (noted_at i bs) ≡ true → is_some (noted_at i (bs ++ b ∷ [])) ≡ true
-stays_noted i bs b h = ap is_some (noted_more i bs b) ∙ either (noted_at i bs) (if eqb i b.number then Some b.value else None) h
+stays_noted i bs b h = ap is_some (noted_more i bs b) ∙ either (noted_at i bs) (if eqb i b.index then Some b.value else None) h
   where
     either : (o p : Option (Option Value)) → is_some o ≡ true → is_some (option_or o p) ≡ true
     either None p k = absurd (cc)
     either (Some w) p k = refl
 
-new_appended : (i : ℕ) (bs : List Before) (b : Before) → NewAt i bs → i ≢ b.number → NewAt i (bs ++ b ∷ [])
+new_appended : (i : ℕ) (bs : List Before) (b : Before) → NewAt i bs → i ≢ b.index → NewAt i (bs ++ b ∷ [])
 new_appended i [] b h other = (λ is. absurd (other is), tt)
 new_appended i (c ∷ bs) b h other = (h.0, new_appended i bs b h.1 other)
 
-covers_more : (bs : List Before) (b : Before) (n : ℕ) (es : List GlobalPair) → noted_at b.number bs ≡ None → Covers bs n es → Covers (bs ++ b ∷ []) n es
+covers_more : (bs : List Before) (b : Before) (n : ℕ) (es : List GlobalPair) → noted_at b.index bs ≡ None → Covers bs n es → Covers (bs ++ b ∷ []) n es
 covers_more bs b n [] none h = tt
 covers_more bs b n (Added ∷ es) none h =
     (new_appended (n - 1) bs b h.0 other, stays_noted (n - 1) bs b h.1, covers_more bs b (n - 1) es none h.2)
   where
-    other : n - 1 ≢ b.number
+    other : n - 1 ≢ b.index
     other is =
-        let some : is_some (noted_at b.number bs) ≡ true = ap (λ k. is_some (noted_at k bs)) (sym is) ∙ h.1 in
-        let not : is_some (noted_at b.number bs) ≡ false = ap is_some none in
+        let some : is_some (noted_at b.index bs) ≡ true = ap (λ k. is_some (noted_at k bs)) (sym is) ∙ h.1 in
+        let not : is_some (noted_at b.index bs) ≡ false = ap is_some none in
         absurd (cc)
 covers_more bs b n (Changed i v ∷ es) none h = (stays_noted i bs b h.0, covers_more bs b n es none h.1)
 
@@ -147,8 +147,8 @@ pub covers_noted : (name : List ℕ) (now : Values) (bs : List Before) (n : ℕ)
 covers_noted name now bs n es h = by (noted_at (number_of name now) bs) refl
   where
     by : (o : Option (Option Value)) → noted_at (number_of name now) bs ≡ o
-        → Covers (if is_some o then bs else bs ++ record { number = number_of name now; value = stored name now } ∷ []) n es
-    by None none = covers_more bs (record { number = number_of name now; value = stored name now }) n es none h
+        → Covers (if is_some o then bs else bs ++ record { index = number_of name now; value = stored name now } ∷ []) n es
+    by None none = covers_more bs (record { index = number_of name now; value = stored name now }) n es none h
     by (Some w) some = h
 
 -- a name is noted then
@@ -156,9 +156,9 @@ pub is_noted : (name : List ℕ) (now : Values) (bs : List Before) → is_some (
 is_noted name now bs = by (noted_at (number_of name now) bs) refl
   where
     by : (o : Option (Option Value)) → noted_at (number_of name now) bs ≡ o
-        → is_some (noted_at (number_of name now) (if is_some o then bs else bs ++ record { number = number_of name now; value = stored name now } ∷ [])) ≡ true
+        → is_some (noted_at (number_of name now) (if is_some o then bs else bs ++ record { index = number_of name now; value = stored name now } ∷ [])) ≡ true
     by None none =
-        ap is_some (noted_more (number_of name now) bs (record { number = number_of name now; value = stored name now })
+        ap is_some (noted_more (number_of name now) bs (record { index = number_of name now; value = stored name now })
         ∙ ap (λ o. option_or o (if eqb (number_of name now) (number_of name now) then Some (stored name now) else None)) none
         ∙ ap (λ t. if t then Some (stored name now) else None) (eq-eqb (number_of name now) (number_of name now) refl))
     by (Some w) some = ap is_some some

@@ -18,12 +18,12 @@ use Rattle.ink_vars.specs.declared.places.Variable.{Variable}
 -- the text of a variable's name
 abbrev pub name_of : Name → List ℕ
 name_of (Given name number) = name.now
-name_of (Pointed name place) = name
+name_of (Pointed name index) = name
 
 -- the number that it was given with
 abbrev pub number_of_name : Name → Option ℕ
 number_of_name (Given name number) = number
-number_of_name (Pointed name place) = None
+number_of_name (Pointed name index) = None
 
 -- A call hands out what the rule gives, or has the rule's fault. Where there is no fault and it asks for memory, it may be refused that.
 abbrev pub HandsOut : {A : Type 0} → Bool → Result A Fault → Result A Fault → Type 0

@@ -31,10 +31,10 @@ globals_stood g = stood_at global_back g.trail g.rows
 unfoldable pub globals_spare : GlobalsView → ℕ
 globals_spare g = spare g.trail
 
--- what was noted of the global of a number is that it was not there
+-- what was noted of the global at an index is that it was not there
 abbrev pub NewAt : ℕ → List Before → Type 0
 NewAt i [] = ⊤
-NewAt i (b ∷ bs) = (i ≡ b.number → b.value ≡ None) × NewAt i bs
+NewAt i (b ∷ bs) = (i ≡ b.index → b.value ≡ None) × NewAt i bs
 
 -- each global that is put back was noted, of n that there are, so that what the globals were at the moment stays known
 abbrev pub Covers : List Before → ℕ → List GlobalPair → Type 0

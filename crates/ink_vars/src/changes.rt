@@ -14,10 +14,10 @@ use ink_value::same_value;
 use std::alloc::{AllocError, Global};
 use std::marker::Model;
 
-/// What a global was, by its number in order of declaration: nothing where it was not there.
+/// What a global was, by its index: nothing where it was not there.
 #[derive(Drop)]
 pub(crate) struct Before {
-    number: usize,
+    index: usize,
     value: Option<Value>,
 }
 
@@ -76,17 +76,17 @@ impl Changes {
         self.noted.clear();
     }
 
-    /// Notes what the global of a name is, whose number in order of declaration is given, where it was not noted since the moment; called
-    /// before it is put. After that there is a slot for each global, the new one too. The one error is a refused request for memory,
-    /// which is made only for the first note of a global, and leaves all as it was.
+    /// Notes what the global of a name is, whose index is given, where it was not noted since the moment; called before it is put.
+    /// After that there is a slot for each global, the new one too. The one error is a refused request for memory, which is made only
+    /// for the first note of a global, and leaves all as it was.
     pub(crate) fn note(
         &mut self,
         globals: &Table,
         name: &str,
-        place: usize,
+        index: usize,
     ) -> Result<(), AllocError>
         requires slots { length globals.now ≤ self.old.slots }
-        requires place { place ≡ number_of name.now globals.now }
+        requires index { index ≡ number_of name.now globals.now }
         ensures ok { OnOk result (self.new.noted ≡ with_noted name.now globals.now self.old.noted) }
         ensures err { OnErr result (self.new.noted ≡ self.old.noted) }
         ensures memory { OnErr result (noted_at (number_of name.now globals.now) self.old.noted ≡ None) }
@@ -95,12 +95,12 @@ impl Changes {
         ensures more { self.old.slots ≤ self.new.slots }
         ensures slots { OnOk result ((value : Value) → length (store name.now value globals.now) ≤ self.new.slots) }
     {
-        if self.is_noted(place) {
+        if self.is_noted(index) {
             return Ok(());
         }
-        self.make_slot(place)?;
-        let value = copied(self.alloc, globals.value_at(name, place))?;
-        self.add(place, value);
+        self.make_slot(index)?;
+        let value = copied(self.alloc, globals.value_at(name, index))?;
+        self.add(index, value);
         Ok(())
     }
 
@@ -132,7 +132,7 @@ impl Changes {
         }
     }
 
-    /// The same of a global that is there, whose number in order of declaration is given. Takes no memory.
+    /// The same of a global that is there, whose index is given. Takes no memory.
     #[inline(always)]
     pub(crate) fn put_at(&mut self, globals: &mut Table, name: &str, index: usize, value: Value)
         requires slots { length globals.old ≤ self.old.slots }
@@ -150,13 +150,13 @@ impl Changes {
         self.put_first(globals, index, value);
     }
 
-    // Whether it was noted what the global of a number was, which then has a slot.
+    // Whether it was noted what the global at an index was, which then has a slot.
     #[inline(always)]
-    fn is_noted(&self, number: usize) -> bool
-        ensures noted { result ≡ is_some (noted_at number self.now.noted) }
-        ensures slot { result ≡ true → number < self.now.slots }
+    fn is_noted(&self, index: usize) -> bool
+        ensures noted { result ≡ is_some (noted_at index self.now.noted) }
+        ensures slot { result ≡ true → index < self.now.slots }
     {
-        is_marked(&self.marked, number)
+        is_marked(&self.marked, index)
     }
 
     // As `put`, of a global that is looked for by its name.
@@ -176,7 +176,7 @@ impl Changes {
         ensures tracks { (start : Values) → Tracks start self.old.noted globals.old → Tracks start self.new.noted globals.new }
         ensures slots { length globals.new ≤ self.new.slots }
     {
-        let index = globals.number_of(name);
+        let index = globals.index_of(name);
         if index >= globals.len() {
             return self.put_new(globals, name, number, value);
         }
@@ -224,27 +224,27 @@ impl Changes {
         self.add(index, Some(before));
     }
 
-    // Notes what the global of a number was, which has a slot, and no mark yet. Takes no memory.
-    fn add(&mut self, number: usize, value: Option<Value>)
-        requires slot { number < self.old.slots }
-        requires unnoted { noted_at number self.old.noted ≡ None }
-        ensures noted { self.new.noted ≡ self.old.noted ++ record { number = number; value = value } ∷ [] }
+    // Notes what the global at an index was, which has a slot, and no mark yet. Takes no memory.
+    fn add(&mut self, index: usize, value: Option<Value>)
+        requires slot { index < self.old.slots }
+        requires unnoted { noted_at index self.old.noted ≡ None }
+        ensures noted { self.new.noted ≡ self.old.noted ++ record { index = index; value = value } ∷ [] }
         ensures slots { self.new.slots ≡ self.old.slots }
     {
-        self.noted.push_reserved(Before { number, value });
-        self.marked[number] = true;
+        self.noted.push_reserved(Before { index, value });
+        self.marked[index] = true;
     }
 
-    // Makes a slot for a number that has one or is the next. The one error is a refused request for memory, which is made only for the
+    // Makes a slot for an index that has one or is the next. The one error is a refused request for memory, which is made only for the
     // next.
-    fn make_slot(&mut self, number: usize) -> Result<(), AllocError>
-        requires next { number ≤ self.old.slots }
+    fn make_slot(&mut self, index: usize) -> Result<(), AllocError>
+        requires next { index ≤ self.old.slots }
         ensures noted { self.new.noted ≡ self.old.noted }
         ensures more { self.old.slots ≤ self.new.slots }
-        ensures ok { OnOk result (number < self.new.slots) }
-        ensures memory { OnErr result (self.old.slots ≤ number) }
+        ensures ok { OnOk result (index < self.new.slots) }
+        ensures memory { OnErr result (self.old.slots ≤ index) }
     {
-        if number < self.marked.len() {
+        if index < self.marked.len() {
             return Ok(());
         }
         let free = self.marked.len() - self.noted.len();
@@ -254,7 +254,7 @@ impl Changes {
     }
 }
 
-/// The numbers of the globals that are wanted, by their names, and were not there at the moment, or had another value, in order of
+/// The indices of the globals that are wanted, by their names, and were not there at the moment, or had another value, in order of
 /// declaration. The one error is a refused request for memory, which is made only where there are such globals.
 pub(crate) fn changed<F: Fn(&str) -> bool>(
     alloc: Global,
@@ -268,22 +268,22 @@ pub(crate) fn changed<F: Fn(&str) -> bool>(
     ensures memory { (wanted : List ℕ → Bool) (start : Values) → AnswersAs (F.post is_wanted) wanted → Tracks start changes.now.noted globals.now → OnErr result (changed_numbers wanted start globals.now ≢ []) }
 {
     let there = globals.len();
-    let mut numbers = Vec::new(alloc);
+    let mut indices = Vec::new(alloc);
     for before in &changes.noted {
-        if before.number < there && has_changed(before, globals, &is_wanted) {
-            numbers.push(before.number)?;
+        if before.index < there && has_changed(before, globals, &is_wanted) {
+            indices.push(before.index)?;
         }
     }
-    numbers.sort_unstable();
-    Ok(numbers)
+    indices.sort_unstable();
+    Ok(indices)
 }
 
 // Whether a global is there now that is wanted, and was not there, or was another value.
 fn has_changed<F: Fn(&str) -> bool>(before: &Before, globals: &Table, is_wanted: &F) -> bool
     requires { F.IsAlwaysCallable is_wanted.now }
-    ensures { (wanted : List ℕ → Bool) → AnswersAs (F.post is_wanted.now) wanted → result ≡ changed_to wanted before.now.value (slice_get globals.now before.now.number) }
+    ensures { (wanted : List ℕ → Bool) → AnswersAs (F.post is_wanted.now) wanted → result ≡ changed_to wanted before.now.value (slice_get globals.now before.now.index) }
 {
-    let Some((name, value)) = globals.pair(before.number) else {
+    let Some((name, value)) = globals.pair(before.index) else {
         return false;
     };
     let is_other = match &before.value {
@@ -302,10 +302,10 @@ fn copied(alloc: Global, value: Option<&Value>) -> Result<Option<Value>, AllocEr
     }
 }
 
-fn is_marked(marked: &[bool], number: usize) -> bool
-    ensures { result ≡ slice_index_or marked.now number false }
+fn is_marked(marked: &[bool], index: usize) -> bool
+    ensures { result ≡ slice_index_or marked.now index false }
 {
-    number < marked.len() && marked[number]
+    index < marked.len() && marked[index]
 }
 
 // Takes away the marks of what was noted.
@@ -315,6 +315,6 @@ fn clear_marks(marked: &mut [bool], noted: &[Before])
     ensures len { length marked.new ≡ length marked.old }
 {
     for before in noted {
-        marked[before.number] = false;
+        marked[before.index] = false;
     }
 }

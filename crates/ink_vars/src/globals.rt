@@ -108,8 +108,7 @@ impl Globals {
         self.table.get_at(name, number)
     }
 
-    /// The global to which the number of a name leads at once, by its number in order of declaration, with its value. None says nothing
-    /// of the name.
+    /// The global to which the number of a name leads at once, by its index, with its value. None says nothing of the name.
     #[inline(always)]
     pub fn found(&self, name: &str, number: Option<usize>) -> Option<(usize, &Value)>
         ensures { IfSome result (λ f. (f.0 ≡ number_of name.now self.now.rows) × (Some f.1.now ≡ stored name.now self.now.rows)) }
@@ -200,7 +199,7 @@ impl Globals {
     {
         match name {
             Name::Given(name, number) => self.put(name.as_str(), *number, value),
-            Name::Pointed(name, place) => self.put_pointed(name.as_str(), *place, value),
+            Name::Pointed(name, index) => self.put_pointed(name.as_str(), *index, value),
         }
     }
 
@@ -209,7 +208,7 @@ impl Globals {
     fn put_pointed(
         &mut self,
         name: &str,
-        place: Option<usize>,
+        index: Option<usize>,
         value: Value,
     ) -> Result<(), AllocError>
         ensures ok { OnOk result (self.new.rows ≡ store name.now value self.old.rows) }
@@ -221,7 +220,7 @@ impl Globals {
         ensures stood { globals_stood self.new ≡ globals_stood self.old }
         ensures spare { globals_spare self.old ≤ globals_spare self.new + 1 }
     {
-        match self.index_at(name, place) {
+        match self.index_at(name, index) {
             Some(index) => self.put_there(name, index, value),
             None => self.put(name, None, value),
         }
@@ -229,14 +228,14 @@ impl Globals {
 
     // The index, where the global that stands there has that name.
     #[inline(always)]
-    fn index_at(&self, name: &str, place: Option<usize>) -> Option<usize>
+    fn index_at(&self, name: &str, index: Option<usize>) -> Option<usize>
         ensures { IfSome result (λ index. (index ≡ number_of name.now self.now.rows) × (is_some (stored name.now self.now.rows) ≡ true)) }
     {
-        let (index, _) = self.table.found_at(name, place?)?;
+        let (index, _) = self.table.found_at(name, index?)?;
         Some(index)
     }
 
-    /// The same of a global that is there, whose number in order of declaration is given, while no mark stands. Takes no memory.
+    /// The same of a global that is there, whose index is given, while no mark stands. Takes no memory.
     #[inline(always)]
     pub fn put_at(&mut self, name: &str, index: usize, value: Value)
         requires unmarked { globals_stood self.old ≡ None }
@@ -251,7 +250,7 @@ impl Globals {
         self.changes.put_at(&mut self.table, name, index, value);
     }
 
-    /// The same of a global that is there, whose number in order of declaration is given; a mark may stand. Memory is asked for only
+    /// The same of a global that is there, whose index is given; a mark may stand. Memory is asked for only
     /// while one does, as by `put`.
     pub fn put_there(&mut self, name: &str, index: usize, value: Value) -> Result<(), AllocError>
         requires index { index ≡ number_of name.now self.old.rows }
@@ -287,11 +286,11 @@ impl Globals {
         ensures asks { OnErr result ((stored name.now self.old.start ≡ stored name.now self.old.rows) ⊎ (globals_spare self.old < 1)) }
         ensures trail { TrailsOrKeeps global_back 1 self.old.rows self.old.trail self.new.rows self.new.trail result }
     {
-        let index = self.table.number_at(name, number);
+        let index = self.table.index_by(name, number);
         self.put_marked_at(name, number, index, value)
     }
 
-    // The same where the global's number in order of declaration is known, too.
+    // The same where the global's index is known, too.
     #[inline(never)]
     fn put_marked_at(
         &mut self,
@@ -314,7 +313,7 @@ impl Globals {
         }
     }
 
-    /// The numbers of the globals that are wanted, by their names, and were not there at the moment, or had another value, in order
+    /// The indices of the globals that are wanted, by their names, and were not there at the moment, or had another value, in order
     /// of declaration. The one error is a refused request for memory, which is made only where there are such globals.
     pub fn changed<F: Fn(&str) -> bool>(
         &self,

@@ -27,7 +27,7 @@ pub(crate) fn named<'a, P: Copy>(
 #[derive(Clone, Copy)]
 pub(crate) struct Found<'a> {
     pub value: Option<&'a Value>,
-    pub place: Option<usize>,
+    pub index: Option<usize>,
 }
 
 /// The value of a name in the frame of a number, which is 0 for the globals.
@@ -44,20 +44,20 @@ pub(crate) fn held<'a, P: Copy>(
         Ok(0) => match globals.find(name) {
             Some((index, value)) => Found {
                 value: Some(value),
-                place: Some(index),
+                index: Some(index),
             },
             None => Found {
                 value: None,
-                place: None,
+                index: None,
             },
         },
         Ok(number) => Found {
             value: threads.temp(number, name),
-            place: None,
+            index: None,
         },
         Err(_) => Found {
             value: None,
-            place: None,
+            index: None,
         },
     }
 }

@@ -16,9 +16,9 @@ use std::mem;
 
 /// The values of globals by name, in the order in which they were declared. A contract sees the list of them.
 ///
-/// A name may have a number, which whoever asks gives with it: the slot of that number has the index at which a global was added
-/// with it last, so that it is found there at once. It is looked at whether the name stands there; if not, the global is found by
-/// its name.
+/// The index of a global is its place in that order. A name may have a number, which whoever asks gives with it: the slot of that
+/// number has the index at which a global was added with it last, so that it is found there at once. It is looked at whether the name
+/// stands there; if not, the global is found by its name.
 #[derive(Drop)]
 pub(crate) struct Table {
     names: Names,
@@ -114,9 +114,8 @@ impl Table {
         self.names.len()
     }
 
-    /// The number of a global in order of declaration, which is its index; where there is no such global, that of the next
-    /// new one.
-    pub(crate) fn number_of(&self, name: &str) -> usize
+    /// The index of a global; where there is no such global, that of the next new one.
+    pub(crate) fn index_of(&self, name: &str) -> usize
         ensures { result ≡ number_of name.now self.now }
     {
         let next = self.names.len();
@@ -124,12 +123,12 @@ impl Table {
     }
 
     /// The same by a name and its number.
-    pub(crate) fn number_at(&self, name: &str, number: Option<usize>) -> usize
+    pub(crate) fn index_by(&self, name: &str, number: Option<usize>) -> usize
         ensures { result ≡ number_of name.now self.now }
     {
         match self.found(name, number) {
             Some((index, _)) => index,
-            None => self.number_of(name),
+            None => self.index_of(name),
         }
     }
 
@@ -170,7 +169,7 @@ impl Table {
         }
     }
 
-    /// The value of the global of a name, by its number in order of declaration; none where there is no such global.
+    /// The value of the global of a name, by its index; none where there is no such global.
     pub(crate) fn value_at(&self, name: &str, index: usize) -> Option<&Value>
         requires index { index ≡ number_of name.now self.now }
         ensures { option_map (λ value. value.now) result ≡ stored name.now self.now }

@@ -29,8 +29,8 @@ pub enum CountPair {
     Turn(usize, Option<u32>),
 }
 
-/// Gives the global of a name, which may have a number, a value, and notes what it held. Its number in order of declaration is given,
-/// and there has to be room for the pair.
+/// Gives the global of a name, which may have a number, a value, and notes what it held. Its index is given, and there has to be
+/// room for the pair.
 pub(crate) fn put_noted(
     table: &mut Table,
     trail: &mut Trail<GlobalPair>,

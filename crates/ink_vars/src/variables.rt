@@ -153,7 +153,7 @@ fn pointed<'a, P: Copy>(
     let name = end.name.share()?;
     Ok(Variable {
         frame,
-        name: Name::Pointed(name, end.found.place),
+        name: Name::Pointed(name, end.found.index),
     })
 }
 

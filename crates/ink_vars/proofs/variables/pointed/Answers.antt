@@ -14,7 +14,7 @@ returns-in_err-name-clause-leads g c =
     let name = c.in-Some.end.name.now in
     let end : chain_end globals thread c.args.frame c.args.name.now ≡ Some (pos frame, name) = search (rules, to_z-of_z) in
     let there : held globals thread (pos frame) name ≡ Some c.in-Some-value.field-0.now = search (rules, to_z-of_z) in
-    let x : Variable = record { frame = frame; name = Pointed name c.in-Some.end.found.place } in
+    let x : Variable = record { frame = frame; name = Pointed name c.in-Some.end.found.index } in
     let is : c.from_residual.result ≡ Err OutOfMemory = search rules in
     rw is (leads_short globals thread x (chain_end globals thread c.args.frame c.args.name.now) c.in-Some-value.field-0.now end there)
 
@@ -26,4 +26,4 @@ returns-clause-leads g c =
     let name = c.in_ok-name.name in
     let end : chain_end globals thread c.args.frame c.args.name.now ≡ Some (pos frame, name) = search (rules, to_z-of_z) in
     let there : held globals thread (pos frame) name ≡ Some c.in-Some-value.field-0.now = search (rules, to_z-of_z) in
-    leads_into globals thread (record { frame = frame; name = Pointed name c.in-Some.end.found.place }) (chain_end globals thread c.args.frame c.args.name.now) c.in-Some-value.field-0.now end there
+    leads_into globals thread (record { frame = frame; name = Pointed name c.in-Some.end.found.index }) (chain_end globals thread c.args.frame c.args.name.now) c.in-Some-value.field-0.now end there

@@ -5,10 +5,10 @@ use Rattle.ink_vars.proofs.changes.Changes.is_noted.Goals as goal
 
 pub returns-clause-noted : goal.returns-clause-noted
 returns-clause-noted c =
-    sym (noted_is_marked c.self.inside.marked.items c.deref.result.now c.self.inside.noted.items c.args.self.now.noted c.args.number c.args.number c.is_marked.result
+    sym (noted_is_marked c.self.inside.marked.items c.deref.result.now c.self.inside.noted.items c.args.self.now.noted c.args.index c.args.index c.is_marked.result
     c.self.invariant.0 (ap (λ v. v.noted) c.self.view_is) c.deref.ensures.value refl c.is_marked.ensures)
 
 pub returns-clause-slot : goal.returns-clause-slot
 returns-clause-slot c mark =
-    subst (λ n. c.args.number < n) (ap (λ v. v.slots) c.self.view_is)
-    (has_slot c.self.inside.marked.items c.args.number (sym (ap (λ ms. slice_index_or ms c.args.number false) c.deref.ensures.value) ∙ sym c.is_marked.ensures ∙ mark))
+    subst (λ n. c.args.index < n) (ap (λ v. v.slots) c.self.view_is)
+    (has_slot c.self.inside.marked.items c.args.index (sym (ap (λ ms. slice_index_or ms c.args.index false) c.deref.ensures.value) ∙ sym c.is_marked.ensures ∙ mark))

@@ -55,7 +55,7 @@ add-requires-clause-unnoted c =
 pub returns-clause-noted : goal.returns-clause-noted
 returns-clause-noted c =
     let own = (goal.at.returns-clause-noted c).After-is_noted in
-    c.add.ensures.noted ∙ ap (λ bs. bs ++ record { number = c.len-next.result; value = None } ∷ []) c.make_slot.ensures.noted
+    c.add.ensures.noted ∙ ap (λ bs. bs ++ record { index = c.len-next.result; value = None } ∷ []) c.make_slot.ensures.noted
     ∙ more_noted c.args.name.now c.args.globals.now c.args.self.now.noted c.len-next.result None (is_next own) (sym (absent own)) (is_noted own ∙ c.if-is_noted.false)
 
 pub returns-clause-tracks : goal.returns-clause-tracks

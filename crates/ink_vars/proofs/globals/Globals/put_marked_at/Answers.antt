@@ -8,7 +8,7 @@ use Rattle.ink_vars.proofs.Noting.{either_way}
 use Rattle.ink_vars.proofs.globals.Globals.put_marked_at.Goals as goal
 
 pub note-requires : goal.note-requires
-note-requires c = record { slots = c.self.invariant.0.slots; place = c.requires.index ∙ ap (λ g. number_of c.args.name.now g.rows) (sym c.self.view_is) }
+note-requires c = record { slots = c.self.invariant.0.slots; index = c.requires.index ∙ ap (λ g. number_of c.args.name.now g.rows) (sym c.self.view_is) }
 
 -- the start stays
 stays : (c : goal.After-put_noted) → Tracks (as_they_were c.self.inside.changes.noted 0 c.self.inside.table) c.note.new.self.noted c.put_noted.new.table
