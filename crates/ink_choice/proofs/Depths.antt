@@ -1,12 +1,13 @@
 -- Values by their depths.
-use Rattle.std.proofs.Common.{◌≡◌, ◌∙◌, ◌≤◌, ◌-◌, ◌+◌, ℕ, List, ◌∷◌, ◌++◌, drop, if◌then◌else◌, length, nat_le, option_map, reverse, take, true, None, Some, Result, Ok, Err, OnOk, ap, arith, slice_get, subst, sym}
+use Rattle.std.proofs.Common.{◌≡◌, ◌∙◌, ◌≤◌, ◌-◌, ◌+◌, ℕ, List, ◌∷◌, ◌++◌, drop, if◌then◌else◌, length, nat_le, option_map, reverse, take, true, None, Some, ap, arith, slice_get, subst, sym}
 use Rattle.std.proofs.Math.Seq.{drop-append_seam}
 use Rattle.std.proofs.lemmas.Bool.Decides.{nat_tests}
-use Rattle.std.proofs.lemmas.List.{drop_all, drop_more, length-drop, length-reverse, reverse-append, take-append-drop}
+use Rattle.std.proofs.lemmas.List.{drop_more, length-drop, length-reverse, reverse-append, take-append-drop}
 use Rattle.std.proofs.lemmas.Option.{get_or_from_slice_get, slice_get_within}
 use Rattle.ink_model.specs.Run.Step.Host.{arguments_on}
 use Rattle.ink_model.specs.declared.value.Value.{Value}
-use Rattle.ink_trail.specs.Undo.{TrailView, Trails, TrailsOrKeeps}
+use Rattle.ink_trail.proofs.Undoing.{trails-after}
+use Rattle.ink_trail.specs.Undo.{KeepsTrail, TrailView, Trails}
 use Rattle.ink_value.specs.Undo.{stack_back}
 use Rattle.ink_value.specs.declared.undo.StackPair.{StackPair}
 
@@ -30,15 +31,9 @@ pub dropped_count : (old new : List Value) (n : ℕ) → n ≤ length old → re
 dropped_count old new n h is =
     omega (arith, ap length is, length-reverse new, length-drop n (reverse old), length-reverse old, h)
 
--- where there are not so many, none is left
-pub dropped_all : (old new : List Value) (n : ℕ) → length old ≤ n → reverse new ≡ drop (length old) (reverse old) → reverse new ≡ drop n (reverse old)
-dropped_all old new n h is =
-    let many = length-reverse old in
-    is ∙ drop_all (length old) (reverse old) (omega (arith, many)) ∙ sym (drop_all n (reverse old) (omega (arith, many, h)))
-
--- ---- how many changes are counted
-
-pub counted : {A F : Type 0} (r : Result A F) (n m : ℕ) (was is : List Value) (old new : TrailView StackPair) → OnOk r (n ≡ m)
-    → TrailsOrKeeps stack_back n was old is new r → TrailsOrKeeps stack_back m was old is new r
-counted (Ok a) n m was is old new same h = subst (λ k. Trails stack_back k was old is new) same h
-counted (Err f) n m was is old new same h = h
+-- what there is room for is popped
+pub popped : (n : ℕ) (was there is : List Value) (old ready new : TrailView StackPair) → there ≡ was → KeepsTrail old ready → n ≡ length there - length is
+    → Trails stack_back n there ready is new → Trails stack_back (length was - length is) was old is new
+popped n was there is old ready new same kept count h =
+    trails-after stack_back (length was - length is) was is old ready new kept
+    (subst (λ vs. Trails stack_back (length vs - length is) vs ready is new) same (subst (λ k. Trails stack_back k there ready is new) count h))

@@ -3,9 +3,12 @@ use Rattle.std.proofs.Common.{◌≡◌, ◌∙◌, ◌≤◌, ◌<◌, ◌+◌,
 use Rattle.std.proofs.lemmas.List.{drop_all, length-append, take-append-drop, take_all}
 use Rattle.std.specs.List.{insert, remove}
 use Rattle.ink_model.specs.Run.Configuration.{ChoiceOf}
+use Rattle.ink_model.specs.declared.limits.TheConstants.{MAX_CHOICES}
 use Rattle.ink_trail.proofs.Ending.{but_last-snoc}
 use Rattle.ink_trail.proofs.Staying.{stays-more, stays-now, stays-with}
 use Rattle.ink_trail.specs.Undo.{Undo, but_last, trail_of, with_pair}
+use Rattle.ink_choice.proofs.Settling.{settled-added}
+use Rattle.ink_choice.specs.Choices.{Settled}
 use Rattle.ink_choice.specs.Undo.{Held, StaysHeld, choices_back, room_of}
 use Rattle.ink_choice.specs.declared.undo.ChoicePair.{ChoicePair}
 use Rattle.ink_choice.specs.declared.undo.ChoicePair.TheVariants.{Added, Taken, Cleared}
@@ -64,3 +67,20 @@ one_longer xs i x =
 
 pub added_back : {P : Type 0} → (cs ds : List (ChoiceOf P)) (c : ChoiceOf P) → ds ≡ cs ++ c ∷ [] → choices_back Added ds ≡ cs
 added_back cs ds c is = ap but_last is ∙ but_last-snoc cs c
+
+-- ---- what is kept of a list, and with one more
+
+module _ {P : Type 0} where
+  -- few choices, of which so many are settled, with room for so many and for what is put back
+  abbrev pub Whole : ℕ → ℕ → Option (Undo (ChoicePair P)) → List (ChoiceOf P) → Type 0
+  Whole n r u cs = (length cs ≤ MAX_CHOICES) × StaysHeld r (trail_of u) cs × Settled n cs
+
+  module _ (n r s : ℕ) (u v : Option (Undo (ChoicePair P))) (cs ds : List (ChoiceOf P)) (more : r ≤ s) (whole : Whole n r u cs) where
+    pub whole-as : v ≡ u → ds ≡ cs → Whole n s v ds
+    whole-as undo same = (omega (arith, ap length same, whole.0), held-as r s u v cs ds undo same more whole.1, rw same whole.2)
+
+    pub whole-with : (c : ChoiceOf P) → v ≡ with_pair Added 1 u → ds ≡ cs ++ c ∷ [] → length cs < MAX_CHOICES → length cs < s → Whole n s v ds
+    whole-with c undo one few fits =
+        let long : length ds ≡ length cs + 1 = ap length one ∙ length-append cs (c ∷ []) in
+        let held : Held s ds = (omega (arith, long, few), omega (arith, long, fits)) in
+        rw undo (held.0, held-with Added 1 cs ds u r s (added_back cs ds c one) held more whole.1, rw one (settled-added n cs (c ∷ []) whole.2))

@@ -3,7 +3,8 @@ use Rattle.std.specs.Prelude.{◌≡◌, ℕ, ◌<◌, false, ◌&&◌, ◌||◌
 use Rattle.std.specs.Option.{option_map}
 use Rattle.ink_model.specs.Text.Bytes.{fits_text}
 use Rattle.ink_model.specs.Text.Output.{kept_text}
-use Rattle.ink_model.specs.Choices.Making.{option_asks, taken_of}
+use Rattle.ink_model.specs.Choices.Making.{added, option_asks, taken_of}
+use Rattle.ink_model.specs.Memory.Asks.{makes_choice}
 use Rattle.ink_model.specs.Memory.Refusals.{ByRule, LacksMemory}
 use Rattle.ink_model.specs.Run.Configuration.{ChoiceOf}
 use Rattle.ink_model.specs.declared.fault.Fault.{Fault}
@@ -23,6 +24,29 @@ module _ {P : Type 0} where
   -- for. After an error nothing has changed.
   abbrev pub Makes : Bool → Result (Option (ChoiceOf P) × List Value) Fault → List Value → List Value → Result (Option (ChoiceOf P)) Fault → Type 0
   Makes short rule old new result = ByRule (LacksMemory (making_asks short rule)) (λ r made. (made ≡ r.0) × (new ≡ r.1)) (λ why. why × (new ≡ old)) rule result
+
+  -- the stack that is left, beside the choices or the fault of one that is added
+  abbrev pub beside : List Value → Result (List (ChoiceOf P)) Fault → Result (List Value × List (ChoiceOf P)) Fault
+  beside left (Ok cs) = Ok (left, cs)
+  beside left (Err f) = Err f
+
+  -- the stack and the choices after what a choice point makes, if it makes any, is added
+  abbrev pub after_adding : List (ChoiceOf P) → Result (Option (ChoiceOf P) × List Value) Fault → Result (List Value × List (ChoiceOf P)) Fault
+  after_adding cs (Ok (None, left)) = Ok (left, cs)
+  after_adding cs (Ok (Some c, left)) = beside left (added c cs)
+  after_adding cs (Err f) = Err f
+
+  -- That asks for memory where there is too little room for the changes, for a choice that asks for some, and for its place behind the
+  -- others. Faults are found before.
+  abbrev pub adding_asks : Bool → List (ChoiceOf P) → Result (Option (ChoiceOf P) × List Value) Fault → Bool
+  adding_asks short cs (Ok r) = short || makes_choice (length cs) (Ok r)
+  adding_asks short cs (Err f) = false
+
+  -- A call adds what the rule makes and leaves the stack that it leaves, or has the rule's fault or that of one choice too many, or is
+  -- refused memory that it asks for. After an error nothing has changed.
+  abbrev pub AddsMade : Bool → Result (Option (ChoiceOf P) × List Value) Fault → List Value → List Value → List (ChoiceOf P) → List (ChoiceOf P) → Result (Unit {0}) Fault → Type 0
+  AddsMade short rule old new cs ds result =
+      ByRule (LacksMemory (adding_asks short cs rule)) (λ r u. (new ≡ r.0) × (ds ≡ r.1)) (λ why. why × (new ≡ old) × (ds ≡ cs)) (after_adding cs rule) result
 
   -- the list, or what is left of it
   abbrev pub left_of : List (ChoiceOf P) → Option (ChoiceOf P × List (ChoiceOf P)) → List (ChoiceOf P)

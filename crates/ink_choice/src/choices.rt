@@ -1,17 +1,18 @@
 //! The choices that are offered.
 
-ghost use Rattle.std.specs.Prelude.{◌≡◌, ◌≢◌, ◌≤◌, ◌<◌, ◌+◌, ◌++◌, ◌||◌, ◌⊎◌, [], None, Some, drop, false, is_some, not, length, map, option_map, remove, slice_get, slice_index_or, take, true, vec_capacity, IfErr, IfNone, IfOk, OnOk, OnErr};
+ghost use Rattle.std.specs.Prelude.{◌≡◌, ◌≢◌, ◌≤◌, ◌<◌, ◌+◌, ◌∷◌, ◌++◌, ◌||◌, ◌⊎◌, [], None, Some, drop, false, is_some, not, length, map, option_map, remove, slice_get, slice_index_or, take, true, vec_capacity, IfErr, IfNone, IfOk, OnOk, OnErr};
 ghost use Rattle.ink_model.specs.declared.limits.TheConstants.{MAX_CHOICES};
 ghost use Rattle.ink_choice.specs.Undo.{choices_back, choices_spare, choices_stood};
 ghost use Rattle.ink_choice.specs.Outcomes.{FindsIndex, Takes};
 ghost use Rattle.ink_stack.specs.Outcomes.{Grows};
 ghost use Rattle.ink_model.specs.Choices.Making as rules;
-ghost use Rattle.ink_model.specs.Run.Configuration.{unnumbered_choice};
+ghost use Rattle.ink_model.specs.Run.Configuration.{ChoiceOf, unnumbered_choice};
 ghost use Rattle.ink_trail.specs.Undo.{KeepsTrail, Trails, TrailsOrKeeps, spare, with_pair};
 
 use crate::choice::{Choice, copied_tags, copied_text};
 use crate::undo::ChoicePair;
-use ink_model::{Fault, MAX_CHOICES, Seq, Shown};
+use ink_model::{Fault, MAX_CHOICES, Seq, Shared, Shown, Text};
+use ink_stack::Threads;
 use ink_trail::Trail;
 use std::alloc::{AllocError, Global};
 use std::marker::Model;
@@ -77,7 +78,44 @@ impl<P: Copy> Choices<P> {
         ensures spare { choices_spare self.old ≤ choices_spare self.new + 1 }
     {
         ready_for_one(&mut self.items, &mut self.trail)?;
-        self.items.push_reserved(choice);
+        push_ready(&mut self.items, &mut self.trail, choice);
+        Ok(())
+    }
+
+    /// Adds a choice of these parts, which keeps a copy of the thread that runs. It is built where it stands. The errors are those of
+    /// `add`.
+    #[inline(always)]
+    pub(crate) fn add_forked(
+        &mut self,
+        text: Text,
+        tags: Seq<Shared<Text>>,
+        target: P,
+        hidden: bool,
+        threads: &Threads<P>,
+    ) -> Result<(), Fault>
+        ensures items { let choice : ChoiceOf P = record { text = text; tags = tags; target = target; hidden = hidden; thread = threads.now.threads.thread } in
+            Grows (rules.added choice self.old.items) self.old.items self.new.items result }
+        ensures trail { TrailsOrKeeps choices_back 1 self.old.items self.old.trail self.new.items self.new.trail result }
+        ensures pair { OnOk result (self.new.trail.undo ≡ with_pair ChoicePair.Added 1 self.old.trail.undo) }
+        ensures stood { choices_stood self.new ≡ choices_stood self.old }
+        ensures spare { choices_spare self.old ≤ choices_spare self.new + 1 }
+    {
+        ready_for_one(&mut self.items, &mut self.trail)?;
+        let Ok(fork) = threads.ready_fork() else {
+            return Err(Fault::OutOfMemory);
+        };
+        let thread = threads.with_fork(fork);
+        push_ready(
+            &mut self.items,
+            &mut self.trail,
+            Choice {
+                text,
+                tags,
+                target,
+                hidden,
+                thread,
+            },
+        );
         Ok(())
     }
 
@@ -218,7 +256,7 @@ impl<P: Copy> Choices<P> {
     }
 }
 
-// Makes room for one choice more, and notes that it is added. The errors are those of `add`, and then nothing has changed.
+// Makes room for one choice more, and to note that it is added. The errors are those of `add`, and then nothing has changed.
 #[inline(always)]
 fn ready_for_one<P: Copy>(
     items: &mut Vec<Choice<P>>,
@@ -228,35 +266,50 @@ fn ready_for_one<P: Copy>(
     ensures more { vec_capacity items.old ≤ vec_capacity items.new }
     ensures few { OnOk result (length items.old.items < MAX_CHOICES) }
     ensures fits { OnOk result (length items.old.items < vec_capacity items.new) }
-    ensures undo { OnOk result (trail.new.undo ≡ with_pair ChoicePair.Added 1 trail.old.undo) }
-    ensures room { trail.old.room ≤ trail.new.room + 1 }
-    ensures spare { spare trail.old ≤ spare trail.new + 1 }
+    ensures kept { KeepsTrail trail.old trail.new }
+    ensures room { OnOk result (1 ≤ spare trail.new) }
+    ensures spare { spare trail.old ≤ spare trail.new }
     ensures err { IfErr result (λ f. ((f ≡ Fault.TooDeep) × (MAX_CHOICES ≤ length items.old.items)) ⊎ ((f ≡ Fault.OutOfMemory) × (length items.old.items < MAX_CHOICES))) }
-    ensures kept { OnErr result (KeepsTrail trail.old trail.new) }
 {
     if items.len() >= MAX_CHOICES {
         return Err(Fault::TooDeep);
     }
     items.reserve(1)?;
-    if trail.is_marked() {
-        return note_added(trail);
-    }
+    trail.ready(1)?;
     Ok(())
 }
 
-// Notes that a choice is added. It is a call of its own, so that no pair is made where no mark stands. The one error is
-// `OutOfMemory` for a refused request for memory, and then nothing has changed.
-#[cold]
-#[inline(never)]
-fn note_added<P: Copy>(trail: &mut Trail<ChoicePair<P>>) -> Result<(), Fault>
-    ensures undo { OnOk result (trail.new.undo ≡ with_pair ChoicePair.Added 1 trail.old.undo) }
+// Adds a choice for which there is room, and notes it where a mark stands.
+#[inline(always)]
+fn push_ready<P: Copy>(
+    items: &mut Vec<Choice<P>>,
+    trail: &mut Trail<ChoicePair<P>>,
+    choice: Choice<P>,
+)
+    requires fits { length items.old.items < vec_capacity items.old }
+    requires ready { 1 ≤ spare trail.old }
+    ensures items { items.new.items ≡ items.old.items ++ choice ∷ [] }
+    ensures more { vec_capacity items.old ≤ vec_capacity items.new }
+    ensures undo { trail.new.undo ≡ with_pair ChoicePair.Added 1 trail.old.undo }
     ensures room { trail.old.room ≤ trail.new.room + 1 }
     ensures spare { spare trail.old ≤ spare trail.new + 1 }
-    ensures err { IfErr result (λ f. f ≡ Fault.OutOfMemory) }
-    ensures kept { OnErr result (KeepsTrail trail.old trail.new) }
 {
-    trail.add(ChoicePair::Added, 1)?;
-    Ok(())
+    if trail.is_marked() {
+        note_added(trail);
+    }
+    items.push_reserved(choice);
+}
+
+// Notes that a choice is added. It is a call of its own, so that no pair is made where no mark stands.
+#[cold]
+#[inline(never)]
+fn note_added<P: Copy>(trail: &mut Trail<ChoicePair<P>>)
+    requires ready { 1 ≤ spare trail.old }
+    ensures undo { trail.new.undo ≡ with_pair ChoicePair.Added 1 trail.old.undo }
+    ensures room { trail.old.room ≤ trail.new.room + 1 }
+    ensures spare { spare trail.old ≤ spare trail.new + 1 }
+{
+    trail.note(ChoicePair::Added, 1);
 }
 
 // Takes the whole list, and leaves an empty one.

@@ -11,5 +11,5 @@ mod undo;
 
 pub use choice::Choice;
 pub use choices::Choices;
-pub use making::make;
+pub use making::{add_made, make};
 pub use undo::ChoicePair;

@@ -1,16 +1,19 @@
 //! What a choice point makes (docs/CHOICES.md, "What is made").
 
-ghost use Rattle.std.specs.Prelude.{◌≡◌, ◌-◌, ◌+◌, ◌≤◌, length, nat_lt, true, reverse, IfOk, OnErr};
+ghost use Rattle.std.specs.Prelude.{◌≡◌, ◌⊎◌, ◌-◌, ◌+◌, ◌≤◌, length, nat_lt, true, reverse, IfOk, OnErr, OnOk};
 ghost use Rattle.ink_choice.specs.Operands.{operands_of};
-ghost use Rattle.ink_choice.specs.Outcomes.{Makes, MakesWith};
+ghost use Rattle.ink_choice.specs.Outcomes.{AddsMade, Makes, MakesWith};
+ghost use Rattle.ink_choice.specs.Undo.{choices_back, choices_spare, choices_stood};
 ghost use Rattle.ink_model.specs.Choices.Making as rules;
 ghost use Rattle.ink_model.specs.Choices.Making.{choice_tags, has_any};
-ghost use Rattle.ink_trail.specs.Undo.{TrailsOrKeeps};
+ghost use Rattle.ink_trail.specs.Undo.{TrailsOrKeeps, with_pair};
 ghost use Rattle.ink_value.specs.Undo.{stack_back, stack_spare, stack_stood};
 
 use crate::choice::Choice;
-use crate::operands::{Operands, find_operands, pop_all, push_tags};
+use crate::choices::Choices;
+use crate::operands::{Operands, find_operands, pop_all, pop_ready, push_tags, ready_to_pop};
 use crate::texts::joined;
+use crate::undo::ChoicePair;
 use ink_model::choice_flags::{is_invisible_default, is_once_only};
 use ink_model::{Fault, Seq, Shared, Text};
 use ink_stack::Threads;
@@ -59,6 +62,62 @@ pub fn make<P: Copy>(
         },
         Err(fault) => Err(fault),
     }
+}
+
+/// The same, and what is made is added behind the other choices, where it is built: it is not handed up first. `TooDeep` also where
+/// there are 1,000 choices; `OutOfMemory` also where the choice's place behind the others is refused. A choice that is added is a
+/// change of a cell of the choices. On an error nothing has changed, neither of the stack nor of the choices.
+#[inline(always)]
+pub fn add_made<P: Copy>(
+    alloc: Global,
+    flags: u8,
+    target: P,
+    stack: &mut EvalStack,
+    visited: bool,
+    threads: &Threads<P>,
+    choices: &mut Choices<P>,
+) -> Result<(), Fault>
+    ensures made { AddsMade (nat_lt (stack_spare stack.old) (length stack.old.items)) (rules.make flags target visited threads.now.threads.thread stack.old.items) stack.old.items stack.new.items choices.old.items choices.new.items result }
+    ensures trail { TrailsOrKeeps stack_back (length stack.old.items - length stack.new.items) stack.old.items stack.old.trail stack.new.items stack.new.trail result }
+    ensures stood { stack_stood stack.new ≡ stack_stood stack.old }
+    ensures spare { stack_spare stack.old ≤ stack_spare stack.new + length stack.old.items }
+    ensures choices_trail { TrailsOrKeeps choices_back 1 choices.old.items choices.old.trail choices.new.items choices.new.trail result }
+    ensures choices_pair { OnOk result ((choices.new.trail.undo ≡ choices.old.trail.undo) ⊎ (choices.new.trail.undo ≡ with_pair ChoicePair.Added 1 choices.old.trail.undo)) }
+    ensures choices_stood { choices_stood choices.new ≡ choices_stood choices.old }
+    ensures choices_spare { choices_spare choices.old ≤ choices_spare choices.new + 1 }
+{
+    let operands = match find_operands(stack, flags) {
+        Ok(operands) => operands,
+        Err(fault) => return Err(fault),
+    };
+    let count = operands.end;
+    if !is_offered(flags, visited, operands.condition) {
+        let Ok(_) = pop_all(stack, count) else {
+            return Err(Fault::OutOfMemory);
+        };
+        return Ok(());
+    }
+    let text = match joined(alloc, operands.start.text, operands.choice_only.text) {
+        Ok(text) => text,
+        Err(fault) => return Err(fault),
+    };
+    let Ok(tags) = tags_of(alloc, stack, &operands) else {
+        return Err(Fault::OutOfMemory);
+    };
+    let Ok(there) = ready_to_pop(stack, count) else {
+        return Err(Fault::OutOfMemory);
+    };
+    if let Err(fault) = choices.add_forked(
+        text,
+        tags,
+        target,
+        is_invisible_default(flags),
+        threads,
+    ) {
+        return Err(fault);
+    }
+    pop_ready(stack, there);
+    Ok(())
 }
 
 // Whether a choice is made.

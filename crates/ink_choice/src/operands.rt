@@ -1,10 +1,10 @@
 //! What a choice point is to pop, found on the stack before anything is popped (docs/CHOICES.md, "What is popped").
 
-ghost use Rattle.std.specs.Prelude.{◌≡◌, ◌≢◌, ◌<◌, ◌≤◌, ◌+◌, ◌-◌, ◌^◌, length, [], ◌∷◌, ◌++◌, Ok, Err, drop, reverse, IfSome, MatchOption, MatchResult, OnOk, OnErr};
+ghost use Rattle.std.specs.Prelude.{◌≡◌, ◌≢◌, ◌<◌, ◌≤◌, ◌+◌, ◌-◌, ◌^◌, length, [], ◌∷◌, ◌++◌, Ok, Err, drop, reverse, IfOk, IfSome, MatchOption, MatchResult, OnOk, OnErr};
 ghost use Rattle.ink_choice.specs.Operands.{operands_of, words_of};
 ghost use Rattle.ink_model.specs.Choices.Making as rules;
 ghost use Rattle.ink_model.specs.Choices.Making.{tags_first};
-ghost use Rattle.ink_trail.specs.Undo.{TrailsOrKeeps};
+ghost use Rattle.ink_trail.specs.Undo.{KeepsTrail, Trails, TrailsOrKeeps};
 ghost use Rattle.ink_value.specs.Undo.{stack_back, stack_spare, stack_stood};
 
 use ink_model::choice_flags::{has_choice_only_text, has_start_text, is_conditional};
@@ -150,25 +150,39 @@ pub(crate) fn pop_all(stack: &mut EvalStack, count: usize) -> Result<(), AllocEr
     ensures stood { stack_stood stack.new ≡ stack_stood stack.old }
     ensures spare { stack_spare stack.old ≤ stack_spare stack.new + length stack.old.items }
 {
-    let there = stack.len();
-    if count < there {
-        pop_some(stack, count)
-    } else {
-        pop_some(stack, there)
-    }
+    let there = ready_to_pop(stack, count)?;
+    pop_ready(stack, there);
+    Ok(())
 }
 
-// The same where there are so many.
-fn pop_some(stack: &mut EvalStack, count: usize) -> Result<(), AllocError>
-    requires { count ≤ length stack.old.items }
-    ensures ok { OnOk result (reverse stack.new.items ≡ drop count (reverse stack.old.items)) }
-    ensures count { OnOk result (count ≡ length stack.old.items - length stack.new.items) }
-    ensures memory { OnErr result (stack_spare stack.old < count) }
-    ensures trail { TrailsOrKeeps stack_back count stack.old.items stack.old.trail stack.new.items stack.new.trail result }
+/// Makes room to pop as many values, or all where there are not so many, and answers how many these are. The one error is a refused
+/// request for memory while a mark stands, and leaves all as it was.
+#[inline(always)]
+pub(crate) fn ready_to_pop(stack: &mut EvalStack, count: usize) -> Result<usize, AllocError>
+    ensures items { stack.new.items ≡ stack.old.items }
+    ensures kept { KeepsTrail stack.old.trail stack.new.trail }
+    ensures there { IfOk result (λ there. there ≤ length stack.old.items) }
+    ensures room { IfOk result (λ there. there ≤ stack_spare stack.new) }
+    ensures all { IfOk result (λ there. drop there (reverse stack.old.items) ≡ drop count (reverse stack.old.items)) }
+    ensures memory { OnErr result (stack_spare stack.old < length stack.old.items) }
+    ensures stood { stack_stood stack.new ≡ stack_stood stack.old }
+    ensures spare { stack_spare stack.old ≤ stack_spare stack.new }
+{
+    let there = count.min(stack.len());
+    stack.ready(there)?;
+    Ok(there)
+}
+
+/// Pops so many values, for which there is room.
+#[inline(always)]
+pub(crate) fn pop_ready(stack: &mut EvalStack, count: usize)
+    requires there { count ≤ length stack.old.items }
+    requires room { count ≤ stack_spare stack.old }
+    ensures items { reverse stack.new.items ≡ drop count (reverse stack.old.items) }
+    ensures count { count ≡ length stack.old.items - length stack.new.items }
+    ensures trail { Trails stack_back count stack.old.items stack.old.trail stack.new.items stack.new.trail }
     ensures stood { stack_stood stack.new ≡ stack_stood stack.old }
     ensures spare { stack_spare stack.old ≤ stack_spare stack.new + count }
 {
-    stack.ready(count)?;
     stack.drop_top(count);
-    Ok(())
 }

@@ -22,7 +22,7 @@ use crate::counts::{counted, visits_in};
 use crate::diverts::written_landing;
 use crate::operands::push;
 use ink_check::Story;
-use ink_choice::{Choices, make};
+use ink_choice::{Choices, add_made};
 use ink_model::{Fault, Shared, Text, Value};
 use ink_stack::Threads;
 use ink_tree::Spot;
@@ -31,8 +31,8 @@ use ink_vars::Counts;
 use std::alloc::Global;
 
 /// A choice point pops what it is made of, and offers the choice behind the others, where it makes one. `BadTarget` where it
-/// leads nowhere; then the faults of what it pops, and of a text that is longer than a text may be (`ink_choice::make`); then
-/// `TooDeep` where there is no room. Memory is asked for only where a choice is made.
+/// leads nowhere; then the faults of what it pops, of a text that is longer than a text may be, and of one choice too many
+/// (`ink_choice::add_made`). Memory is asked for only where a choice is made.
 #[inline(never)]
 pub(crate) fn offer(
     alloc: Global,
@@ -60,11 +60,7 @@ pub(crate) fn offer(
         return Err(Fault::BadTarget);
     };
     let visited = was_visited(story, here, counts);
-    match make(alloc, flags, target, stack, visited, threads) {
-        Ok(Some(choice)) => choices.add(choice),
-        Ok(None) => Ok(()),
-        Err(fault) => Err(fault),
-    }
+    add_made(alloc, flags, target, stack, visited, threads, choices)
 }
 
 /// Whether the container for whose visits a content asks was visited; what is not counted was not. Of a choice point that is the

@@ -1,6 +1,7 @@
 -- The thread that runs, as contracts see it.
 use Rattle.std.specs.Prelude.{List, reverse}
-use Rattle.ink_model.specs.Flow.Frames.{ThreadOf, ThreadsOf}
+use Rattle.ink_model.specs.Flow.Frames.{FrameOf, ThreadOf, ThreadsOf}
+use Rattle.ink_model.specs.Variables.Store.{Values}
 use Rattle.ink_stack.specs.Frames.{Room}
 
 -- its frames and its previous place, and the room for frames below the top one
@@ -12,3 +13,7 @@ module _ {P : Type 0} where
   -- it and those below it, which are listed with the nearest last
   abbrev pub threads_in : RunningView P → List (ThreadOf P) → ThreadsOf P
   threads_in t below = record { thread = t.thread; below = reverse below }
+
+  -- what a copy of a thread asks memory for: the temporaries of its top frame, and the frames below that, the bottom one first
+  abbrev pub fork_of : ThreadOf P → Values × List (FrameOf P)
+  fork_of t = (t.frame.temps, reverse t.below)

@@ -1,6 +1,7 @@
 //! Where flow is: threads of frames (docs/FRAMES.md).
 #![tactic(auto)]
 
+mod fork;
 mod frame;
 mod frames;
 mod listing;
@@ -14,6 +15,7 @@ mod thread;
 mod threads;
 mod undo;
 
+pub use fork::Fork;
 pub use frame::{CallKind, Frame};
 pub use running::Running;
 pub use thread::Thread;

@@ -10,9 +10,11 @@ ghost use Rattle.ink_stack.specs.Calls.{frame_kind};
 ghost use Rattle.ink_stack.specs.Cells.{Within, holds_of, number_back, temp_back, ungone, unpopped, unpushed, with_frame, with_fresh};
 ghost use Rattle.ink_stack.specs.Frames.{MoreRoom};
 ghost use Rattle.ink_stack.specs.Quiet.{IsQuiet, Settled};
+ghost use Rattle.ink_stack.specs.Running.{fork_of};
 ghost use Rattle.ink_stack.specs.Temps.{text_of};
 ghost use Rattle.ink_stack.specs.Outcomes.{Changes, Grows};
 
+use crate::fork::Fork;
 use crate::frame::{CallKind, Frame};
 use crate::frames::Frames;
 use crate::spare::Spare;
@@ -39,6 +41,7 @@ pub struct Running<P> {
 }
 
 impl<P: Drop> Drop for Running<P> {
+    #[inline(always)]
     fn drop(self) {
         let Running {
             frame: _,
@@ -143,17 +146,21 @@ impl<P: Copy> Running<P> {
         ensures memory { OnErr result ((self.now.thread.frame.temps ≢ []) ⊎ (self.now.thread.below ≢ [])) }
     {
         let mut spare = Spare::new(alloc);
-        self.clone_over(alloc, &mut spare)
+        let Ok(fork) = self.fork_over(alloc, &mut spare) else {
+            return Err(AllocError);
+        };
+        Ok(self.with_fork(fork))
     }
 
-    /// The same, in the memory of spare lists where these are large enough.
+    /// What a copy asks memory for, in the memory of spare lists where these are large enough. The one error is a refused request
+    /// for memory, which a frame alone without temporaries never makes.
     #[inline(always)]
-    pub(crate) fn clone_over(
+    pub(crate) fn fork_over(
         &self,
         alloc: Global,
         spare: &mut Spare<P>,
-    ) -> Result<Running<P>, AllocError>
-        ensures copy { IfOk result (λ copy. copy.thread ≡ self.now.thread) }
+    ) -> Result<Fork<P>, AllocError>
+        ensures copy { IfOk result (λ fork. fork ≡ fork_of self.now.thread) }
         ensures memory { OnErr result ((self.now.thread.frame.temps ≢ []) ⊎ (self.now.thread.below ≢ [])) }
     {
         let Ok(temps) = self.frame.copied_temps(alloc) else {
@@ -162,14 +169,24 @@ impl<P: Copy> Running<P> {
         let Ok(below) = self.below.clone_over(alloc, spare) else {
             return Err(AllocError);
         };
-        Ok(Running {
+        Ok(Fork { temps, below })
+    }
+
+    /// A copy, of what was asked for. It is a call of its own, which cannot fail, so that a copy is built where it stands.
+    #[inline(always)]
+    pub(crate) fn with_fork(&self, fork: Fork<P>) -> Running<P>
+        requires { fork ≡ fork_of self.now.thread }
+        ensures { result.thread ≡ self.now.thread }
+    {
+        let Fork { temps, below } = fork;
+        Running {
             frame: self.frame.with_temps(temps),
             below,
             previous: self.previous,
             quiet: self.quiet,
             settled: self.settled,
-            alloc,
-        })
+            alloc: self.alloc,
+        }
     }
 
     /// Copies share the frames below the top one from now on, where there are many. It asks for memory only to make copies cheap.

@@ -7,12 +7,13 @@ ghost use Rattle.ink_model.specs.Flow.Frames.{base_threads, fresh_depth, gone, m
 ghost use Rattle.ink_model.specs.Flow.Threads.{alone, doubled, dropped, frame_count, number_in, frame_popped, frame_pushed, staled, temp_in, thread_count, top_result, with_temp};
 ghost use Rattle.ink_model.specs.declared.limits.TheConstants.{MAX_THREADS};
 ghost use Rattle.ink_stack.specs.Calls.{frame_kind};
-ghost use Rattle.ink_stack.specs.Running.{threads_in};
+ghost use Rattle.ink_stack.specs.Running.{fork_of, threads_in};
 ghost use Rattle.ink_stack.specs.Temps.{text_of};
 ghost use Rattle.ink_stack.specs.Undo.{HasGone, HasMode, NotesTemp, threads_back, threads_spare, threads_stood};
 ghost use Rattle.ink_stack.specs.Outcomes.{Changes, Grows};
 ghost use Rattle.ink_trail.specs.Undo.{KeepsTrail, Notes, Trails, TrailsOrKeeps, trail_of, with_count, with_pair, writes_of};
 
+use crate::fork::Fork;
 use crate::frame::CallKind;
 use crate::running::Running;
 use crate::spare::Spare;
@@ -473,9 +474,35 @@ impl<P: Copy> Threads<P> {
         ensures fault { IfErr result (λ f. f ≡ Fault.OutOfMemory) }
         ensures memory { OnErr result ((self.now.threads.thread.frame.temps ≢ []) ⊎ (self.now.threads.thread.below ≢ [])) }
     {
-        match self.running.clone_in(self.alloc) {
-            Ok(running) => Ok(Thread { running }),
+        match self.ready_fork() {
+            Ok(fork) => Ok(self.with_fork(fork)),
+            Err(fault) => Err(fault),
+        }
+    }
+
+    /// What a copy of the top thread asks memory for, so that `with_fork` can build the copy where it is to stand. The one error is
+    /// that of `fork`.
+    #[inline(always)]
+    pub fn ready_fork(&self) -> Result<Fork<P>, Fault>
+        ensures fork { IfOk result (λ fork. fork ≡ fork_of self.now.threads.thread) }
+        ensures fault { IfErr result (λ f. f ≡ Fault.OutOfMemory) }
+        ensures memory { OnErr result ((self.now.threads.thread.frame.temps ≢ []) ⊎ (self.now.threads.thread.below ≢ [])) }
+    {
+        let mut spare = Spare::new(self.alloc);
+        match self.running.fork_over(self.alloc, &mut spare) {
+            Ok(fork) => Ok(fork),
             Err(_) => Err(Fault::OutOfMemory),
+        }
+    }
+
+    /// A copy of the top thread, of what it asked memory for. Takes no memory.
+    #[inline(always)]
+    pub fn with_fork(&self, fork: Fork<P>) -> Thread<P>
+        requires same { fork ≡ fork_of self.now.threads.thread }
+        ensures copy { result ≡ self.now.threads.thread }
+    {
+        Thread {
+            running: self.running.with_fork(fork),
         }
     }
 
@@ -666,9 +693,11 @@ fn push_copy<P: Copy>(
     let Ok(_) = below.reserve(1) else {
         return Err(Fault::OutOfMemory);
     };
-    let Ok(copy) = running.clone_over(alloc, spare) else {
+    let Ok(fork) = running.fork_over(alloc, spare) else {
         return Err(Fault::OutOfMemory);
     };
-    below.push_reserved(Thread { running: copy });
+    below.push_reserved(Thread {
+        running: running.with_fork(fork),
+    });
     Ok(())
 }

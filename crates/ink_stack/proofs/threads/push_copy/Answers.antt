@@ -16,6 +16,6 @@ returns-in_default-clause-threads g c =
 pub returns-clause-threads : goal.returns-clause-threads
 returns-clause-threads g c =
     let items = c.args.below.now.items in
-    let copy = c.in-Ok-clone_over.copy.thread in
+    let copy = c.with_fork.result.thread in
     let more = c.push_reserved.ensures.items ∙ ap (λ ts. ts ++ copy ∷ []) c.reserve.ensures.items in
-    doubled_done c.args.running.now.thread copy items c.push_reserved.new.self.items tt (omega (arith, length-reverse items, c.args.below.now.ok.0)) more c.in-Ok-clone_over.ensures.copy
+    doubled_done c.args.running.now.thread copy items c.push_reserved.new.self.items tt (omega (arith, length-reverse items, c.args.below.now.ok.0)) more c.with_fork.ensures

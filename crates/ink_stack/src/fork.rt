@@ -1,0 +1,23 @@
+//! What copies of threads are made of.
+
+use crate::frames::Frames;
+use crate::temps::Temps;
+use std::marker::Model;
+
+/// What a copy of a thread asks memory for: the temporaries of its top frame, and the frames below that. A contract sees both, the
+/// bottom frame first.
+#[derive(Drop)]
+pub struct Fork<P> {
+    pub(crate) temps: Temps,
+    pub(crate) below: Frames<P>,
+}
+
+impl<P> Model for Fork<P> {
+    ghost use Rattle.std.specs.Prelude.{List};
+    ghost use Rattle.ink_model.specs.Flow.Frames.{FrameOf};
+    ghost use Rattle.ink_model.specs.Variables.Store.{Values};
+
+    ghost Value = { Values × List (FrameOf P) };
+
+    ghost view = { λ f. (f.temps, f.below.items) };
+}
