@@ -34,28 +34,23 @@ if_some false x y e = absurd cc
 abbrev Reading : {A : Type 0} → (Data → Option A) → (A → Data) → Type 0
 Reading {A} f g = (d : Data) (x : A) → f d ≡ Some x → d ≡ g x
 
--- the first member, and what comes of it and the others
-record Took {A B : Type 0} (g : A → Data) (k : List ℕ) (so : A → Members → Option B) (ms : Members) (y : B) : Type 0 where
-  x : A
-  rest : Members
-  is : ms ≡ member k (g x) rest
-  on : so x rest ≡ Some y
-
-took : {A B : Type 0} (f : Data → Option A) (g : A → Data) (k : List ℕ) (so : A → Members → Option B) (ms : Members) (y : B) → Reading f g → take k f so ms ≡ Some y → Took g k so ms y
-took f g k so no_members y h e = absurd cc
-took {A} {B} f g k so (member l d ms) y h e = by (bytes_eq k l) refl e
+-- the first member is taken, and this comes of it and the others
+taken : {A B C : Type 0} (f : Data → Option A) (g : A → Data) (k : List ℕ) (so : A → Members → Option B) (ms : Members) (y : B) → Reading f g → take k f so ms ≡ Some y
+    → ((x : A) (rest : Members) → ms ≡ member k (g x) rest → so x rest ≡ Some y → C) → C
+taken f g k so no_members y h e on = absurd cc
+taken {A} {B} {C} f g k so (member l d ms) y h e on = by (bytes_eq k l) refl e
   where
-    by : (b : Bool) → bytes_eq k l ≡ b → option_and_then (λ (p : Data × Members). option_and_then (λ x. so x p.1) (f p.0)) (if b then Some (d, ms) else None) ≡ Some y → Took g k so (member l d ms) y
+    by : (b : Bool) → bytes_eq k l ≡ b → option_and_then (λ (p : Data × Members). option_and_then (λ x. so x p.1) (f p.0)) (if b then Some (d, ms) else None) ≡ Some y → C
     by false is e = absurd cc
     by true is e =
         let found = bind_some (f d) (λ x. so x ms) y e in
         let reads : d ≡ g found.0 = h d found.0 found.1 in
         let keys : l ≡ k = sym ((bytes_eq-Decides k l).0 is) in
-        record { x = found.0; rest = ms; is = (λ i. member (keys i) (reads i) ms); on = found.2 }
+        on found.0 ms (λ i. member (keys i) (reads i) ms) found.2
 
 -- a member that was taken, as it is spelled, and those behind it
-puts : {A B : Type 0} {g : A → Data} {k : List ℕ} {so : A → Members → Option B} {ms more : Members} {y : B} {x : A} (t : Took g k so ms y) → t.x ≡ x → t.rest ≡ more → ms ≡ member k (g x) more
-puts {g} {k} t e rest = t.is ∙ (λ i. member k (g (e i)) (rest i))
+behind : {k : List ℕ} {d : Data} {ms rest more : Members} → ms ≡ member k d rest → rest ≡ more → ms ≡ member k d more
+behind {k} {d} is e = is ∙ ap (member k d) e
 
 closed_some : {B : Type 0} (y z : B) (ms : Members) → closed y ms ≡ Some z → (ms ≡ no_members) × (y ≡ z)
 closed_some y z no_members e = (refl, cc)
@@ -125,22 +120,22 @@ path_reading d p e = absurd cc
 
 target_reads : (ms : Members) (v : Value) → target_in ms ≡ Some v → object ms ≡ value_data v
 target_reads ms v e =
-    let t = took path_in (λ p. string (path_text p)) (codes "->") _ ms v path_reading e in
-    let c = closed_some (value.Target t.x) v t.rest t.on in
-    ap object (puts t refl c.0) ∙ ap value_data c.1
+    taken path_in (λ p. string (path_text p)) (codes "->") _ ms v path_reading e (λ p a is-a on-a.
+    let z = closed_some (value.Target p) v a on-a in
+    ap object (behind is-a z.0) ∙ ap value_data z.1)
 
 pointer_reads : (ms : Members) (v : Value) → pointer_in ms ≡ Some v → object ms ≡ value_data v
 pointer_reads ms v e =
-    let t = took int_of (λ z. number (of_integer z)) (codes "ci") _ ms v int_reading e in
-    let u = took text_of string (codes "var") _ t.rest v text_reading t.on in
-    let c = closed_some (value.Pointer t.x u.x) v u.rest u.on in
-    ap object (puts t refl (puts u refl c.0)) ∙ ap value_data c.1
+    taken int_of (λ z. number (of_integer z)) (codes "ci") _ ms v int_reading e (λ n a is-a on-a.
+    taken text_of string (codes "var") _ a v text_reading on-a (λ t b is-b on-b.
+    let z = closed_some (value.Pointer n t) v b on-b in
+    ap object (behind is-a (behind is-b z.0)) ∙ ap value_data z.1))
 
 tag_reads : (ms : Members) (v : Value) → tag_in ms ≡ Some v → object ms ≡ value_data v
 tag_reads ms v e =
-    let t = took text_of string (codes "tag") _ ms v text_reading e in
-    let c = closed_some (value.Tag t.x) v t.rest t.on in
-    ap object (puts t refl c.0) ∙ ap value_data c.1
+    taken text_of string (codes "tag") _ ms v text_reading e (λ t a is-a on-a.
+    let z = closed_some (value.Tag t) v a on-a in
+    ap object (behind is-a z.0) ∙ ap value_data z.1)
 
 value_reading : Reading value_of value_data
 value_reading null v e = let same : value.Void ≡ v = cc in ap value_data same
@@ -197,14 +192,14 @@ temps_reading d rs e = absurd cc
 
 frame_reading : Reading frame_of frame_data
 frame_reading (object ms) f e =
-    let a = took count_of count_data (codes "depth") _ ms f count_reading e in
-    let b = took truth_of boolean (codes "eval") _ a.rest f truth_reading a.on in
-    let c = took truth_of boolean (codes "fresh") _ b.rest f truth_reading b.on in
-    let k = took kind_of kind_data (codes "kind") _ c.rest f kind_reading c.on in
-    let p = took any_place_of place_or_null (codes "place") _ k.rest f any_place_reading k.on in
-    let t = took temps_of (λ rs. object (temps_members rs)) (codes "temps") _ p.rest f temps_reading p.on in
-    let z = closed_some _ f t.rest t.on in
-    ap object (puts a refl (puts b refl (puts c refl (puts k refl (puts p refl (puts t refl z.0)))))) ∙ ap frame_data z.1
+    taken count_of count_data (codes "depth") _ ms f count_reading e (λ depth a is-a on-a.
+    taken truth_of boolean (codes "eval") _ a f truth_reading on-a (λ eval b is-b on-b.
+    taken truth_of boolean (codes "fresh") _ b f truth_reading on-b (λ fresh c is-c on-c.
+    taken kind_of kind_data (codes "kind") _ c f kind_reading on-c (λ kind k is-k on-k.
+    taken any_place_of place_or_null (codes "place") _ k f any_place_reading on-k (λ place p is-p on-p.
+    taken temps_of (λ rs. object (temps_members rs)) (codes "temps") _ p f temps_reading on-p (λ temps t is-t on-t.
+    let z = closed_some _ f t on-t in
+    ap object (behind is-a (behind is-b (behind is-c (behind is-k (behind is-p (behind is-t z.0)))))) ∙ ap frame_data z.1))))))
 frame_reading d f e = absurd cc
 
 -- ---- threads
@@ -220,26 +215,26 @@ turned xs ys e = sym (reverse-reverse xs) ∙ ap reverse e
 
 thread_reading : Reading thread_in thread_data
 thread_reading (object ms) t e =
-    let a = took (list_of frame_of) (list_data frame_data) (codes "frames") _ ms t (list_reading frame_of frame_data frame_reading) e in
-    let b = took any_place_of place_or_null (codes "previous") _ a.rest t any_place_reading a.on in
-    let found = bind_some (thread_with (reverse a.x) b.x) (λ u. closed u b.rest) t b.on in
-    let z = closed_some found.0 t b.rest found.2 in
-    let w = with_reads (reverse a.x) b.x found.0 found.1 in
-    let all : a.x ≡ reverse (found.0.frame ∷ found.0.below) = turned a.x (found.0.frame ∷ found.0.below) w.0 in
-    ap object (puts a all (puts b w.1 z.0)) ∙ ap thread_data z.1
+    taken (list_of frame_of) (list_data frame_data) (codes "frames") _ ms t (list_reading frame_of frame_data frame_reading) e (λ frames a is-a on-a.
+    taken any_place_of place_or_null (codes "previous") _ a t any_place_reading on-a (λ previous b is-b on-b.
+    let found = bind_some (thread_with (reverse frames) previous) (λ u. closed u b) t on-b in
+    let z = closed_some found.0 t b found.2 in
+    let w = with_reads (reverse frames) previous found.0 found.1 in
+    let all : frames ≡ reverse (found.0.frame ∷ found.0.below) = turned frames (found.0.frame ∷ found.0.below) w.0 in
+    ap object (behind (is-a ∙ ap (λ fs. member (codes "frames") (list_data frame_data fs) a) all) (behind (is-b ∙ ap (λ p. member (codes "previous") (place_or_null p) b) w.1) z.0)) ∙ ap thread_data z.1))
 thread_reading d t e = absurd cc
 
 -- ---- choices
 
 choice_reading : Reading choice_of choice_data
 choice_reading (object ms) x e =
-    let a = took truth_of boolean (codes "hidden") _ ms x truth_reading e in
-    let b = took (list_of text_of) (list_data string) (codes "tags") _ a.rest x (list_reading text_of string text_reading) a.on in
-    let c = took place_of place_data (codes "target") _ b.rest x place_reading b.on in
-    let t = took text_of string (codes "text") _ c.rest x text_reading c.on in
-    let u = took thread_in thread_data (codes "thread") _ t.rest x thread_reading t.on in
-    let z = closed_some _ x u.rest u.on in
-    ap object (puts a refl (puts b refl (puts c refl (puts t refl (puts u refl z.0))))) ∙ ap choice_data z.1
+    taken truth_of boolean (codes "hidden") _ ms x truth_reading e (λ hidden a is-a on-a.
+    taken (list_of text_of) (list_data string) (codes "tags") _ a x (list_reading text_of string text_reading) on-a (λ tags b is-b on-b.
+    taken place_of place_data (codes "target") _ b x place_reading on-b (λ target c is-c on-c.
+    taken text_of string (codes "text") _ c x text_reading on-c (λ text t is-t on-t.
+    taken thread_in thread_data (codes "thread") _ t x thread_reading on-t (λ thread u is-u on-u.
+    let z = closed_some _ x u on-u in
+    ap object (behind is-a (behind is-b (behind is-c (behind is-t (behind is-u z.0))))) ∙ ap choice_data z.1)))))
 choice_reading d x e = absurd cc
 
 -- ---- configurations
@@ -259,33 +254,35 @@ globals_reading = list_reading (pair_of text_of value_of) global_data (pair_read
 -- layout 1
 old_reads : (ms : Members) (x : Configuration) → unspelled_by ms ≡ Some x → object ms ≡ old_spelling x
 old_reads ms x e =
-    let a = took (list_of choice_of) (list_data choice_data) (codes "choices") _ ms x (list_reading choice_of choice_data choice_reading) e in
-    let b = took (format_of 1) (λ u. count_data 1) (codes "format") _ a.rest x (format_reading 1) a.on in
-    let g = took (list_of (pair_of text_of value_of)) (list_data global_data) (codes "globals") _ b.rest x globals_reading b.on in
-    let f = took truth_of boolean (codes "safe") _ g.rest x truth_reading g.on in
-    let s = took (list_of value_of) (list_data value_data) (codes "stack") _ f.rest x (list_reading value_of value_data value_reading) f.on in
-    let t = took (list_of thread_in) (list_data thread_data) (codes "threads") _ s.rest x (list_reading thread_in thread_data thread_reading) s.on in
-    let n = took count_of count_data (codes "turn") _ t.rest x count_reading t.on in
-    let m = took (list_of (pair_of place_of count_of)) (list_data row_data) (codes "turns") _ n.rest x rows_of_counts n.on in
-    let v = took (list_of (pair_of place_of count_of)) (list_data row_data) (codes "visits") _ m.rest x rows_of_counts m.on in
-    let found = bind_some (threads_with (reverse t.x)) _ x v.on in
-    let z = closed_some _ x v.rest found.2 in
-    let all : t.x ≡ reverse (found.0.thread ∷ found.0.below) = turned t.x (found.0.thread ∷ found.0.below) (with_threads_reads (reverse t.x) found.0 found.1) in
-    ap object (puts a refl (puts b refl (puts g refl (puts f refl (puts s refl (puts t all (puts n refl (puts m refl (puts v refl z.0))))))))) ∙ ap old_spelling z.1
+    taken (list_of choice_of) (list_data choice_data) (codes "choices") _ ms x (list_reading choice_of choice_data choice_reading) e (λ choices a is-a on-a.
+    taken (format_of 1) (λ u. count_data 1) (codes "format") _ a x (format_reading 1) on-a (λ format b is-b on-b.
+    taken (list_of (pair_of text_of value_of)) (list_data global_data) (codes "globals") _ b x globals_reading on-b (λ globals g is-g on-g.
+    taken truth_of boolean (codes "safe") _ g x truth_reading on-g (λ safe f is-f on-f.
+    taken (list_of value_of) (list_data value_data) (codes "stack") _ f x (list_reading value_of value_data value_reading) on-f (λ stack s is-s on-s.
+    taken (list_of thread_in) (list_data thread_data) (codes "threads") _ s x (list_reading thread_in thread_data thread_reading) on-s (λ threads t is-t on-t.
+    taken count_of count_data (codes "turn") _ t x count_reading on-t (λ turn n is-n on-n.
+    taken (list_of (pair_of place_of count_of)) (list_data row_data) (codes "turns") _ n x rows_of_counts on-n (λ turns m is-m on-m.
+    taken (list_of (pair_of place_of count_of)) (list_data row_data) (codes "visits") _ m x rows_of_counts on-m (λ visits v is-v on-v.
+    let found = bind_some (threads_with (reverse threads)) _ x on-v in
+    let z = closed_some _ x v found.2 in
+    let all : threads ≡ reverse (found.0.thread ∷ found.0.below) = turned threads (found.0.thread ∷ found.0.below) (with_threads_reads (reverse threads) found.0 found.1) in
+    let stood = is-t ∙ ap (λ us. member (codes "threads") (list_data thread_data us) t) all in
+    ap object (behind is-a (behind is-b (behind is-g (behind is-f (behind is-s (behind stood (behind is-n (behind is-m (behind is-v z.0))))))))) ∙ ap old_spelling z.1)))))))))
 
 -- ---- flows
 
 named_flow_reading : Reading named_flow_of named_flow_data
 named_flow_reading (object ms) r e =
-    let a = took (list_of choice_of) (list_data choice_data) (codes "choices") _ ms r (list_reading choice_of choice_data choice_reading) e in
-    let n = took text_of string (codes "name") _ a.rest r text_reading a.on in
-    let f = took truth_of boolean (codes "safe") _ n.rest r truth_reading n.on in
-    let s = took (list_of value_of) (list_data value_data) (codes "stack") _ f.rest r (list_reading value_of value_data value_reading) f.on in
-    let t = took (list_of thread_in) (list_data thread_data) (codes "threads") _ s.rest r (list_reading thread_in thread_data thread_reading) s.on in
-    let found = bind_some (threads_with (reverse t.x)) _ r t.on in
-    let z = closed_some _ r t.rest found.2 in
-    let all : t.x ≡ reverse (found.0.thread ∷ found.0.below) = turned t.x (found.0.thread ∷ found.0.below) (with_threads_reads (reverse t.x) found.0 found.1) in
-    ap object (puts a refl (puts n refl (puts f refl (puts s refl (puts t all z.0))))) ∙ ap named_flow_data z.1
+    taken (list_of choice_of) (list_data choice_data) (codes "choices") _ ms r (list_reading choice_of choice_data choice_reading) e (λ choices a is-a on-a.
+    taken text_of string (codes "name") _ a r text_reading on-a (λ name n is-n on-n.
+    taken truth_of boolean (codes "safe") _ n r truth_reading on-n (λ safe f is-f on-f.
+    taken (list_of value_of) (list_data value_data) (codes "stack") _ f r (list_reading value_of value_data value_reading) on-f (λ stack s is-s on-s.
+    taken (list_of thread_in) (list_data thread_data) (codes "threads") _ s r (list_reading thread_in thread_data thread_reading) on-s (λ threads t is-t on-t.
+    let found = bind_some (threads_with (reverse threads)) _ r on-t in
+    let z = closed_some _ r t found.2 in
+    let all : threads ≡ reverse (found.0.thread ∷ found.0.below) = turned threads (found.0.thread ∷ found.0.below) (with_threads_reads (reverse threads) found.0 found.1) in
+    let stood = is-t ∙ ap (λ us. member (codes "threads") (list_data thread_data us) t) all in
+    ap object (behind is-a (behind is-n (behind is-f (behind is-s (behind stood z.0))))) ∙ ap named_flow_data z.1)))))
 named_flow_reading d r e = absurd cc
 
 -- ---- layout 2
@@ -302,15 +299,15 @@ spelled_data x = object
 
 spelled_reads : (ms : Members) (x : Spelled) → spelled_by ms ≡ Some x → object ms ≡ spelled_data x
 spelled_reads ms x e =
-    let a = took text_of string (codes "current") _ ms x text_reading e in
-    let f = took (list_of named_flow_of) (list_data named_flow_data) (codes "flows") _ a.rest x (list_reading named_flow_of named_flow_data named_flow_reading) a.on in
-    let b = took (format_of 2) (λ u. count_data 2) (codes "format") _ f.rest x (format_reading 2) f.on in
-    let g = took (list_of (pair_of text_of value_of)) (list_data global_data) (codes "globals") _ b.rest x globals_reading b.on in
-    let n = took count_of count_data (codes "turn") _ g.rest x count_reading g.on in
-    let m = took (list_of (pair_of place_of count_of)) (list_data row_data) (codes "turns") _ n.rest x rows_of_counts n.on in
-    let v = took (list_of (pair_of place_of count_of)) (list_data row_data) (codes "visits") _ m.rest x rows_of_counts m.on in
-    let z = closed_some _ x v.rest v.on in
-    ap object (puts a refl (puts f refl (puts b refl (puts g refl (puts n refl (puts m refl (puts v refl z.0))))))) ∙ ap spelled_data z.1
+    taken text_of string (codes "current") _ ms x text_reading e (λ current a is-a on-a.
+    taken (list_of named_flow_of) (list_data named_flow_data) (codes "flows") _ a x (list_reading named_flow_of named_flow_data named_flow_reading) on-a (λ flows f is-f on-f.
+    taken (format_of 2) (λ u. count_data 2) (codes "format") _ f x (format_reading 2) on-f (λ format b is-b on-b.
+    taken (list_of (pair_of text_of value_of)) (list_data global_data) (codes "globals") _ b x globals_reading on-b (λ globals g is-g on-g.
+    taken count_of count_data (codes "turn") _ g x count_reading on-g (λ turn n is-n on-n.
+    taken (list_of (pair_of place_of count_of)) (list_data row_data) (codes "turns") _ n x rows_of_counts on-n (λ turns m is-m on-m.
+    taken (list_of (pair_of place_of count_of)) (list_data row_data) (codes "visits") _ m x rows_of_counts on-m (λ visits v is-v on-v.
+    let z = closed_some _ x v on-v in
+    ap object (behind is-a (behind is-f (behind is-b (behind is-g (behind is-n (behind is-m (behind is-v z.0))))))) ∙ ap spelled_data z.1)))))))
 
 -- the flows that were read, where the current one's name stands once among theirs
 module _ (current : List ℕ) (f : FlowOf (List Part)) where

@@ -162,6 +162,9 @@ module _ {P : Type 0} where
   pub room_more : (r : Room) (hs : List (Header P)) (ts : List Values) (f : FrameOf P) → FitsIn r (f ∷ reverse (framed hs ts)) → length hs + 1 ≤ r.frames
   room_more r hs ts f h = omega (arith, h.frames, length-reverse (framed hs ts), framed_length hs ts)
 
+  pub room_temps : (r : Room) (fs : List (FrameOf P)) (f : FrameOf P) (n : ℕ) → is_bare f ≡ false → FitsIn r (f ∷ reverse fs) → n ≡ length fs → n < r.temps
+  room_temps r fs f n some h is = omega (arith, (rw some at h.temps), length-reverse fs, is)
+
   -- a frame more, where as many temporaries as are missing are none
   pub framed_filled : (hs : List (Header P)) (ts filled : List Values) (n : ℕ) (x : Header P) (rows : Values) → filled ≡ ts ++ replicate n [] → length filled ≡ length hs
       → framed (hs ++ x ∷ []) (filled ++ rows ∷ []) ≡ framed hs ts ++ frame_with x rows ∷ []
@@ -181,6 +184,9 @@ module _ {P : Type 0} where
       by : (rows : Values) → is_bare (record f { temps = rows }) ≡ true → rows ≡ []
       by [] h = refl
       by (r ∷ rows) h = absurd (cc)
+
+  pub bare_same : (f : FrameOf P) → is_bare f ≡ true → f ≡ record f { temps = [] }
+  bare_same f bare = ap (λ rows. record f { temps = rows }) (bare_none f bare)
 
   pub put_within : (hs more : List (Header P)) (ts new : List Values) (n : ℕ) (x : Header P) (rows : Values) → more ≡ hs ++ x ∷ [] → new ≡ ts ++ replicate (n - length ts) [] ++ rows ∷ []
       → n ≡ length hs → length ts ≤ length hs → length new ≤ length more
@@ -206,3 +212,7 @@ module _ {P : Type 0} where
       ap (λ fs. temp_back k was (get_or fs i d)) (temps_put hs ts filled n i rows d is inside few)
       ∙ ap (temp_back k was) (get_or-set_same (framed hs ts) i (record f { temps = rows }) d (omega (arith, framed_length hs ts)))
       ∙ ap (λ r. record f { temps = r }) back
+
+  -- where there is no header, there is no frame
+  pub none_framed : (hs : List (Header P)) (ts : List Values) (fs : List (FrameOf P)) → framed hs ts ≡ fs → hs ≡ [] → fs ≡ []
+  none_framed hs ts fs is none = sym is ∙ ap (λ xs. framed xs ts) none

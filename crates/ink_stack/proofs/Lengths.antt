@@ -1,5 +1,5 @@
 -- How long lists are, and what there is room for.
-use Rattle.std.proofs.Common.{◌≡◌, ◌<◌, ◌≤◌, ℕ, List, Vec, ap, arith, length, reverse, take, vec_capacity, vec_len}
+use Rattle.std.proofs.Common.{◌≡◌, ◌≢◌, ◌∙◌, ◌<◌, ◌≤◌, ℕ, List, [], ◌∷◌, Vec, ap, arith, length, refl, reverse, Result, Ok, Err, OnErr, take, vec_capacity, vec_len}
 use Rattle.std.proofs.lemmas.List.{length-reverse, length-take-le}
 
 -- two lists that are others now
@@ -12,3 +12,12 @@ room_next v xs i n is inside whole fits = omega (arith, v.ok.0, ap length is, le
 
 pub room_behind : {A L : Type 0} (v : Vec A L) (n : ℕ) → length (reverse v.items) < n → vec_len v < n
 room_behind v n h = omega (arith, v.ok.0, length-reverse v.items, h)
+
+-- a list that is counted is not empty, whatever fails after that
+pub some_on_err : {A U E : Type 0} (xs : List A) (r : Result U E) (n : ℕ) → n ≡ length xs → n ≢ 0 → OnErr r (xs ≢ [])
+some_on_err xs (Ok u) n many some = tt
+some_on_err xs (Err e) n many some = λ none. some (many ∙ ap length none)
+
+pub none_counted : {A : Type 0} (xs : List A) (n : ℕ) → n ≡ length xs → n ≡ 0 → [] ≡ xs
+none_counted [] n many none = refl
+none_counted (x ∷ xs) n many none = absurd (omega arith)

@@ -22,5 +22,6 @@ pub mod Keeping
 pub mod Tops
 pub mod Flat
 pub mod Sharing
+pub mod Bounding
 pub mod Lengths
 pub mod Given

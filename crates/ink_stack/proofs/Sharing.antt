@@ -1,7 +1,8 @@
 -- Frames by their headers, of which the lowest are shared.
-use Rattle.std.proofs.Common.{◌≡◌, ◌∙◌, ◌<◌, ◌≤◌, ◌+◌, ◌-◌, ℕ, zero, suc, List, [], ◌∷◌, ◌++◌, Bool, true, false, ap, append_assoc, arith, get_or, length, map, refl, set, sym, take}
-use Rattle.std.proofs.lemmas.List.{get_or-append_right, get_or_append_left, length-append, length-map, set-append_right, take_all}
-use Rattle.ink_stack.proofs.Common.{FrameOf, Values}
+use Rattle.std.proofs.Common.{◌≡◌, ◌∙◌, ◌<◌, ◌≤◌, ◌+◌, ◌-◌, ℕ, zero, suc, List, [], ◌∷◌, ◌++◌, Bool, true, false, ap, append_assoc, arith, get_or, length, map, refl, set, subst, sym, take}
+use Rattle.std.proofs.lemmas.List.{get_or-append_right, get_or-map, get_or_append_left, length-append, length-map, set-append_right, take_all}
+use Rattle.std.specs.Bool.{OnFalse, OnTrue}
+use Rattle.ink_stack.proofs.Common.{FrameOf, Values, stale, with_fresh}
 use Rattle.ink_stack.proofs.Flat.{framed_length, header_set, framed_at, temps_at}
 use Rattle.ink_stack.specs.Frames.{as_seen, frame_with, framed, unnumbered}
 use Rattle.ink_stack.specs.declared.frame.Header.{Header}
@@ -53,6 +54,16 @@ module _ {P : Type 0} where
       header_set hs ts i x
       ∙ ap (λ f. set (framed hs ts) i f) (ap (λ rows. frame_with x rows) (sym (temps_at hs ts i d inside)) ∙ made (get_or (framed hs ts) i d).temps ∙ ap change (sym is))
 
+  -- a header that ends a frame's freshness, or does not, says the same of its frame
+  pub stale_kept : (depth : ℕ) (h : Header P) (f : FrameOf P) (ended : Bool) → f ≡ frame_with h f.temps → ended ≡ false
+      → ((rows : Values) → OnFalse ended (stale depth (frame_with h rows) ≡ frame_with h rows)) → stale depth f ≡ f
+  stale_kept depth h f ended is not kept = ap (stale depth) is ∙ subst (λ b. OnFalse b (stale depth (frame_with h f.temps) ≡ frame_with h f.temps)) not (kept f.temps) ∙ sym is
+
+  pub stale_ended : (depth : ℕ) (h : Header P) (f : FrameOf P) (ended : Bool) → f ≡ frame_with h f.temps → ended ≡ true
+      → ((rows : Values) → OnTrue ended (with_fresh true (stale depth (frame_with h rows)) ≡ frame_with h rows)) → with_fresh true (stale depth f) ≡ f
+  stale_ended depth h f ended is so was =
+      ap (λ g. with_fresh true (stale depth g)) is ∙ subst (λ b. OnTrue b (with_fresh true (stale depth (frame_with h f.temps)) ≡ frame_with h f.temps)) so (was f.temps) ∙ sym is
+
   -- a copy of both
   pub both_are : (lowest ls headers own : List (Header P)) → lowest ≡ ls → headers ≡ own → lowest ++ headers ≡ ls ++ own
   both_are lowest ls headers own first second = ap (λ hs. hs ++ headers) first ∙ ap (λ hs. ls ++ hs) second
@@ -78,6 +89,12 @@ module _ {P : Type 0} where
   last_seen f [] i x inside is = absurd (omega arith)
   last_seen f (h ∷ hs) zero x inside is = ap (λ y. y ∷ []) (sym is)
   last_seen f (h ∷ hs) (suc i) x inside is = ap (λ xs. f h ∷ xs) (last_seen f hs i x (omega arith) is)
+
+  -- one of them
+  pub seen_at : (f : Header P → Header P) (hs now first : List (Header P)) (i : ℕ) (x y d : Header P) → map f hs ≡ now → first ≡ hs → i < length now → y ≡ get_or first i y → x ≡ f y → x ≡ get_or now i d
+  seen_at f hs now first i x y d seen is inside there made =
+      let within : i < length hs = omega (arith, ap length seen, length-map hs f, inside) in
+      made ∙ ap f (there ∙ ap (λ xs. get_or xs i y) is) ∙ sym (get_or-map f hs i y d within) ∙ ap (λ xs. get_or xs i d) seen
 
   -- they and more, put into one list of which all are seen
   pub more_seen : (b : Bool) (hs more all : List (Header P)) (n : ℕ) → all ≡ map (as_seen b) hs ++ map (as_seen false) more → n ≡ length hs + length more

@@ -1,4 +1,5 @@
 use Rattle.std.proofs.Common.{◌∙◌, ◌<◌, arith, get_or, length, refl}
+use borrow.Author.Rules.{scaled_Fits}
 use Rattle.ink_stack.specs.Frames.{unnumbered}
 use Rattle.ink_stack.proofs.Mapping.{map_step, map_done}
 use Rattle.ink_stack.proofs.frames.clear_numbers_of.Goals as goal
@@ -15,3 +16,6 @@ loop-header-init g c = refl
 
 pub returns : goal.returns
 returns g c = map_done unnumbered c.loop-header.header-items _ c.loop-header.header-index (omega arith) c.loop-header.invariant
+
+pub offset_bounds-header-items-header-index : goal.offset_bounds-header-items-header-index
+offset_bounds-header-items-header-index g c = scaled_Fits _ _ _ c.loop-header-test.true c.well_formed.0.1

@@ -1,5 +1,6 @@
-use Rattle.std.proofs.Common.{◌≡◌, ◌∙◌, ◌++◌, ◌-◌, ap, arith, drop, length, map, sym, take, vec_len}
-use Rattle.std.proofs.lemmas.List.{length-append, map-append, with_items_is}
+use Rattle.std.proofs.Common.{◌≡◌, ◌∙◌, ◌++◌, ◌-◌, ap, arith, drop, length, map, sym, refl, take, vec_len}
+use Rattle.std.proofs.lemmas.List.{length-append, length-map, map-append, with_items_is}
+use Rattle.ink_stack.proofs.Bounding.{within_again}
 use Rattle.ink_stack.proofs.Common.{framed, Settled}
 use Rattle.ink_stack.specs.Frames.{unnumbered}
 use Rattle.ink_stack.proofs.Flat.{framed_length, unnumbered_all}
@@ -37,3 +38,19 @@ clear_numbers_from-requires g c =
     let ts = c.self.inside.temps.items in
     let settled : Settled c.args.settled (framed (ls ++ own) ts) = rw (← c.self.view_is) at c.requires in
     omega (arith, settled_within c.args.settled (framed (ls ++ own) ts) settled, framed_length (ls ++ own) ts, length-append ls own, c.len-shared.ensures, ap length c.as_mut_slice-else-settled-shared.ensures.value)
+
+pub invariant_of-self : goal.invariant_of-self
+invariant_of-self g c =
+    let ls = c.self.inside.lowest in
+    let own = c.self.inside.headers in
+    let new = c.clear_numbers_of.new.headers in
+    let kept : length new ≡ vec_len own = c.clear_numbers_of.auto.headers ∙ c.as_mut_slice.ensures.len in
+    rw (with_items_is own new kept) (within_again ls own.items c.clear_numbers.new.self new _ _ (ap length c.clear_numbers.ensures ∙ length-map ls unnumbered) (kept ∙ own.ok.0) c.self.invariant)
+
+pub invariant_of-self-else-settled-shared : goal.invariant_of-self-else-settled-shared
+invariant_of-self-else-settled-shared g c =
+    let ls = c.self.inside.lowest in
+    let own = c.self.inside.headers in
+    let new = c.clear_numbers_from.new.headers in
+    let kept : length new ≡ vec_len own = c.clear_numbers_from.auto.headers ∙ c.as_mut_slice-else-settled-shared.ensures.len in
+    rw (with_items_is own new kept) (within_again ls own.items ls new _ _ refl (kept ∙ own.ok.0) c.self.invariant)

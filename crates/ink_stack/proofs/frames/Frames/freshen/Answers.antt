@@ -2,6 +2,7 @@ use Rattle.std.proofs.Common.{◌∙◌, ◌<◌, ◌++◌, true, ap, arith, len
 use Rattle.ink_stack.proofs.Common.{with_fresh, frame_with, framed}
 use Rattle.ink_stack.proofs.Flat.{header_changed}
 use Rattle.ink_stack.proofs.Sharing.{inside_all, own_got, own_inside, own_set}
+use Rattle.ink_stack.proofs.Bounding.{within_put}
 use Rattle.ink_stack.proofs.frames.Frames.freshen.Goals as goal
 
 pub index_mut-requires : goal.index_mut-requires
@@ -26,3 +27,7 @@ returns-clause-items g c = λ d.
     rw (← c.self.view_is)
     (ap (λ gs. framed gs ts) (own_set ls own hs i k (record e { fresh = true }) all at)
     ∙ header_changed (with_fresh true) hs ts i (record e { fresh = true }) e d inside (λ rows. ap (λ h. with_fresh true (frame_with h rows)) was))
+
+pub invariant_of-self : goal.invariant_of-self
+invariant_of-self g c =
+    within_put c.own_index-own.new.lowest c.own_index-own.new.headers.items (c.self.inside.lowest ++ c.self.inside.headers.items) c.own_index-own.result _ _ _ _ c.own_index-own.ensures.all c.own_index-own.ensures.room c.self.invariant

@@ -1,6 +1,8 @@
-use Rattle.std.proofs.Common.{rules, ◌≡◌, ◌≤◌, ◌+◌, ◌++◌, arith, true, false, vec_capacity, ap}
+use Rattle.std.proofs.Common.{rules, ◌≡◌, ◌≤◌, ◌+◌, ◌++◌, arith, true, false, vec_capacity, ap, refl}
 use Rattle.std.proofs.lemmas.List.{length-append}
 use Rattle.ink_stack.specs.Frames.{is_bare}
+use Rattle.std.proofs.Math.Nat.{le_refl}
+use Rattle.ink_stack.proofs.Bounding.{below_all, within_more}
 use Rattle.ink_stack.proofs.Flat.{fits_bare, fits_more}
 use Rattle.ink_stack.proofs.Sharing.{all_counted}
 use Rattle.ink_stack.proofs.frames.Frames.make_room.Goals as goal
@@ -36,3 +38,32 @@ returns-else-not-is_bare-clause-ok g c =
     rw (← c.self.view_is)
     (fits_bare _ (ls ++ own) ts c.args.frame.now none (omega (arith, length-append ls own, c.len.ensures, c.in_ok-reserve.ensures.ok, c.in_ok-reserve.ensures.len, c.self.inside.headers.ok.0))
     (omega (arith, c.self.inside.temps.ok.0, c.self.inside.temps.ok.1)))
+
+pub invariant_of-self : goal.invariant_of-self
+invariant_of-self g c = within_more c.self.inside.lowest c.self.inside.headers.items _ _ _ _ _ c.reserve.ensures.items refl c.reserve.ensures.capacity c.self.invariant
+
+pub invariant_of-self-in-Continue-branch-2 : goal.invariant_of-self-in-Continue-branch-2
+invariant_of-self-in-Continue-branch-2 g c =
+    within_more c.self.inside.lowest c.self.inside.headers.items _ _ _ _ _ c.reserve.ensures.items c.reserve-then-not-is_bare.ensures.items c.reserve.ensures.capacity c.self.invariant
+
+pub invariant_of-self-in_err-reserve-2 : goal.invariant_of-self-in_err-reserve-2
+invariant_of-self-in_err-reserve-2 g c =
+    within_more c.self.inside.lowest c.self.inside.headers.items _ _ _ _ _ c.reserve.ensures.items c.reserve-then-not-is_bare.ensures.items c.reserve.ensures.capacity c.self.invariant
+
+pub invariant_of-self-else-not-is_bare : goal.invariant_of-self-else-not-is_bare
+invariant_of-self-else-not-is_bare g c = within_more c.self.inside.lowest c.self.inside.headers.items _ _ _ _ _ c.reserve.ensures.items refl c.reserve.ensures.capacity c.self.invariant
+
+pub overflow_add-len : goal.overflow_add-len
+overflow_add-len g c = omega (arith, below_all c.self.inside.lowest c.self.inside.headers.items _ _ c.len.ensures c.self.invariant.1, c.self.inside.headers.small)
+
+pub returns-in_err-reserve-clause-more : goal.returns-in_err-reserve-clause-more
+returns-in_err-reserve-clause-more g c = rw (← c.self.view_is) (record { frames = c.reserve.ensures.capacity; temps = le_refl (vec_capacity c.self.inside.temps) })
+
+pub returns-in_err-reserve-2-clause-more : goal.returns-in_err-reserve-2-clause-more
+returns-in_err-reserve-2-clause-more g c = rw (← c.self.view_is) (record { frames = c.reserve.ensures.capacity; temps = c.reserve-then-not-is_bare.ensures.capacity })
+
+pub returns-in_ok-reserve-2-clause-more : goal.returns-in_ok-reserve-2-clause-more
+returns-in_ok-reserve-2-clause-more g c = rw (← c.self.view_is) (record { frames = c.reserve.ensures.capacity; temps = c.reserve-then-not-is_bare.ensures.capacity })
+
+pub returns-else-not-is_bare-clause-more : goal.returns-else-not-is_bare-clause-more
+returns-else-not-is_bare-clause-more g c = rw (← c.self.view_is) (record { frames = c.reserve.ensures.capacity; temps = le_refl (vec_capacity c.self.inside.temps) })

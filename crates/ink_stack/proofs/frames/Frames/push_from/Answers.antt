@@ -1,7 +1,7 @@
-use Rattle.std.proofs.Common.{◌≡◌, ◌+◌, ◌∙◌, ◌++◌, [], ◌∷◌, ap, arith, length, reverse, subst, sym}
-use Rattle.ink_stack.proofs.Common.{length-append, frame_with, framed}
+use Rattle.std.proofs.Common.{◌≡◌, ◌+◌, ◌<◌, ◌∙◌, ◌++◌, [], ◌∷◌, ap, arith, length, reverse, subst, sym}
+use Rattle.ink_stack.proofs.Common.{length-append, FrameOf, frame_with, framed}
 use Rattle.ink_stack.specs.Frames.{FitsIn}
-use Rattle.ink_stack.proofs.Flat.{bare_none, framed_bare, framed_put, room_more, put_within}
+use Rattle.ink_stack.proofs.Flat.{bare_none, framed_bare, framed_put, bare_same, room_more, room_temps, put_within}
 use Rattle.ink_stack.proofs.Sharing.{all_counted, own_more}
 use Rattle.ink_stack.proofs.frames.Frames.push_from.Goals as goal
 
@@ -77,3 +77,14 @@ returns-clause-items g c =
     (ap (λ xs. framed xs c.put_last.new.temps.items) (own_more ls own c.push_reserved-2.new.self.items header c.push_reserved-2.ensures.items) ∙ ap (λ ys. framed (hs ++ header ∷ []) ys) c.put_last.ensures.items
     ∙ framed_put hs ts c.len-index.result header rows index (omega (arith, c.self.invariant.0, index))
     ∙ ap (λ f. framed hs ts ++ f ∷ []) c.frame.view_is)
+
+pub put_last-requires-clause-room : goal.put_last-requires-clause-room
+put_last-requires-clause-room g c =
+    subst (λ r. c.len-index.result < r.temps) (sym (ap (λ v. v.room) c.self.view_is))
+    (room_temps _ c.args.self.now.items c.args.frame.now _ (sym c.is_bare.ensures ∙ c.if-is_bare.false) c.requires c.len-index.ensures)
+
+pub returns-then-is_bare-clause-frame : goal.returns-then-is_bare-clause-frame
+returns-then-is_bare-clause-frame g c = bare_same c.args.frame.now (sym c.is_bare.ensures ∙ c.if-is_bare.true)
+
+pub returns-clause-frame : goal.returns-clause-frame
+returns-clause-frame g c = ap (λ rows. frame_with c.frame.inside.header rows) c.put_last.ensures.own ∙ ap (λ (f : FrameOf g.row.P.Denot). record f { temps = [] }) c.frame.view_is
