@@ -6,6 +6,7 @@ pub mod Leading
 pub mod Gathering
 pub mod Limits
 pub mod Numbering
+pub mod Walking
 pub mod Joining
 pub mod Gathers
 pub mod Asking

@@ -1,35 +1,19 @@
 -- Rows by number, and what is made of rows by place.
-use Rattle.std.proofs.Common.{◌≡◌, ◌∙◌, ◌⊎◌, inl, inr, sym, ap, refl, subst, ℕ, suc, ◌+◌, ◌<◌, ◌≤◌, length, List, [], ◌∷◌, ◌++◌, drop, get_or, reverse, Bool, true, ◌||◌, if◌then◌else◌, Option, Some, None, is_some, option_map, is_lt, arith}
+use Rattle.std.proofs.Common.{◌≡◌, ◌∙◌, ◌⊎◌, inl, inr, sym, ap, refl, subst, ℕ, suc, ◌+◌, ◌<◌, ◌≤◌, length, List, [], ◌∷◌, ◌++◌, drop, get_or, Bool, true, Option, Some, None, is_lt, arith}
 use Rattle.std.proofs.lemmas.List.{append_assoc, append-nil, drop_all, drop_more, map-append}
 use Rattle.std.specs.Cmp.{nat_cmp_is, ranked}
-use Rattle.ink_restore.proofs.Common.{AllByRecursion, MAX_COUNT, Part, Spot}
+use Rattle.ink_restore.proofs.Common.{AllByRecursion, MAX_COUNT, Part}
 use Rattle.std.specs.Ordering.{nat_cmp}
 use Rattle.std.specs.declared.cmp.Ordering.{Ordering}
 use Rattle.std.specs.declared.cmp.Ordering.TheVariants.{Less, Equal, Greater}
 use Rattle.ink_model.specs.Story.Places.{places}
 use Rattle.ink_model.specs.Variables.Rows.{is_before, place_order, rows_rise}
 use Rattle.ink_model.specs.Save.Sound.{RowCounts, RowsCount}
-use Rattle.ink_model.specs.Story.Path.{ends_at, is_place}
-use Rattle.ink_model.specs.Story.Tree.{StoryTree, at}
+use Rattle.ink_model.specs.Story.Tree.{StoryTree}
 use Rattle.ink_restore.specs.Counted.{AreBelow, place_at, row_at, rows_at}
 use Rattle.ink_restore.proofs.Standing.{both}
-use Rattle.ink_tree.specs.Nodes.{NumbersInOrder, place_of}
+use Rattle.ink_tree.specs.Nodes.{NumbersInOrder}
 use Rattle.ink_vars.specs.Slots.{AreCounts, rows_from}
-
--- ---- what stands at a place
-
-stands : (s : StoryTree) (p : List Part) (t : StoryTree) → at s p ≡ Some t → is_place s p ≡ true
-unfolding is_place
-stands s p t e = ap (λ o. is_some o || ends_at s (reverse p)) e
-
-pub nothing_there : (s : StoryTree) (p : List Part) (r : Option Spot) → r ≡ None → option_map (place_of s) r ≡ (if is_place s p then Some p else None) → at s p ≡ None
-nothing_there s p r none is = by (at s p) refl
-  where
-    by : (o : Option StoryTree) → at s p ≡ o → at s p ≡ None
-    by None e = e
-    by (Some t) e =
-        let never : Some p ≡ None = sym (ap (λ b. if b then Some p else None) (stands s p t e)) ∙ sym is ∙ ap (option_map (place_of s)) none in
-        absurd cc
 
 -- ---- one slot more
 

@@ -1,6 +1,7 @@
 //! Visits and turns that a save spells, in a story.
 
 ghost use Rattle.std.specs.Prelude.{◌≡◌, ◌≤◌, ◌<◌, ◌+◌, ◌++◌, ◌∷◌, [], IfOk, IfSome, OnErr, OnOk, length, nat_le, true};
+ghost use Rattle.ink_json.specs.Order.{key_part};
 ghost use Rattle.ink_model.specs.Run.Entered.{flags_at};
 ghost use Rattle.ink_model.specs.Story.Places.{places};
 ghost use Rattle.ink_model.specs.Save.Sound.{CountsFit, RowCounts, RowsCount};
@@ -9,10 +10,13 @@ ghost use Rattle.ink_model.specs.declared.limits.TheConstants.{MAX_COUNT};
 ghost use Rattle.ink_restore.specs.Asks.{CountsAsk};
 ghost use Rattle.ink_restore.specs.Building.{Builds, FirstAsks};
 ghost use Rattle.ink_restore.specs.Counted.{AreBelow, AreOwn, counts_at, flag_of, least_of, place_at, row_at, rows_at};
+ghost use Rattle.ink_spelling.specs.Readings.{part_as};
 ghost use Rattle.ink_tree.specs.Nodes.{Finds, NumbersInOrder, story_tree};
 ghost use Rattle.ink_vars.specs.Slots.{AreCounts, rows_from};
 
-use ink_model::{MAX_COUNT, Part, Seq, flags};
+use ink_json::Key;
+use ink_model::{MAX_COUNT, flags};
+use ink_spelling::{SavedPart, SavedPlace};
 use ink_tree::{NodeId, Tree};
 use ink_vars::Counts;
 use std::alloc::{AllocError, Global};
@@ -30,8 +34,8 @@ pub enum Counted {
 pub fn build_counts(
     alloc: Global,
     tree: &Tree,
-    visits: &[(Seq<Part>, u64)],
-    turns: &[(Seq<Part>, u64)],
+    visits: &[(SavedPlace<'_>, u64)],
+    turns: &[(SavedPlace<'_>, u64)],
 ) -> Result<Option<Counts>, AllocError>
     ensures builds { let s = story_tree tree.now in
         IfOk result (λ made. Builds (λ v. counts_at s v.rows) (CountsFit s) (record { visits = visits.now; turns = turns.now }) made) }
@@ -53,7 +57,7 @@ fn build_rows(
     alloc: Global,
     tree: &Tree,
     what: Counted,
-    rows: &[(Seq<Part>, u64)],
+    rows: &[(SavedPlace<'_>, u64)],
 ) -> Result<Option<Vec<Option<u32>>>, AllocError>
     ensures rows { let s = story_tree tree.now in
         IfOk result (λ made. Builds (λ v. rows_at s (rows_from 0 v.items)) (RowsCount s (flag_of what) (least_of what)) rows.now made) }
@@ -75,18 +79,18 @@ fn build_rows(
 }
 
 // The number and the count of a row.
-fn build_row(tree: &Tree, what: Counted, row: &(Seq<Part>, u64)) -> Option<(usize, u32)>
+fn build_row(tree: &Tree, what: Counted, row: &(SavedPlace<'_>, u64)) -> Option<(usize, u32)>
     ensures row { let s = story_tree tree.now in Builds (row_at s) (RowCounts s (flag_of what) (least_of what)) row.now result }
     ensures number { let s = story_tree tree.now in IfSome result (λ r. r.0 < length (places s)) }
     ensures order { IfSome result (λ r. NumbersInOrder (story_tree tree.now)) }
 {
-    let number = flagged(tree, what, row.0.as_slice())?;
+    let number = flagged(tree, what, &row.0)?;
     let count = bounded(what, row.1)?;
     Some((number, count))
 }
 
 // The number of the container at a place, if it has such a count.
-fn flagged(tree: &Tree, what: Counted, place: &[Part]) -> Option<usize>
+fn flagged(tree: &Tree, what: Counted, place: &SavedPlace<'_>) -> Option<usize>
     ensures number { let s = story_tree tree.now in Builds (place_at s) (λ p. flag_of what (flags_at (at s p)) ≡ true) place.now result }
     ensures own { IfSome result (λ n. n < length (places (story_tree tree.now))) }
     ensures order { IfSome result (λ n. NumbersInOrder (story_tree tree.now)) }
@@ -101,13 +105,25 @@ fn flagged(tree: &Tree, what: Counted, place: &[Part]) -> Option<usize>
 }
 
 // The content at a place.
-#[tactic(auto, using(crate::proofs::Numbering::nothing_there))]
-fn node_at(tree: &Tree, place: &[Part]) -> Option<NodeId>
+fn node_at(tree: &Tree, place: &SavedPlace<'_>) -> Option<NodeId>
     ensures { Finds (story_tree tree.now) place.now result }
 {
-    match tree.spot(place) {
-        Some(spot) => tree.node(spot),
-        None => None,
+    let all = place.parts();
+    let mut here = NodeId::ROOT;
+    for part in all {
+        here = tree.child(here, key_of(part))?;
+    }
+    Some(here)
+}
+
+// The key that a part is.
+#[inline(always)]
+fn key_of<'j>(part: &SavedPart<'j>) -> Key<'j>
+    ensures { key_part result ≡ part_as part.now }
+{
+    match *part {
+        SavedPart::Index(index) => Key::Index(index),
+        SavedPart::Name(name) => Key::Name(name),
     }
 }
 

@@ -49,7 +49,7 @@ pub struct Restored {
 pub fn restore(
     alloc: Global,
     tree: &Tree,
-    saved: &SavedLayout,
+    saved: &SavedLayout<'_>,
 ) -> Result<Option<Restored>, AllocError>
     requires { Rest (layout_as saved.now) }
     ensures restores { IfOk result (λ made. Restores (story_tree tree.now) (game_of (layout_as saved.now)) made) }
@@ -63,7 +63,11 @@ pub fn restore(
 }
 
 // What a save of layout 1 spells: one flow. The one error is a refused request for memory, which is made once the flow asks.
-fn restore_alone(alloc: Global, tree: &Tree, saved: &Saved) -> Result<Option<Restored>, AllocError>
+fn restore_alone(
+    alloc: Global,
+    tree: &Tree,
+    saved: &Saved<'_>,
+) -> Result<Option<Restored>, AllocError>
     requires { Rests saved.now }
     ensures builds { let s = story_tree tree.now in IfOk result (λ made. Builds (restored_as s) (Stands s) (alone saved.now) made) }
     ensures own { IfOk result (λ made. IfSome made (λ r. AreOwn (story_tree tree.now) r.shared.counts.rows)) }
@@ -88,7 +92,7 @@ fn restore_alone(alloc: Global, tree: &Tree, saved: &Saved) -> Result<Option<Res
 fn restore_game(
     alloc: Global,
     tree: &Tree,
-    saved: &SavedGame,
+    saved: &SavedGame<'_>,
 ) -> Result<Option<Restored>, AllocError>
     requires { AllByRecursion (λ r. unnumbered_flow r.1 ≡ r.1) saved.now.flows }
     ensures restores { IfOk result (λ made. Restores (story_tree tree.now) (game_spelled saved.now) made) }
@@ -120,7 +124,7 @@ struct AllFlows {
 fn restore_flows(
     alloc: Global,
     tree: &Tree,
-    saved: &SavedGame,
+    saved: &SavedGame<'_>,
 ) -> Result<Option<AllFlows>, AllocError>
     requires { AllByRecursion (λ r. unnumbered_flow r.1 ≡ r.1) saved.now.flows }
     ensures builds { let s = story_tree tree.now in
@@ -170,7 +174,7 @@ fn with_aside(alloc: Global, gathered: Gathered) -> Option<AllFlows>
 fn restore_shared(
     alloc: Global,
     tree: &Tree,
-    saved: &SavedShared,
+    saved: &SavedShared<'_>,
 ) -> Result<Option<SharedParts>, AllocError>
     ensures builds { let s = story_tree tree.now in IfOk result (λ made. Builds (shared_as s) (SharedSound s) saved.now made) }
     ensures own { IfOk result (λ made. IfSome made (λ v. AreOwn (story_tree tree.now) v.counts.rows)) }

@@ -19,7 +19,7 @@ use ink_restore::{Restored, SharedParts, restore};
 use ink_spelling::{SavedLayout, read_saved};
 use ink_step::{Fields, Machine, Shared};
 use ink_tree::Tree;
-use json_tape::Json;
+use json_tape::Lent;
 use std::alloc::{AllocError, Global};
 
 /// Why a JSON value was not read as a machine.
@@ -31,7 +31,7 @@ pub enum SaveRefusal {
 
 /// The machine that a JSON value spells. Refused with `BadSave` where it spells none that fits the story, and with `OutOfMemory`
 /// where memory was refused, which is asked for only where something of the value is kept. No mark stands in the machine.
-pub fn read<J: Json>(alloc: Global, story: &Story, json: J) -> Result<Machine, SaveRefusal>
+pub fn read<'j, J: Lent<'j>>(alloc: Global, story: &Story, json: J) -> Result<Machine, SaveRefusal>
     ensures reads { ReadsAs (story_tree story.now) (J.spells json) result }
     ensures mark { IfOk result (λ m. stood_of m ≡ unmarked) }
 {
@@ -46,7 +46,11 @@ pub fn read<J: Json>(alloc: Global, story: &Story, json: J) -> Result<Machine, S
 
 // The machine that a JSON value spells, if it spells one that fits the story. The one error is a refused request for memory,
 // which only a value makes of which something is kept.
-fn read_machine<J: Json>(alloc: Global, tree: &Tree, json: J) -> Result<Option<Machine>, AllocError>
+fn read_machine<'j, J: Lent<'j>>(
+    alloc: Global,
+    tree: &Tree,
+    json: J,
+) -> Result<Option<Machine>, AllocError>
     ensures made { IfOk result (λ made. Finds (nodes.story_tree tree.now) (save.unspelled (J.spells json)) made) }
     ensures mark { IfOk result (λ made. IfSome made (λ m. stood_of m ≡ unmarked)) }
     ensures memory { OnErr result (load_asks (J.spells json) ≡ true) }
@@ -61,7 +65,7 @@ fn read_machine<J: Json>(alloc: Global, tree: &Tree, json: J) -> Result<Option<M
 fn build_machine(
     alloc: Global,
     tree: &Tree,
-    saved: &SavedLayout,
+    saved: &SavedLayout<'_>,
 ) -> Result<Option<Machine>, AllocError>
     requires { Rest (layout_as saved.now) }
     ensures made { IfOk result (λ made. Finds (nodes.story_tree tree.now) (save.game_of (layout_as saved.now)) made) }

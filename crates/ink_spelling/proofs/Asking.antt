@@ -7,8 +7,8 @@ use Rattle.ink_model.specs.Flow.Frames.{ThreadOf, ThreadsOf}
 use Rattle.ink_model.specs.declared.place.Part.{Part}
 use Rattle.ink_model.specs.declared.value.Value.{Value as Spelled}
 use Rattle.ink_model.specs.Save.Asks.{both_ask, choice_asks, counts_ask, items_ask, list_asks, load_asks, members_ask, none_asks, pair_asks, rows_ask, spelled_asks, take_asks, text_asks, thread_asks, threads_ask, turn_asks, value_asks}
-use Rattle.ink_spelling.proofs.Lists.{member_is}
-use Rattle.json_tape.specs.Shape.{first_member}
+use Rattle.ink_spelling.proofs.Lists.{first_is, member_is}
+use Rattle.json_tape.specs.Shape.{first_item, first_member}
 use Rattle.ink_spelling.specs.Readings.{two_ask, two_in}
 use Rattle.ink_model.specs.Save.Unspelled.{Layout, First, Second, Spelled as Game, all_of, choice_of, count_of, format_of, from_threads, from_turn, layout_of, list_of, next_named, pair_of, place_of, spelled_by, take, text_of, thread_in, threads_with, truth_of, unspelled_by, value_of}
 
@@ -21,6 +21,12 @@ or_true false = refl
 -- these are all elements, or memory was asked for
 abbrev pub ItemsAsked : {A : Type 0} → (Data → Option A) → (Data → Bool) → Items → Items → Type 0
 ItemsAsked f asks all left = (left ≡ all) ⊎ (items_ask f asks all ≡ true)
+
+-- an element is kept
+pub item_kept : {A : Type 0} (f : Data → Option A) (asks : Data → Bool) (all left : Items) (d : Data) (ds : Items) (x : A) → Some (d, ds) ≡ first_item left → Some x ≡ f d
+    → ItemsAsked f asks all left → items_ask f asks all ≡ true
+item_kept f asks all left d ds x h e (inl same) = subst (λ js. items_ask f asks js ≡ true) (sym (first_is left d ds h) ∙ same) (rw (sym e) (or_true (asks d)))
+item_kept f asks all left d ds x h e (inr asked) = asked
 
 -- ---- pairs
 

@@ -6,11 +6,19 @@ use Rattle.ink_model.specs.Run.Configuration.{ChoiceOf, FlowOf}
 use Rattle.ink_model.specs.Variables.Named.{Rows}
 use Rattle.ink_model.specs.Story.Path.{path_text, read_path}
 use Rattle.ink_model.specs.declared.place.Part.{Part}
+use Rattle.ink_model.specs.declared.place.Part.TheVariants as place
 use Rattle.ink_model.specs.declared.place.Path.{Path}
 use Rattle.ink_model.specs.declared.value.Value.{Value}
 use Rattle.ink_model.specs.declared.value.Value.TheVariants as value
+use Rattle.ink_spelling.specs.declared.rows.SavedPart.{SavedPart}
+use Rattle.ink_spelling.specs.declared.rows.SavedPart.TheVariants as saved
 use Rattle.ink_model.specs.Save.Asks.{both_ask, choice_asks, list_asks, none_asks, take_asks, text_asks, thread_asks, value_asks}
 use Rattle.ink_model.specs.Save.Unspelled.{Spelled, choice_of, closed, count_of, format_of, list_of, named_flow_of, pair_of, path_if, place_of, pointer_in, tag_in, take, target_in, text_of, thread_in, threads_with, truth_of, value_of}
+
+-- a part of a place
+abbrev pub part_as : SavedPart → Part
+part_as (saved.Index i) = place.Index i
+part_as (saved.Name n) = place.Name n.now
 
 -- the value that members spell
 abbrev pub value_by : Members → Option Value

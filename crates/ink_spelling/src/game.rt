@@ -8,22 +8,23 @@ ghost use Rattle.ink_spelling.specs.Readings.{spelled_from_flows, spelled_from_g
 use crate::flow::NamedFlow;
 use crate::members::{alone, next_named, next_spelled};
 use crate::plain::is_layout;
+use crate::rows::next_rows;
 use crate::saved::SavedShared;
 use crate::value::SavedValue;
-use ink_model::{Part, Seq, Text};
-use json_tape::Json;
+use ink_model::{Seq, Text};
+use json_tape::Lent;
 use std::alloc::{AllocError, Global};
 use std::marker::Model;
 
 /// All flows, the current one's name, and what they share, as they are spelled. A contract sees them.
 #[derive(Drop)]
-pub struct SavedGame {
+pub struct SavedGame<'j> {
     pub current: Text,
     pub flows: Seq<NamedFlow>,
-    pub shared: SavedShared,
+    pub shared: SavedShared<'j>,
 }
 
-impl Model for SavedGame {
+impl<'j> Model for SavedGame<'j> {
     ghost use Rattle.ink_model.specs.Save.Unspelled as rules;
 
     ghost Value = { rules.Spelled };
@@ -33,10 +34,10 @@ impl Model for SavedGame {
 
 /// What members spell in layout 2. The one error is a refused request for memory, which is asked for from the current flow's
 /// name on.
-pub(crate) fn read_game<J: Json>(
+pub(crate) fn read_game<'j, J: Lent<'j>>(
     alloc: Global,
     members: J::Members,
-) -> Result<Option<SavedGame>, AllocError>
+) -> Result<Option<SavedGame<'j>>, AllocError>
     ensures game { IfOk result (λ game. game ≡ spelled_by (J.members members)) }
     ensures memory { OnErr result (spelled_asks (J.members members) ≡ true) }
 {
@@ -48,11 +49,11 @@ pub(crate) fn read_game<J: Json>(
 }
 
 // The same from the flows on.
-fn read_flows<J: Json>(
+fn read_flows<'j, J: Lent<'j>>(
     alloc: Global,
     rest: &mut J::Members,
     current: Text,
-) -> Result<Option<SavedGame>, AllocError>
+) -> Result<Option<SavedGame<'j>>, AllocError>
     ensures { IfOk result (λ game. game ≡ spelled_from_flows current (J.members rest.old)) }
 {
     let Some(flows) = next_spelled::<J, Seq<NamedFlow>>(alloc, rest, "flows")? else {
@@ -68,12 +69,12 @@ fn read_flows<J: Json>(
 }
 
 // The same from the globals on.
-fn read_globals<J: Json>(
+fn read_globals<'j, J: Lent<'j>>(
     alloc: Global,
     rest: &mut J::Members,
     current: Text,
     flows: Seq<NamedFlow>,
-) -> Result<Option<SavedGame>, AllocError>
+) -> Result<Option<SavedGame<'j>>, AllocError>
     ensures { IfOk result (λ game. game ≡ spelled_from_globals current flows (J.members rest.old)) }
 {
     let Some(globals) = next_spelled::<J, Seq<(Text, SavedValue)>>(alloc, rest, "globals")? else {
@@ -82,10 +83,10 @@ fn read_globals<J: Json>(
     let Some(turn) = next_spelled::<J, u64>(alloc, rest, "turn")? else {
         return Ok(None);
     };
-    let Some(turns) = next_spelled::<J, Seq<(Seq<Part>, u64)>>(alloc, rest, "turns")? else {
+    let Some(turns) = next_rows::<J>(alloc, rest, "turns")? else {
         return Ok(None);
     };
-    let Some(visits) = next_spelled::<J, Seq<(Seq<Part>, u64)>>(alloc, rest, "visits")? else {
+    let Some(visits) = next_rows::<J>(alloc, rest, "visits")? else {
         return Ok(None);
     };
     let shared = SavedShared {

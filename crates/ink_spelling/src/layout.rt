@@ -7,17 +7,17 @@ ghost use Rattle.ink_spelling.specs.Layouts.{Rest, layout_as};
 
 use crate::game::{SavedGame, read_game};
 use crate::saved::{Saved, read_alone};
-use json_tape::{Json, Kind};
+use json_tape::{Kind, Lent};
 use std::alloc::{AllocError, Global};
 
 /// What a save spells: in layout 1, which knew no flows, a configuration; in layout 2 all flows.
-pub enum SavedLayout {
-    First(Saved),
-    Second(SavedGame),
+pub enum SavedLayout<'j> {
+    First(Saved<'j>),
+    Second(SavedGame<'j>),
 }
 
 /// Written out, so that where a save is let go that is one call, and a proof there does not go through what it spells.
-impl Drop for SavedLayout {
+impl Drop for SavedLayout<'_> {
     fn drop(self) {
         match self {
             SavedLayout::First(_) => {}
@@ -28,7 +28,10 @@ impl Drop for SavedLayout {
 
 /// What a JSON value spells in either layout, if it spells something. No frame in it has the number of an Enter. The one error is
 /// a refused request for memory, which is asked for only where something of the value is kept.
-pub fn read_saved<J: Json>(alloc: Global, json: J) -> Result<Option<SavedLayout>, AllocError>
+pub fn read_saved<'j, J: Lent<'j>>(
+    alloc: Global,
+    json: J,
+) -> Result<Option<SavedLayout<'j>>, AllocError>
     ensures saved { IfOk result (λ saved. option_map layout_as saved ≡ layout_of (J.spells json)) }
     ensures rests { IfOk result (λ saved. IfSome saved (λ layout. Rest (layout_as layout))) }
     ensures memory { OnErr result (load_asks (J.spells json) ≡ true) }
@@ -40,10 +43,10 @@ pub fn read_saved<J: Json>(alloc: Global, json: J) -> Result<Option<SavedLayout>
 }
 
 // What members spell. Layout 2 begins with another key than layout 1. The one error is a refused request for memory.
-fn read_members<J: Json>(
+fn read_members<'j, J: Lent<'j>>(
     alloc: Global,
     members: J::Members,
-) -> Result<Option<SavedLayout>, AllocError>
+) -> Result<Option<SavedLayout<'j>>, AllocError>
     ensures saved { IfOk result (λ saved. option_map layout_as saved ≡ layout_by (J.members members)) }
     ensures memory { let ms = J.members members in OnErr result ((spelled_asks ms || members_ask ms) ≡ true) }
 {

@@ -56,8 +56,8 @@ fn read_two<J: Json, A: Spelled + Drop, B: Spelled + Drop>(
     Ok(Some((first, second)))
 }
 
-// The elements, where there are two.
-fn two<J: Json>(items: J::Items) -> Option<(J, J)>
+/// The elements, where there are two.
+pub(crate) fn two<J: Json>(items: J::Items) -> Option<(J, J)>
     ensures { option_map (λ p. (J.spells p.0, J.spells p.1)) result ≡ two_in (J.elements items) }
 {
     let mut rest = items;

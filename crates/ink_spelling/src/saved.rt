@@ -8,24 +8,25 @@ use crate::choice::SavedChoice;
 use crate::flow::SavedFlow;
 use crate::members::{alone, next_named, next_spelled};
 use crate::plain::is_layout;
+use crate::rows::{SavedPlace, next_rows};
 use crate::spelled::Spelled;
 use crate::thread::{SavedThread, SavedThreads};
 use crate::value::SavedValue;
-use ink_model::{Part, Seq, Text};
-use json_tape::Json;
+use ink_model::{Seq, Text};
+use json_tape::Lent;
 use std::alloc::{AllocError, Global};
 use std::marker::Model;
 
 /// What all flows share, as it is spelled. A contract sees it.
 #[derive(Drop)]
-pub struct SavedShared {
+pub struct SavedShared<'j> {
     pub globals: Seq<(Text, SavedValue)>,
     pub turn: u64,
-    pub turns: Seq<(Seq<Part>, u64)>,
-    pub visits: Seq<(Seq<Part>, u64)>,
+    pub turns: Seq<(SavedPlace<'j>, u64)>,
+    pub visits: Seq<(SavedPlace<'j>, u64)>,
 }
 
-impl Model for SavedShared {
+impl<'j> Model for SavedShared<'j> {
     ghost use Rattle.std.specs.Prelude.{List};
     ghost use Rattle.ink_model.specs.Run.Configuration.{SharedOf};
     ghost use Rattle.ink_model.specs.declared.place.Part.{Part};
@@ -37,12 +38,12 @@ impl Model for SavedShared {
 
 /// A configuration as it is spelled. A contract sees the configuration, in which nothing is being written.
 #[derive(Drop)]
-pub struct Saved {
+pub struct Saved<'j> {
     pub flow: SavedFlow,
-    pub shared: SavedShared,
+    pub shared: SavedShared<'j>,
 }
 
-impl Model for Saved {
+impl<'j> Model for Saved<'j> {
     ghost use Rattle.ink_model.specs.Run.Configuration.{Configuration};
     ghost use Rattle.ink_model.specs.Text.Output.{empty_page};
 
@@ -53,10 +54,10 @@ impl Model for Saved {
 
 /// The configuration that members spell in layout 1. The one error is a refused request for memory, which is asked for only where
 /// something of them is kept.
-pub(crate) fn read_alone<J: Json>(
+pub(crate) fn read_alone<'j, J: Lent<'j>>(
     alloc: Global,
     members: J::Members,
-) -> Result<Option<Saved>, AllocError>
+) -> Result<Option<Saved<'j>>, AllocError>
     ensures saved { IfOk result (λ saved. saved ≡ unspelled_by (J.members members)) }
     ensures memory { OnErr result (members_ask (J.members members) ≡ true) }
 {
@@ -95,14 +96,14 @@ pub(crate) fn read_alone<J: Json>(
 }
 
 // The same from its threads on.
-fn read_threads<J: Json>(
+fn read_threads<'j, J: Lent<'j>>(
     alloc: Global,
     rest: &mut J::Members,
     choices: Seq<SavedChoice>,
     globals: Seq<(Text, SavedValue)>,
     safe: bool,
     stack: Seq<SavedValue>,
-) -> Result<Option<Saved>, AllocError>
+) -> Result<Option<Saved<'j>>, AllocError>
     ensures saved { IfOk result (λ saved. saved ≡ from_threads choices globals safe stack (J.members rest.old)) }
     ensures memory { OnErr result (threads_ask (J.members rest.old) ≡ true) }
 {
@@ -113,7 +114,7 @@ fn read_threads<J: Json>(
 }
 
 // The same from its turn number on.
-fn read_turn<J: Json>(
+fn read_turn<'j, J: Lent<'j>>(
     alloc: Global,
     rest: &mut J::Members,
     choices: Seq<SavedChoice>,
@@ -121,17 +122,17 @@ fn read_turn<J: Json>(
     safe: bool,
     stack: Seq<SavedValue>,
     threads: Seq<SavedThread>,
-) -> Result<Option<Saved>, AllocError>
+) -> Result<Option<Saved<'j>>, AllocError>
     ensures saved { IfOk result (λ saved. saved ≡ from_turn choices globals safe stack threads (J.members rest.old)) }
     ensures memory { OnErr result (turn_asks (J.members rest.old) ≡ true) }
 {
     let Some(turn) = next_spelled::<J, u64>(alloc, rest, "turn")? else {
         return Ok(None);
     };
-    let Some(turns) = next_spelled::<J, Seq<(Seq<Part>, u64)>>(alloc, rest, "turns")? else {
+    let Some(turns) = next_rows::<J>(alloc, rest, "turns")? else {
         return Ok(None);
     };
-    let Some(visits) = next_spelled::<J, Seq<(Seq<Part>, u64)>>(alloc, rest, "visits")? else {
+    let Some(visits) = next_rows::<J>(alloc, rest, "visits")? else {
         return Ok(None);
     };
     let Some(threads) = SavedThreads::of(threads) else {

@@ -132,8 +132,8 @@ impl Tree {
         Some(here)
     }
 
-    /// The node one part down; none where nothing stands there.
-    pub(crate) fn child(&self, holder: NodeId, key: Key<'_>) -> Option<NodeId>
+    /// The node one part down; none where nothing stands there. Takes no memory.
+    pub fn child(&self, holder: NodeId, key: Key<'_>) -> Option<NodeId>
         ensures { Finds (story_tree self.now) (node_place (story_tree self.now) holder ++ key_part key.entry ∷ []) result }
     {
         match key {

@@ -1,7 +1,9 @@
 -- The number that a single digit writes, and that which digits alone write.
-use Rattle.std.proofs.Common.{◌≡◌, ℕ, ◌-◌, ◌^◌, ◌<◌, ◌≤◌, ◌==◌, refl, ap, sym, subst, ◌∙◌, arith, true, false, List, [], ◌∷◌, ◌++◌, length, get_or, Some, nat_lt, append-nil}
+use Rattle.std.proofs.Common.{◌≡◌, ℕ, ◌+◌, ◌*◌, ◌-◌, ◌^◌, ◌<◌, ◌≤◌, ◌==◌, refl, ap, sym, subst, ◌∙◌, arith, true, false, List, [], ◌∷◌, ◌++◌, length, take, get_or, Some, nat_lt, append-nil}
 use Rattle.std.proofs.lemmas.Bool.{lt-ltb, ne_eqb}
-use Rattle.std.proofs.lemmas.Str.Parse.{digit_from_value}
+use Rattle.std.proofs.lemmas.Int.Digits.{digits_more, digits_value_more}
+use Rattle.std.proofs.lemmas.List.{length-take-le, take_all}
+use Rattle.std.proofs.lemmas.Str.Parse.{digit_from_value, digits_value_short, numerals_by_value, tells_digits}
 use Rattle.std.proofs.lemmas.Str.{digit_value_digit}
 use Rattle.std.specs.Str.Parse.{AllDigits, IsNumeral, digits_value, without_leading_plus}
 use Rattle.fast_float.specs.Text.{Parts, IsWellFormed, scan}
@@ -50,3 +52,27 @@ natural_alone ds digit n h e =
     let same : without_leading_plus ds ≡ ds = rw plus refl in
     let p : IsNumeral 10 ds × (digits_value 10 ds < 2 ^ 64) = subst (λ xs. IsNumeral 10 xs × (digits_value 10 xs < 2 ^ 64)) same h in
     natural_number ds p.0 p.1 ∙ ap (λ xs. Some (unsigned (digits_value 10 xs))) (sym same) ∙ ap (λ n. Some (unsigned n)) (sym e)
+
+-- ---- a few digits, one by one
+
+few : (ds : List ℕ) → AllDigits 10 ds → length ds ≤ 9 → digits_value 10 ds < 10 ^ 9
+few ds all short = digits_value_short (numerals_by_value (AllDigits 10) tells_digits) ds 9 all short
+
+-- what the first of nine digits at most write is small
+pub few_before : (ds : List ℕ) (at : ℕ) → at < length ds → length ds ≤ 9 → AllDigits 10 (take at ds) → digits_value 10 (take at ds) < 10 ^ 9
+few_before ds at lt short all = few (take at ds) all (omega (arith, length-take-le at ds (omega (arith, lt)), lt, short))
+
+-- one more is read
+pub few_more : (ds : List ℕ) (at value : ℕ) → at < length ds → 48 ≤ get_or ds at 0 → get_or ds at 0 ≤ 57 → AllDigits 10 (take at ds) → value ≡ digits_value 10 (take at ds)
+    → AllDigits 10 (take (at + 1) ds) × (value * 10 + (get_or ds at 0 - 48) ≡ digits_value 10 (take (at + 1) ds))
+few_more ds at value lt low high all is =
+    let digit = digit_value_digit (get_or ds at 0) (low, high) in
+    (digits_more 10 ds at lt all (omega (arith, digit, high)), omega (arith, digits_value_more 10 ds at lt, is, digit))
+
+-- all are read
+pub few_done : (ds : List ℕ) (at value : ℕ) → 0 < length ds → length ds ≤ 9 → length ds ≤ at → AllDigits 10 (take at ds) → value ≡ digits_value 10 (take at ds)
+    → number_of ds ≡ Some (unsigned value)
+few_done ds at value some short le all is =
+    let whole : take at ds ≡ ds = take_all at ds le in
+    let digits : AllDigits 10 ds = subst (AllDigits 10) whole all in
+    natural_number ds (some, digits) (omega (arith, few ds digits short)) ∙ ap (λ n. Some (unsigned n)) (sym (is ∙ ap (digits_value 10) whole))

@@ -12,5 +12,5 @@ pub mod value;
 pub use marks::Marks;
 pub use number::Number;
 pub use ordered::{Ordered, OrderedItems, OrderedMembers};
-pub use shape::{Json, Kind};
+pub use shape::{Json, Kind, Lent};
 pub use tape::{Parsed, Tape};

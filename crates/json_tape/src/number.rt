@@ -8,6 +8,9 @@ ghost use Rattle.json_tape.specs.Number.{num};
 
 use fast_float::{Numeral, parse_u64};
 
+/// A number of so many digits at most is read digit by digit.
+const FEW: usize = 9;
+
 /// A number, as `parse` gives it: an integer that fits 64 bits, below nothing where it is `Negative`, or a float, which is finite.
 #[derive(Clone, Copy)]
 pub enum Number {
@@ -33,7 +36,11 @@ impl Number {
     fn parse_long(text: &str) -> Option<Number>
         ensures { option_map num result ≡ number_of text.now }
     {
-        match natural(text.as_bytes()) {
+        let bytes = text.as_bytes();
+        if let Some(natural) = few_digits(bytes) {
+            return Some(Number::Unsigned(natural));
+        }
+        match natural(bytes) {
             Some(natural) => Some(Number::Unsigned(natural)),
             None => Number::parse_any(text),
         }
@@ -118,6 +125,26 @@ fn digit(bytes: &[u8]) -> Option<u64>
         return None;
     }
     Some((digit - b'0') as u64)
+}
+
+/// The number that a few digits alone are.
+#[inline(always)]
+fn few_digits(bytes: &[u8]) -> Option<u64>
+    ensures { IfSome result (λ n. number_of bytes.now ≡ Some (unsigned n)) }
+{
+    let len = bytes.len();
+    if len == 0 || len > FEW {
+        return None;
+    }
+    let mut value: u64 = 0;
+    for at in 0..len {
+        let byte = bytes[at];
+        if byte < b'0' || byte > b'9' {
+            return None;
+        }
+        value = value * 10 + (byte - b'0') as u64;
+    }
+    Some(value)
 }
 
 /// The number that digits alone are, where it fits 64 bits.

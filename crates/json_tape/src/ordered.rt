@@ -7,7 +7,7 @@ ghost use Rattle.json_tape.specs.Rise.{begins_ordered, objects_rise};
 ghost use Rattle.json_tape.specs.Spelled.{is_readable};
 
 use crate::element;
-use crate::shape::{Json, Kind};
+use crate::shape::{Json, Kind, Lent};
 use crate::value::Value;
 
 /// A value in which the names of each object rise, so that its members stand in the order of their names, each once.
@@ -137,5 +137,12 @@ impl<'t, 'a> Json for Ordered<'t, 'a> {
         OrderedMembers {
             rest: left.rest.again(),
         }
+    }
+}
+
+impl<'t, 'a> Lent<'a> for Ordered<'t, 'a> {
+    #[inline(always)]
+    fn text(&self) -> Option<&'a str> {
+        self.value.as_str()
     }
 }

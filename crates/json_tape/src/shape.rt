@@ -3,6 +3,7 @@
 ghost use Rattle.std.specs.Prelude.{◌≡◌, ℕ, List, Some, option_map};
 ghost use Rattle.std.specs.Slice.Iter.{iter_rest};
 ghost use Rattle.serde_json.specs.Data.{Data, Items, Members};
+ghost use Rattle.serde_json.specs.Find.{as_str};
 ghost use Rattle.serde_json.specs.View.{items_view, members_view, number_view, view};
 ghost use Rattle.json_tape.specs.Shape.{IsKind, first_item, first_member};
 ghost use Rattle.json_tape.specs.Number.{num};
@@ -63,6 +64,13 @@ pub trait Json: Sized + Drop {
         ensures { members result ≡ members left.now };
 }
 
+/// A JSON value whose text may be kept for longer than the value.
+pub trait Lent<'j>: Json {
+    /// The text, where it is a string.
+    fn text(&self) -> Option<&'j str>
+        ensures { option_map (λ t. t.now) result ≡ as_str (Self.spells self.now) };
+}
+
 impl<'v> Json for &'v Value {
     type Items = slice::Iter<'v, Value>;
 
@@ -106,6 +114,16 @@ impl<'v> Json for &'v Value {
         match left.clone() {
             Ok(same) => same,
             Err(_) => unreachable!(),
+        }
+    }
+}
+
+impl<'v> Lent<'v> for &'v Value {
+    fn text(&self) -> Option<&'v str> {
+        match *self {
+            Value::String(text) => Some(text.as_str()),
+            Value::Null | Value::Bool(_) | Value::Number(_) | Value::Array(_) | Value::Object(_) =>
+                { None }
         }
     }
 }
