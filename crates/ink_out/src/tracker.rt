@@ -36,6 +36,8 @@ pub(crate) struct First {
 /// What the marks so far leave to decide: whether there is a text, whether glue and a newline stand behind the last one,
 /// and what of these may still be hidden. In contracts `Tracks before tracker settled` says that it is so: whatever marks follow
 /// `before`, the newlines of `settled` show (Text/Shown.antt), and the one that waits here shows where those marks do not hide it.
+/// Each section keeps one for its newlines (`State`). A text is made with one of its own, by a walk over the marks (`Walk`), which
+/// holds newlines back up to the next text or the end, and writes of these the one that still waits here.
 #[derive(Clone, Copy)]
 pub(crate) struct Tracker {
     pub(crate) text: bool,

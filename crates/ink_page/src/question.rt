@@ -1,6 +1,6 @@
 //! What is shown where a function asks the reader: its name and its arguments.
 
-ghost use Rattle.std.specs.Prelude.{◌≡◌, ◌++◌, [], false, IfOk, OnOk, string_bytes};
+ghost use Rattle.std.specs.Prelude.{◌≡◌, ◌++◌, [], IfOk, OnOk, string_bytes};
 ghost use Rattle.json.specs.Print.{print};
 ghost use Rattle.serde_json.specs.Written.{comma_if, compact_text};
 ghost use Rattle.ink_model.specs.Protocol.ValueJson.{value_data};
@@ -32,7 +32,7 @@ pub(crate) fn question(
 
 // Values as JSON with commas between them, behind what is written already.
 fn put_values(alloc: Global, text: &mut String, values: &[Value]) -> Result<(), AllocError>
-    ensures { OnOk result (string_bytes text.new ≡ string_bytes text.old ++ listed false values.now) }
+    ensures { OnOk result (string_bytes text.new ≡ string_bytes text.old ++ listed values.now) }
 {
     let mut follows = false;
     for value in values {

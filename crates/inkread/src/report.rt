@@ -73,7 +73,7 @@ fn place_words(alloc: Global, place: &Place) -> Result<String, AllocError> {
 
 // The content that stands there, or how long it is where that is too much to show.
 fn piece_words(alloc: Global, bytes: &[u8], parts: &[Part]) -> Option<String> {
-    let piece = piece_at(alloc, bytes, parts)?;
+    let piece = piece_at(alloc, bytes, parts).ok().flatten()?;
     if piece.len() > PIECE {
         return format!(in alloc; "There stands a piece of {} bytes.", piece.len()).ok();
     }

@@ -1,6 +1,9 @@
-use Rattle.std.proofs.Common.{string_bytes}
-use Rattle.ink_page.proofs.Questions.{no_value, one_value}
+use Rattle.std.proofs.Common.{◌++◌, ap, string_bytes}
+use Rattle.ink_page.proofs.Questions.{listed_from_start, no_value, one_value}
 use Rattle.ink_page.proofs.question.put_values.Goals as goal
+
+pub loop-value-init : goal.loop-value-init
+loop-value-init c = ap (λ l. string_bytes c.args.text.now ++ l) (listed_from_start c.args.values.now)
 
 pub loop-value-preserved : goal.loop-value-preserved
 loop-value-preserved c =
