@@ -146,10 +146,8 @@ impl Hints {
         if self.slots.is_empty() {
             return 0;
         }
-        match self.slots.get(slot(name, self.slots.len())) {
-            Some(behind) => *behind as usize,
-            None => 0,
-        }
+        let slot = slot(name, self.slots.len());
+        self.slots[slot] as usize
     }
 }
 

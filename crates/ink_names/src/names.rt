@@ -1,9 +1,11 @@
 //! Names with their numbers.
 
 ghost use Rattle.std.specs.Prelude.{◌≡◌, [], ◌∷◌, ◌++◌, None, Some, length, option_map, slice_get, IfOk, IfSome, OnOk, OnErr};
+ghost use Rattle.std.specs.BTreeMap.{get_by_text};
 ghost use Rattle.ink_names.specs.Names.{Differ, number_of, without_last};
 
 use crate::hints::Hints;
+use crate::same::same_name;
 use std::alloc::{AllocError, Global};
 use std::collections::BTreeMap;
 use std::marker::Model;
@@ -70,8 +72,8 @@ impl Names {
             return None;
         }
         match self.list.get(behind - 1) {
-            Some(there) if there.as_str() == name => Some(behind - 1),
-            _ => self.others.get(name).copied(),
+            Some(there) if same_name(there.as_str(), name) => Some(behind - 1),
+            _ => other(&self.others, name),
         }
     }
 
@@ -109,4 +111,12 @@ impl Names {
             let _number = self.others.remove(name.as_str());
         }
     }
+}
+
+// The number of a name that is among the others. It is a call of its own, so that most names are found without what it wants.
+#[inline(never)]
+fn other(others: &BTreeMap<String, usize>, name: &str) -> Option<usize>
+    ensures { result ≡ get_by_text others.now name.now }
+{
+    others.get(name).copied()
 }

@@ -25,3 +25,4 @@ pub mod Sharing
 pub mod Bounding
 pub mod Lengths
 pub mod Given
+pub mod Plain

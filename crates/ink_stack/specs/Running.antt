@@ -1,5 +1,5 @@
 -- The thread that runs, as contracts see it.
-use Rattle.std.specs.Prelude.{List, reverse}
+use Rattle.std.specs.Prelude.{◌≡◌, List, [], reverse}
 use Rattle.ink_model.specs.Flow.Frames.{FrameOf, ThreadOf, ThreadsOf}
 use Rattle.ink_model.specs.Variables.Store.{Values}
 use Rattle.ink_stack.specs.Frames.{Room}
@@ -17,3 +17,8 @@ module _ {P : Type 0} where
   -- what a copy of a thread asks memory for: the temporaries of its top frame, and the frames below that, the bottom one first
   abbrev pub fork_of : ThreadOf P → Values × List (FrameOf P)
   fork_of t = (t.frame.temps, reverse t.below)
+
+  -- a frame alone without temporaries
+  pub record IsPlain (t : ThreadOf P) : Type 0 where
+    pub temps : t.frame.temps ≡ []
+    pub below : t.below ≡ []

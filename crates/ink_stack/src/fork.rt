@@ -1,7 +1,10 @@
 //! What copies of threads are made of.
 
+ghost use Rattle.std.specs.Prelude.{◌≡◌, []};
+
 use crate::frames::Frames;
 use crate::temps::Temps;
+use std::alloc::Global;
 use std::marker::Model;
 
 /// What a copy of a thread asks memory for: the temporaries of its top frame, and the frames below that. A contract sees both, the
@@ -20,4 +23,17 @@ impl<P> Model for Fork<P> {
     ghost Value = { Values × List (FrameOf P) };
 
     ghost view = { λ f. (f.temps, f.below.items) };
+}
+
+impl<P: Copy> Fork<P> {
+    /// What a copy of a frame alone without temporaries asks for: nothing.
+    #[inline(always)]
+    pub fn none(alloc: Global) -> Fork<P>
+        ensures { result ≡ ([], []) }
+    {
+        Fork {
+            temps: Temps::new(alloc),
+            below: Frames::new(alloc),
+        }
+    }
 }

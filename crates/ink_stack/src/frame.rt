@@ -169,6 +169,14 @@ impl<P: Copy> Frame<P> {
         }
     }
 
+    /// It becomes the same as another, but for its temporaries.
+    #[inline(always)]
+    pub(crate) fn copy_header(&mut self, other: &Frame<P>)
+        ensures { self.new ≡ record other.now { temps = self.old.temps } }
+    {
+        self.header = other.header;
+    }
+
     /// Whether there are no temporaries.
     #[inline(always)]
     pub(crate) fn is_bare(&self) -> bool

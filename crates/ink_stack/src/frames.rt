@@ -98,7 +98,7 @@ impl<P: Copy> Frames<P> {
             return Ok(Frames::new(alloc));
         }
         let mut headers = list_for(alloc, &mut spare.headers, self.len())?;
-        headers.extend_from_slice(self.headers.as_slice())?;
+        extend(&mut headers, self.headers.as_slice())?;
         let lowest = self.lowest.share()?;
         let temps = copied(alloc, self.temps.as_slice(), &mut spare.temps)?;
         Ok(Frames {
@@ -341,6 +341,19 @@ fn own_index<P: Copy>(lowest: &mut Lowest<P>, headers: &mut Vec<Header<P>>, inde
         return index;
     }
     index - below
+}
+
+/// Puts copies of headers behind others. The one error is a refused request for memory. Where there are none, as where all are shared,
+/// nothing is called.
+#[inline(always)]
+fn extend<P: Copy>(headers: &mut Vec<Header<P>>, more: &[Header<P>]) -> Result<(), AllocError>
+    ensures items { OnOk result (headers.new.items ≡ headers.old.items ++ more.now) }
+    ensures room { vec_capacity headers.old ≤ vec_capacity headers.new }
+{
+    if more.is_empty() {
+        return Ok(());
+    }
+    headers.extend_from_slice(more)
 }
 
 /// Takes the last header out, where there is one.

@@ -10,7 +10,7 @@ ghost use Rattle.ink_stack.specs.Calls.{frame_kind};
 ghost use Rattle.ink_stack.specs.Cells.{Within, holds_of, number_back, temp_back, ungone, unpopped, unpushed, with_frame, with_fresh};
 ghost use Rattle.ink_stack.specs.Frames.{MoreRoom};
 ghost use Rattle.ink_stack.specs.Quiet.{IsQuiet, Settled};
-ghost use Rattle.ink_stack.specs.Running.{fork_of};
+ghost use Rattle.ink_stack.specs.Running.{IsPlain, fork_of};
 ghost use Rattle.ink_stack.specs.Temps.{text_of};
 ghost use Rattle.ink_stack.specs.Outcomes.{Changes, Grows};
 
@@ -150,6 +150,31 @@ impl<P: Copy> Running<P> {
             return Err(AllocError);
         };
         Ok(self.with_fork(fork))
+    }
+
+    /// Whether it is a frame alone without temporaries, as most are, so that a copy asks for no memory.
+    #[inline(always)]
+    pub(crate) fn is_plain(&self) -> bool
+        ensures { OnTrue result (IsPlain self.now.thread) }
+    {
+        if self.below.len() == 0 {
+            return self.frame.is_bare();
+        }
+        false
+    }
+
+    /// It becomes the same as another, where both are a frame alone without temporaries, and keeps its lists.
+    #[inline(always)]
+    pub(crate) fn copy_plain(&mut self, other: &Running<P>)
+        requires own { IsPlain self.old.thread }
+        requires other { IsPlain other.now.thread }
+        ensures thread { self.new.thread ≡ other.now.thread }
+        ensures room { self.new.room ≡ self.old.room }
+    {
+        self.frame.copy_header(&other.frame);
+        self.previous = other.previous;
+        self.quiet = other.quiet;
+        self.settled = other.settled;
     }
 
     /// What a copy asks memory for, in the memory of spare lists where these are large enough. The one error is a refused request

@@ -1,12 +1,13 @@
 //! The threads of a running story.
 
 ghost use Rattle.std.specs.Prelude.{◌≡◌, ◌≢◌, ◌⊎◌, ◌<◌, ◌≤◌, ◌+◌, [], None, Some, is_some, length, map, option_map, true, unwrap_or, vec_capacity, IfOk, IfErr, OnOk, OnErr};
-ghost use Rattle.std.specs.Bool.{OnFalse};
+ghost use Rattle.std.specs.Bool.{OnFalse, OnTrue};
 ghost use Rattle.ink_model.specs.Flow.Transfers.{is_last};
 ghost use Rattle.ink_model.specs.Flow.Frames.{base_threads, fresh_depth, gone, mode_in, on_top, place_in, put_in, unnumbered_thread, unnumbered_threads};
 ghost use Rattle.ink_model.specs.Flow.Threads.{alone, doubled, dropped, frame_count, number_in, frame_popped, frame_pushed, staled, temp_in, thread_count, top_result, with_temp};
 ghost use Rattle.ink_model.specs.declared.limits.TheConstants.{MAX_THREADS};
 ghost use Rattle.ink_stack.specs.Calls.{frame_kind};
+ghost use Rattle.ink_stack.specs.Cells.{Within};
 ghost use Rattle.ink_stack.specs.Running.{fork_of, threads_in};
 ghost use Rattle.ink_stack.specs.Temps.{text_of};
 ghost use Rattle.ink_stack.specs.Undo.{HasGone, HasMode, NotesTemp, threads_back, threads_spare, threads_stood};
@@ -421,12 +422,7 @@ impl<P: Copy> Threads<P> {
         if self.trail.is_marked() {
             return self.pop_thread_marked();
         }
-        let Some(next) = self.below.pop() else {
-            return false;
-        };
-        let ended = mem::replace(&mut self.running, next.run());
-        ended.give_lists(&mut self.spare);
-        true
+        drop_top(&mut self.running, &mut self.below, &mut self.spare)
     }
 
     // As `pop_thread`, while a mark stands.
@@ -493,6 +489,14 @@ impl<P: Copy> Threads<P> {
             Ok(fork) => Ok(fork),
             Err(_) => Err(Fault::OutOfMemory),
         }
+    }
+
+    /// Whether the top thread is a frame alone without temporaries, as most are: a copy of it asks for no memory.
+    #[inline(always)]
+    pub fn is_plain(&self) -> bool
+        ensures { OnTrue result (([], []) ≡ fork_of self.now.threads.thread) }
+    {
+        self.running.is_plain()
     }
 
     /// A copy of the top thread, of what it asked memory for. Takes no memory.
@@ -675,7 +679,7 @@ fn clear_numbers_of<P: Copy>(threads: &mut [Thread<P>])
 }
 
 /// Puts a copy of the thread that runs on top of those below it. `TooDeep` where there are 100 threads; `OutOfMemory` for a
-/// refused request for memory.
+/// refused request for memory. A frame alone without temporaries, which most threads are, is copied where it stands.
 fn push_copy<P: Copy>(
     alloc: Global,
     running: &Running<P>,
@@ -693,6 +697,29 @@ fn push_copy<P: Copy>(
     let Ok(_) = below.reserve(1) else {
         return Err(Fault::OutOfMemory);
     };
+    if !running.is_plain() {
+        return push_any(alloc, running, below, spare);
+    }
+    below.push_reserved(Thread {
+        running: running.with_fork(Fork::none(alloc)),
+    });
+    Ok(())
+}
+
+/// The same of any thread, where there is room for it.
+#[inline(never)]
+fn push_any<P: Copy>(
+    alloc: Global,
+    running: &Running<P>,
+    below: &mut Vec<Thread<P>>,
+    spare: &mut Spare<P>,
+) -> Result<(), Fault>
+    requires few { length below.old.items + 1 < MAX_THREADS }
+    requires fits { length below.old.items < vec_capacity below.old }
+    ensures threads { Grows (doubled (threads_in running.now below.old.items)) (threads_in running.now below.old.items) (threads_in running.now below.new.items) result }
+    ensures few { length below.new.items < MAX_THREADS }
+    ensures room { vec_capacity below.old ≤ vec_capacity below.new }
+{
     let Ok(fork) = running.fork_over(alloc, spare) else {
         return Err(Fault::OutOfMemory);
     };
@@ -700,4 +727,51 @@ fn push_copy<P: Copy>(
         running: running.with_fork(fork),
     });
     Ok(())
+}
+
+/// Drops the thread that runs, and the one below runs in its place; false where there is none. Where both are a frame alone without
+/// temporaries, as most are, the one below is copied over the other.
+#[inline(always)]
+fn drop_top<P: Copy>(
+    running: &mut Running<P>,
+    below: &mut Vec<Thread<P>>,
+    spare: &mut Spare<P>,
+) -> bool
+    ensures dropped { result ≡ is_some (dropped (threads_in running.old below.old.items)) }
+    ensures new { threads_in running.new below.new.items ≡ unwrap_or (dropped (threads_in running.old below.old.items)) (threads_in running.old below.old.items) }
+    ensures within { Within running.new.room running.new.thread }
+    ensures fewer { length below.new.items ≤ length below.old.items }
+    ensures room { vec_capacity below.new ≡ vec_capacity below.old }
+{
+    match below.last() {
+        Some(next) if running.is_plain() && next.running.is_plain() => {
+            running.copy_plain(&next.running);
+        }
+        _ => return drop_any(running, below, spare),
+    }
+    running.within();
+    let _next = below.pop();
+    true
+}
+
+/// The same, and the lists of frames of the thread that is dropped become spare ones where they are larger.
+#[inline(never)]
+fn drop_any<P: Copy>(
+    running: &mut Running<P>,
+    below: &mut Vec<Thread<P>>,
+    spare: &mut Spare<P>,
+) -> bool
+    ensures dropped { result ≡ is_some (dropped (threads_in running.old below.old.items)) }
+    ensures new { threads_in running.new below.new.items ≡ unwrap_or (dropped (threads_in running.old below.old.items)) (threads_in running.old below.old.items) }
+    ensures within { Within running.new.room running.new.thread }
+    ensures fewer { length below.new.items ≤ length below.old.items }
+    ensures room { vec_capacity below.new ≡ vec_capacity below.old }
+{
+    let Some(next) = below.pop() else {
+        running.within();
+        return false;
+    };
+    let ended = mem::replace(running, next.run());
+    ended.give_lists(spare);
+    true
 }

@@ -152,12 +152,14 @@ fn slots_for(count: usize) -> usize
 }
 
 // The slot of a container and a name, of so many. Names of one form, with a number each, are spread as any others.
+#[inline(always)]
 fn slot(container: usize, name: &str, slots: usize) -> usize {
     let spread = mix_name(container, name.as_bytes()).wrapping_mul(SPREAD) >> 32;
     spread.wrapping_mul(slots) >> 32
 }
 
 // A name is mixed eight bytes at a time and by its last eight; a short one as one number.
+#[inline(always)]
 fn mix_name(container: usize, name: &[u8]) -> usize {
     if name.len() > 8 {
         mix_words(container, name)
@@ -167,6 +169,7 @@ fn mix_name(container: usize, name: &[u8]) -> usize {
 }
 
 // Up to eight bytes as one number: the first four and the last four, or all of fewer.
+#[inline(always)]
 fn packed(name: &[u8]) -> usize {
     match (name.first_chunk::<4>(), name.last_chunk::<4>()) {
         (Some(first), Some(last)) => {
@@ -178,6 +181,7 @@ fn packed(name: &[u8]) -> usize {
     }
 }
 
+#[inline(never)]
 fn packed_few(name: &[u8]) -> usize {
     match name {
         [first, second, third] => {
@@ -189,6 +193,7 @@ fn packed_few(name: &[u8]) -> usize {
     }
 }
 
+#[inline(never)]
 fn mix_words(container: usize, name: &[u8]) -> usize {
     let mut mixed = container;
     let (words, _) = name.as_chunks::<8>();

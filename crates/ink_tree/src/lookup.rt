@@ -17,6 +17,7 @@ use crate::spot::NodeId;
 use crate::tree::Tree;
 use ink_json::{Key, Node, Nodes, key_of};
 use ink_model::{Content, Part};
+use ink_names::same_name;
 
 impl Tree {
     ghost use Rattle.ink_tree.specs.Nodes.{story_tree, node_place, Finds, IsAbove, NumbersInOrder};
@@ -267,7 +268,7 @@ fn is_part(part: Key<'_>, key: Key<'_>) -> bool
 {
     match (part, key) {
         (Key::Index(index), Key::Index(other)) => index == other,
-        (Key::Name(name), Key::Name(other)) => name == other,
+        (Key::Name(name), Key::Name(other)) => same_name(name, other),
         (Key::Index(_), Key::Name(_)) | (Key::Name(_), Key::Index(_)) => false,
     }
 }

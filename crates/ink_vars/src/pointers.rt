@@ -1,6 +1,7 @@
 //! What names and pointers lead to.
 
 ghost use Rattle.std.specs.Prelude.{◌≡◌, IfSome, option_map};
+ghost use Rattle.ink_model.specs.Flow.Threads.{frame_count};
 ghost use Rattle.ink_model.specs.Variables.Access as rules;
 
 use crate::globals::Globals;
@@ -98,9 +99,28 @@ pub(crate) fn chain_end<'a, P: Copy>(
     ensures end { option_map (λ e. (e.frame, e.name.now)) result ≡ rules.chain_end globals.now.rows threads.now.threads.thread frame name.now }
     ensures value { IfSome result (λ e. option_map (λ value. value.now) e.found.value ≡ rules.held globals.now.rows threads.now.threads.thread e.frame e.name.now) }
 {
+    let found = held(globals, threads, frame, name.as_str());
+    match found.value {
+        Some(Value::Pointer(next, to)) => chain_further(globals, threads, *next, to),
+        _ => Some(ChainEnd { frame, name, found }),
+    }
+}
+
+// The same of a pointer to which one led already. Few chains go so far.
+#[inline(never)]
+fn chain_further<'a, P: Copy>(
+    globals: &'a Globals,
+    threads: &'a Threads<P>,
+    frame: i32,
+    name: &'a Shared<Text>,
+) -> Option<ChainEnd<'a>>
+    ensures end { let thread = threads.now.threads.thread in
+        option_map (λ e. (e.frame, e.name.now)) result ≡ rules.last_pointer globals.now.rows thread (frame_count thread) frame name.now }
+    ensures value { IfSome result (λ e. option_map (λ value. value.now) e.found.value ≡ rules.held globals.now.rows threads.now.threads.thread e.frame e.name.now) }
+{
     let mut frame = frame;
     let mut name = name;
-    let mut left = threads.top().frames() + 1;
+    let mut left = threads.top().frames();
     while left > 0 {
         left -= 1;
         let found = held(globals, threads, frame, name.as_str());

@@ -9,7 +9,7 @@ ghost use Rattle.ink_vars.specs.Undo.{global_back};
 
 use crate::undo::GlobalPair;
 use ink_model::Value;
-use ink_names::Names;
+use ink_names::{Names, same_name};
 use std::alloc::{AllocError, Global};
 use std::marker::Model;
 use std::mem;
@@ -148,7 +148,7 @@ impl Table {
     {
         let there = self.names.name(index)?;
         let value = self.values.get(index)?;
-        if there == name {
+        if same_name(there, name) {
             Some((index, value))
         } else {
             None

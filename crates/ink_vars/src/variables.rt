@@ -11,7 +11,7 @@ ghost use Rattle.ink_vars.specs.Outcomes.{Copies, Declares, HandsOut, LeadsInto,
 
 use crate::globals::Globals;
 use crate::places::{Name, Variable};
-use crate::pointers::{chain_end, named, stands};
+use crate::pointers::{chain_end, held, named, stands};
 use ink_model::{Fault, Scope, Shared, Text, Value};
 use ink_stack::Threads;
 use std::alloc::Global;
@@ -199,11 +199,30 @@ pub fn kept<P: Copy>(globals: &Globals, threads: &Threads<P>, value: Value) -> R
     ensures { HandsOut (is_pointer (Some value)) (rules.kept globals.now.rows threads.now.threads.thread value) result }
 {
     match &value {
-        Value::Pointer(frame, name) => kept_pointer(globals, threads, *frame, name),
+        Value::Pointer(frame, name) => {
+            if leads_on(globals, threads, *frame, name.as_str()) {
+                kept_pointer(globals, threads, *frame, name)
+            } else {
+                Ok(value)
+            }
+        }
         _ => Ok(value),
     }
 }
 
+// Whether what a pointer leads to is a pointer, too. Most lead to what is none, and are kept as they are.
+#[inline(always)]
+fn leads_on<P: Copy>(globals: &Globals, threads: &Threads<P>, frame: i32, name: &str) -> bool
+    ensures { result ≡ is_pointer (rules.held globals.now.rows threads.now.threads.thread frame name.now) }
+{
+    match held(globals, threads, frame, name).value {
+        Some(Value::Pointer(..)) => true,
+        _ => false,
+    }
+}
+
+// What is kept of a pointer, by its chain.
+#[inline(never)]
 fn kept_pointer<P: Copy>(
     globals: &Globals,
     threads: &Threads<P>,
