@@ -25,7 +25,7 @@ module _ {P : Type 0} where
   abbrev pub Makes : Bool → Result (Option (ChoiceOf P) × List Value) Fault → List Value → List Value → Result (Option (ChoiceOf P)) Fault → Type 0
   Makes short rule old new result = ByRule (LacksMemory (making_asks short rule)) (λ r made. (made ≡ r.0) × (new ≡ r.1)) (λ why. why × (new ≡ old)) rule result
 
-  -- the stack that is left, beside the choices or the fault of one that is added
+  -- the stack that is left, beside the choices or the fault of one too many
   abbrev pub beside : List Value → Result (List (ChoiceOf P)) Fault → Result (List Value × List (ChoiceOf P)) Fault
   beside left (Ok cs) = Ok (left, cs)
   beside left (Err f) = Err f

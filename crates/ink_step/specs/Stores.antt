@@ -9,14 +9,14 @@ use Rattle.ink_model.specs.Memory.Variables.{is_pointer}
 use Rattle.ink_step.specs.declared.machine.Machine.{Machine}
 use Rattle.ink_tree.specs.Nodes.{place_of}
 use Rattle.ink_tree.specs.declared.spot.Spot.{Spot}
-use Rattle.ink_vars.specs.Changes.{number_of}
+use Rattle.ink_vars.specs.Changes.{global_index}
 
--- A value lies on the stack, the global of a name is there, which has this number, neither is a pointer, and flow goes on to the place
+-- A value lies on the stack, the global of a name is there, which has this index, neither is a pointer, and flow goes on to the place
 -- after.
-pub record StoresAtOnce (s : StoryTree) (m : Machine) (name : List ℕ) (after : Spot) (number : ℕ) : Type 0 where
+pub record StoresAtOnce (s : StoryTree) (m : Machine) (name : List ℕ) (after : Spot) (index : ℕ) : Type 0 where
   pub next : option_and_then (next_place s) (place_in (map_threads (place_of s) m.flow.threads.threads)) ≡ Some (place_of s after)
   pub value : is_some (popped m.flow.stack.items) ≡ true
   pub kept : is_pointer (option_map (λ r. r.0) (popped m.flow.stack.items)) ≡ false
   pub there : is_some (stored name m.shared.globals.rows) ≡ true
   pub plain : is_pointer (stored name m.shared.globals.rows) ≡ false
-  pub numbered : number ≡ number_of name m.shared.globals.rows
+  pub stands : index ≡ global_index name m.shared.globals.rows

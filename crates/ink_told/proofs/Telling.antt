@@ -8,9 +8,9 @@ use Rattle.ink_model.specs.Host.Told.{change_of, is_other, is_told, told}
 use Rattle.ink_model.specs.declared.host.Change.{Change}
 use Rattle.ink_model.specs.declared.value.Value.{Value}
 use Rattle.ink_host.specs.Desk.{Rows, has_rows, watches}
-use Rattle.ink_vars.specs.Changes.{changed_from, changed_numbers}
+use Rattle.ink_vars.specs.Changes.{changed_from, changed_indices}
 
--- ---- by numbers
+-- ---- by indices
 
 module _ (now : Values) where
   abbrev pub told_one : Option (List ℕ × Value) → List Change
@@ -42,7 +42,7 @@ module _ (now : Values) where
         by true first so = ap (λ o. told_one o ++ told_at (changed_from watches start (suc n) es)) first ∙ ap (λ cs. change_of e ∷ cs) so
         by false first so = so
 
-    pub told_changed : told_at (changed_numbers watches start now) ≡ told watches start now
+    pub told_changed : told_at (changed_indices watches start now) ≡ told watches start now
     told_changed = told_from 0 now (λ i. (let same : 0 + i ≡ i = omega arith in ap (slice_get now) same))
 
     -- where nothing is told of, none is among these
@@ -55,15 +55,15 @@ module _ (now : Values) where
         by true none on = absurd (cc)
         by false none on = on none
 
-    pub told_some_of : changed_numbers watches start now ≢ [] → told watches start now ≢ []
+    pub told_some_of : changed_indices watches start now ≢ [] → told watches start now ≢ []
     told_some_of some none = some (none_changed 0 now none)
 
-    pub told_some_at : (ns : List ℕ) (i : ℕ) → ns ≡ changed_numbers watches start now → i < length ns → told watches start now ≢ []
+    pub told_some_at : (ns : List ℕ) (i : ℕ) → ns ≡ changed_indices watches start now → i < length ns → told watches start now ≢ []
     told_some_at ns i is within = told_some_of (λ none. absurd (omega (arith, within, ap length is, ap length none)))
 
   -- ---- a loop's step
 
-  -- one number more
+  -- one index more
   pub told_next : (ns : List ℕ) (i : ℕ) (so_far more : List Change) (o : Option (List ℕ × Value)) → i < length ns → slice_get now (get_or ns i 0) ≡ o → so_far ≡ told_at (take i ns)
       → more ≡ so_far ++ told_one o → more ≡ told_at (take (i + 1) ns)
   told_next ns i so_far more o within at h added =
@@ -88,7 +88,7 @@ module _ (watches : List ℕ → Bool) (start : Values) where
       by true h = ap (λ cs. change_of e ∷ cs) h
       by false h = h
 
-  -- up to the global of a number
+  -- up to the global at an index
   told_up : (now : Values) (i : ℕ) (e : List ℕ × Value) (b : Bool) → slice_get now i ≡ Some e → is_told watches start e ≡ b → told watches start (take (i + 1) now) ≡ told watches start (take i now) ++ cond b (change_of e ∷ []) []
   told_up now i e b at is =
       ap (told watches start) (take_more now i e (slice_get_within now i e at) ∙ ap (λ p. take i now ++ p ∷ []) (get_or_from_slice_get now i e e at))

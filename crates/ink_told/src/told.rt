@@ -24,10 +24,10 @@ pub fn told_since<P, T, W>(
     if !desk.has_watchers() {
         return Ok(Seq::new(alloc));
     }
-    let numbers = globals.changed(alloc, |name| desk.watches(name))?;
+    let indices = globals.changed(alloc, |name| desk.watches(name))?;
     let mut told = Vec::new(alloc);
-    for number in &numbers {
-        if let Some((name, value)) = globals.pair(*number) {
+    for index in &indices {
+        if let Some((name, value)) = globals.pair(*index) {
             add_change(alloc, &mut told, name, value)?;
         }
     }
@@ -46,8 +46,8 @@ pub fn told_between<P, T, W>(
     ensures memory { OnErr result (told (watches desk.now.watchers) old.now.rows new.now.rows ≢ []) }
 {
     let mut told = Vec::new(alloc);
-    for number in 0..new.len() {
-        if let Some((name, value)) = new.pair(number) {
+    for index in 0..new.len() {
+        if let Some((name, value)) = new.pair(index) {
             if desk.watches(name) && is_other(old.get(name), value) {
                 add_change(alloc, &mut told, name, value)?;
             }

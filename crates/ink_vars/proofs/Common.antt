@@ -11,7 +11,7 @@ pub use Rattle.ink_model.specs.declared.limits.TheConstants.{MAX_COUNT}
 pub use Rattle.ink_model.specs.declared.value.Value.{Value}
 pub use Rattle.ink_trail.proofs.Undoing.{none-stood}
 pub use Rattle.ink_trail.specs.Undo.{Undo, but_last, trail_of}
-pub use Rattle.ink_vars.specs.Changes.{Tracks, as_they_were, noted_at, number_of, with_noted}
+pub use Rattle.ink_vars.specs.Changes.{Tracks, as_they_were, noted_at, global_index, with_noted}
 pub use Rattle.ink_vars.specs.Globals.{DifferInName, set_value_at, rows_of}
 pub use Rattle.ink_vars.specs.Slots.{AreCounts, rows_from, with_slot}
 pub use Rattle.ink_vars.specs.Undo.{Covers, global_back}

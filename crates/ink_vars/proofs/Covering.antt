@@ -2,7 +2,7 @@
 use Rattle.std.proofs.Common.{◌≡◌, ◌≢◌, ◌∙◌, ◌⊎◌, ◌≤◌, ◌<◌, ◌+◌, ◌-◌, ℕ, zero, suc, Bool, true, false, bytes_eq, eqb, if◌then◌else◌, List, [], ◌∷◌, ◌++◌, Option, Some, None, ap, arith, inl, inr, is_some, length, refl, subst, sym}
 use Rattle.ink_vars.proofs.Common.{cases_Bool, cases_lt, eq-eqb, eqb-true, option_or, set_value_at, Values, stored, Value, DifferInName, Before}
 use Rattle.ink_trail.specs.Undo.{Undo, but_last, trail_of, with_pair}
-use Rattle.ink_vars.specs.Changes.{AreNew, NotesFit, as_it_was, as_they_were, noted_at, number_of, with_noted}
+use Rattle.ink_vars.specs.Changes.{AreNew, NotesFit, as_it_was, as_they_were, noted_at, global_index, with_noted}
 use Rattle.ink_vars.specs.Undo.{Covers, NewAt, global_back}
 use Rattle.ink_vars.specs.Views.{ChangesView}
 use Rattle.ink_vars.specs.declared.undo.GlobalPair.{GlobalPair}
@@ -144,23 +144,23 @@ covers_more bs b n (Added ∷ es) none h =
 covers_more bs b n (Changed i v ∷ es) none h = (stays_noted i bs b h.0, covers_more bs b n es none h.1)
 
 pub covers_noted : (name : List ℕ) (now : Values) (bs : List Before) (n : ℕ) (es : List GlobalPair) → Covers bs n es → Covers (with_noted name now bs) n es
-covers_noted name now bs n es h = by (noted_at (number_of name now) bs) refl
+covers_noted name now bs n es h = by (noted_at (global_index name now) bs) refl
   where
-    by : (o : Option (Option Value)) → noted_at (number_of name now) bs ≡ o
-        → Covers (if is_some o then bs else bs ++ record { index = number_of name now; value = stored name now } ∷ []) n es
-    by None none = covers_more bs (record { index = number_of name now; value = stored name now }) n es none h
+    by : (o : Option (Option Value)) → noted_at (global_index name now) bs ≡ o
+        → Covers (if is_some o then bs else bs ++ record { index = global_index name now; value = stored name now } ∷ []) n es
+    by None none = covers_more bs (record { index = global_index name now; value = stored name now }) n es none h
     by (Some w) some = h
 
 -- a name is noted then
-pub is_noted : (name : List ℕ) (now : Values) (bs : List Before) → is_some (noted_at (number_of name now) (with_noted name now bs)) ≡ true
-is_noted name now bs = by (noted_at (number_of name now) bs) refl
+pub is_noted : (name : List ℕ) (now : Values) (bs : List Before) → is_some (noted_at (global_index name now) (with_noted name now bs)) ≡ true
+is_noted name now bs = by (noted_at (global_index name now) bs) refl
   where
-    by : (o : Option (Option Value)) → noted_at (number_of name now) bs ≡ o
-        → is_some (noted_at (number_of name now) (if is_some o then bs else bs ++ record { index = number_of name now; value = stored name now } ∷ [])) ≡ true
+    by : (o : Option (Option Value)) → noted_at (global_index name now) bs ≡ o
+        → is_some (noted_at (global_index name now) (if is_some o then bs else bs ++ record { index = global_index name now; value = stored name now } ∷ [])) ≡ true
     by None none =
-        ap is_some (noted_more (number_of name now) bs (record { index = number_of name now; value = stored name now })
-        ∙ ap (λ o. option_or o (if eqb (number_of name now) (number_of name now) then Some (stored name now) else None)) none
-        ∙ ap (λ t. if t then Some (stored name now) else None) (eq-eqb (number_of name now) (number_of name now) refl))
+        ap is_some (noted_more (global_index name now) bs (record { index = global_index name now; value = stored name now })
+        ∙ ap (λ o. option_or o (if eqb (global_index name now) (global_index name now) then Some (stored name now) else None)) none
+        ∙ ap (λ t. if t then Some (stored name now) else None) (eq-eqb (global_index name now) (global_index name now) refl))
     by (Some w) some = ap is_some some
 
 -- ---- a pair more

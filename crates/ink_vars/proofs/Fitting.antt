@@ -1,7 +1,7 @@
 -- Notes that fit the globals, also after one is stored.
 use Rattle.std.proofs.Common.{◌≡◌, ◌∙◌, ◌+◌, ◌<◌, ◌≤◌, ◌⊎◌, ℕ, suc, Bool, true, false, bytes_eq, if◌then◌else◌, List, [], ◌∷◌, Option, Some, None, Result, Ok, Err, OnErr, OnOk, ap, arith, inl, inr, is_ok, is_some, length, refl, subst, sym}
 use Rattle.ink_vars.proofs.Common.{bytes_eq-Decides, Values, stored, store, Value, DifferInName, Before}
-use Rattle.ink_vars.specs.Changes.{AreNew, NotesFit, Tracks, as_it_was, as_they_were, noted_at, number_of}
+use Rattle.ink_vars.specs.Changes.{AreNew, NotesFit, Tracks, as_it_was, as_they_were, noted_at, global_index}
 use Rattle.ink_vars.specs.Views.{ChangesView}
 use Rattle.ink_vars.proofs.Changing.{absent_then}
 use Rattle.ink_vars.proofs.Naming.{other_way}
@@ -58,13 +58,13 @@ fits_put r name v old now start changes differ tracks ok err slots = record {
 pub no_longer : {A E : Type 0} (r : Result A E) (name : List ℕ) (v : Value) (old now : Values) (n : ℕ) → is_ok r ≡ is_some (stored name old) → OnOk r (now ≡ store name v old) → OnErr r (now ≡ old)
     → length old ≤ n → length now ≤ n
 no_longer (Ok a) name v old now n found ok err h =
-    let there : number_of name old < n = omega (arith, h, there_within name old (sym found)) in
+    let there : global_index name old < n = omega (arith, h, there_within name old (sym found)) in
     subst (λ es. length es ≤ n) (sym ok) (stored_within name v old n h there)
 no_longer (Err e) name v old now n found ok err h = subst (λ es. length es ≤ n) (sym err) h
 
 -- ---- what was not noted is as it was
 
-unnoted_was : (name : List ℕ) (noted : List Before) (n : ℕ) (es : Values) → noted_at (n + number_of name es) noted ≡ None → stored name (as_they_were noted n es) ≡ stored name es
+unnoted_was : (name : List ℕ) (noted : List Before) (n : ℕ) (es : Values) → noted_at (n + global_index name es) noted ≡ None → stored name (as_they_were noted n es) ≡ stored name es
 unnoted_was name noted n [] h = refl
 unnoted_was name noted n (e ∷ es) h = by (bytes_eq name e.0) refl h (unnoted_was name noted (suc n) es)
   where
@@ -73,15 +73,15 @@ unnoted_was name noted n (e ∷ es) h = by (bytes_eq name e.0) refl h (unnoted_w
     past (Some None) rest is = refl
     past (Some (Some v)) rest is = ap (λ b. if b then Some v else stored name rest) is
 
-    by : (b : Bool) → bytes_eq name e.0 ≡ b → noted_at (n + (if b then 0 else suc (number_of name es))) noted ≡ None
-        → (noted_at (suc n + number_of name es) noted ≡ None → stored name (as_they_were noted (suc n) es) ≡ stored name es)
+    by : (b : Bool) → bytes_eq name e.0 ≡ b → noted_at (n + (if b then 0 else suc (global_index name es))) noted ≡ None
+        → (noted_at (suc n + global_index name es) noted ≡ None → stored name (as_they_were noted (suc n) es) ≡ stored name es)
         → stored name (as_they_were noted n (e ∷ es)) ≡ (if b then Some e.1 else stored name es)
     by true is none on =
         let here : noted_at n noted ≡ None = ap (λ k. noted_at k noted) (omega arith) ∙ none in
         ap (λ o. stored name (as_it_was o e (as_they_were noted (suc n) es))) here ∙ ap (λ b. if b then Some e.1 else stored name (as_they_were noted (suc n) es)) is
     by false is none on = past (noted_at n noted) (as_they_were noted (suc n) es) is ∙ on (ap (λ k. noted_at k noted) (omega arith) ∙ none)
 
-pub as_it_stood : (name : List ℕ) (noted : List Before) (now : Values) → (noted_at (number_of name now) noted ≡ None) ⊎ (is_some (stored name now) ≡ false)
+pub as_it_stood : (name : List ℕ) (noted : List Before) (now : Values) → (noted_at (global_index name now) noted ≡ None) ⊎ (is_some (stored name now) ≡ false)
     → stored name (as_they_were noted 0 now) ≡ stored name now
 as_it_stood name noted now (inl none) = unnoted_was name noted 0 now (ap (λ k. noted_at k noted) (omega arith) ∙ none)
 as_it_stood name noted now (inr absent) =

@@ -3,7 +3,7 @@ use Rattle.std.proofs.Common.{◌≡◌, ◌∙◌, ◌<◌, ℕ, zero, suc, Boo
 use Rattle.std.proofs.lemmas.List.{length-append}
 use Rattle.std.proofs.lemmas.Option.{slice_get_past}
 use Rattle.std.specs.Slice.{IsItemAt}
-use Rattle.ink_vars.proofs.Common.{Values, store, stored, Value, but_last, number_of, DifferInName, rows_of, set_value_at}
+use Rattle.ink_vars.proofs.Common.{Values, store, stored, Value, but_last, global_index, DifferInName, rows_of, set_value_at}
 use Rattle.ink_names.specs.Names as names
 use Rattle.ink_vars.proofs.Noting.{none_of}
 use Rattle.ink_vars.proofs.Taking.{written_over}
@@ -49,17 +49,17 @@ next : (o : Option ℕ) (n : ℕ) → unwrap_or (option_map suc o) (suc n) ≡ s
 next None n = refl
 next (Some i) n = refl
 
-pub numbered_in : (name : List ℕ) (ns : List (List ℕ)) (vs : List Value) → length ns ≡ length vs → unwrap_or (names.number_of ns name) (length ns) ≡ number_of name (rows_of ns vs)
+pub numbered_in : (name : List ℕ) (ns : List (List ℕ)) (vs : List Value) → length ns ≡ length vs → unwrap_or (names.number_of ns name) (length ns) ≡ global_index name (rows_of ns vs)
 numbered_in name [] vs h = refl
 numbered_in name (n ∷ ns) [] h = absurd (cc)
 numbered_in name (n ∷ ns) (v ∷ vs) h = by (bytes_eq name n) (next (names.number_of ns name) (length ns) ∙ ap suc (numbered_in name ns vs (cc)))
   where
-    by : (b : Bool) → unwrap_or (option_map suc (names.number_of ns name)) (suc (length ns)) ≡ suc (number_of name (rows_of ns vs))
-        → unwrap_or (if b then Some 0 else option_map suc (names.number_of ns name)) (suc (length ns)) ≡ (if b then 0 else suc (number_of name (rows_of ns vs)))
+    by : (b : Bool) → unwrap_or (option_map suc (names.number_of ns name)) (suc (length ns)) ≡ suc (global_index name (rows_of ns vs))
+        → unwrap_or (if b then Some 0 else option_map suc (names.number_of ns name)) (suc (length ns)) ≡ (if b then 0 else suc (global_index name (rows_of ns vs)))
     by true on = refl
     by false on = on
 
-pub value_in : (name : List ℕ) (ns : List (List ℕ)) (vs : List Value) → length ns ≡ length vs → slice_get vs (number_of name (rows_of ns vs)) ≡ stored name (rows_of ns vs)
+pub value_in : (name : List ℕ) (ns : List (List ℕ)) (vs : List Value) → length ns ≡ length vs → slice_get vs (global_index name (rows_of ns vs)) ≡ stored name (rows_of ns vs)
 value_in name ns vs h =
     ap (slice_get vs) (sym (numbered_in name ns vs h) ∙ ap (unwrap_or (names.number_of ns name)) h) ∙ at_next (names.number_of ns name) vs ∙ stored_in name ns vs h
 
@@ -176,7 +176,7 @@ shortened (n ∷ m ∷ ns) (v ∷ vs) h = ap suc (shortened (m ∷ ns) vs (cc))
 
 -- ---- a value by name
 
-pub stored_over : (name : List ℕ) (ns : List (List ℕ)) (vs : List Value) (i : ℕ) (v : Value) → length ns ≡ length vs → i ≡ number_of name (rows_of ns vs) → i < length vs
+pub stored_over : (name : List ℕ) (ns : List (List ℕ)) (vs : List Value) (i : ℕ) (v : Value) → length ns ≡ length vs → i ≡ global_index name (rows_of ns vs) → i < length vs
     → rows_of ns (set vs i v) ≡ store name v (rows_of ns vs)
 stored_over name ns vs i v h is within =
     let many : length vs ≡ length (rows_of ns vs) = sym h ∙ as_many ns vs h in
@@ -184,7 +184,7 @@ stored_over name ns vs i v h is within =
     ∙ written_over name v (rows_of ns vs) (subst (λ k. k < length (rows_of ns vs)) is (subst (λ k. i < k) many within))
 
 -- the number of a name that is there is its index
-pub index_of : (name : List ℕ) (ns : List (List ℕ)) (vs : List Value) (i : ℕ) → length ns ≡ length vs → names.number_of ns name ≡ Some i → i ≡ number_of name (rows_of ns vs)
+pub index_of : (name : List ℕ) (ns : List (List ℕ)) (vs : List Value) (i : ℕ) → length ns ≡ length vs → names.number_of ns name ≡ Some i → i ≡ global_index name (rows_of ns vs)
 index_of name ns vs i h at = sym (ap (λ o. unwrap_or o (length ns)) at) ∙ numbered_in name ns vs h
 
 pub not_in : (name : List ℕ) (ns : List (List ℕ)) (vs : List Value) → length ns ≡ length vs → is_some (stored name (rows_of ns vs)) ≡ false → names.number_of ns name ≡ None

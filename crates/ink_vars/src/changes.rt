@@ -5,7 +5,7 @@ ghost use Rattle.std.specs.List.{IsDistinct};
 ghost use Rattle.std.specs.Option.{option_copied};
 ghost use Rattle.ink_model.specs.Variables.Store.{Values, store, stored};
 ghost use Rattle.ink_model.specs.declared.value.Value.{Value};
-ghost use Rattle.ink_vars.specs.Changes.{AnswersAs, Marks, Tracks, changed_numbers, changed_to, noted_at, number_of, with_noted};
+ghost use Rattle.ink_vars.specs.Changes.{AnswersAs, Marks, Tracks, changed_indices, changed_to, noted_at, global_index, with_noted};
 ghost use Rattle.ink_vars.specs.Globals.{set_value_at};
 
 use crate::table::Table;
@@ -86,10 +86,10 @@ impl Changes {
         index: usize,
     ) -> Result<(), AllocError>
         requires slots { length globals.now ≤ self.old.slots }
-        requires index { index ≡ number_of name.now globals.now }
+        requires index { index ≡ global_index name.now globals.now }
         ensures ok { OnOk result (self.new.noted ≡ with_noted name.now globals.now self.old.noted) }
         ensures err { OnErr result (self.new.noted ≡ self.old.noted) }
-        ensures memory { OnErr result (noted_at (number_of name.now globals.now) self.old.noted ≡ None) }
+        ensures memory { OnErr result (noted_at (global_index name.now globals.now) self.old.noted ≡ None) }
         ensures tracks { (start : Values) → Tracks start self.old.noted globals.now → Tracks start self.new.noted globals.now }
         ensures stored { OnOk result ((start : Values) (value : Value) → Tracks start self.old.noted globals.now → Tracks start self.new.noted (store name.now value globals.now)) }
         ensures more { self.old.slots ≤ self.new.slots }
@@ -136,7 +136,7 @@ impl Changes {
     #[inline(always)]
     pub(crate) fn put_at(&mut self, globals: &mut Table, name: &str, index: usize, value: Value)
         requires slots { length globals.old ≤ self.old.slots }
-        requires index { index ≡ number_of name.now globals.old }
+        requires index { index ≡ global_index name.now globals.old }
         requires there { is_some (stored name.now globals.old) ≡ true }
         ensures globals { globals.new ≡ store name.now value globals.old }
         ensures noted { self.new.noted ≡ with_noted name.now globals.old self.old.noted }
@@ -217,7 +217,7 @@ impl Changes {
         requires there { index < length globals.old }
         requires unnoted { noted_at index self.old.noted ≡ None }
         ensures globals { globals.new ≡ set_value_at globals.old index value }
-        ensures noted { (name : List ℕ) → index ≡ number_of name globals.old → self.new.noted ≡ with_noted name globals.old self.old.noted }
+        ensures noted { (name : List ℕ) → index ≡ global_index name globals.old → self.new.noted ≡ with_noted name globals.old self.old.noted }
         ensures slots { self.new.slots ≡ self.old.slots }
     {
         let before = globals.swap_at(index, value);
@@ -263,9 +263,9 @@ pub(crate) fn changed<F: Fn(&str) -> bool>(
     is_wanted: F,
 ) -> Result<Vec<usize>, AllocError>
     requires { F.IsAlwaysCallable is_wanted }
-    ensures numbers { (wanted : List ℕ → Bool) (start : Values) → AnswersAs (F.post is_wanted) wanted → Tracks start changes.now.noted globals.now → IfOk result (λ numbers. numbers.items ≡ changed_numbers wanted start globals.now) }
-    ensures once { (wanted : List ℕ → Bool) → AnswersAs (F.post is_wanted) wanted → IfOk result (λ numbers. IsDistinct nat_eq numbers.items) }
-    ensures memory { (wanted : List ℕ → Bool) (start : Values) → AnswersAs (F.post is_wanted) wanted → Tracks start changes.now.noted globals.now → OnErr result (changed_numbers wanted start globals.now ≢ []) }
+    ensures indices { (wanted : List ℕ → Bool) (start : Values) → AnswersAs (F.post is_wanted) wanted → Tracks start changes.now.noted globals.now → IfOk result (λ indices. indices.items ≡ changed_indices wanted start globals.now) }
+    ensures once { (wanted : List ℕ → Bool) → AnswersAs (F.post is_wanted) wanted → IfOk result (λ indices. IsDistinct nat_eq indices.items) }
+    ensures memory { (wanted : List ℕ → Bool) (start : Values) → AnswersAs (F.post is_wanted) wanted → Tracks start changes.now.noted globals.now → OnErr result (changed_indices wanted start globals.now ≢ []) }
 {
     let there = globals.len();
     let mut indices = Vec::new(alloc);

@@ -4,7 +4,7 @@ ghost use Rattle.std.specs.Prelude.{◌≡◌, ◌≢◌, ◌≤◌, ◌<◌, �
 ghost use Rattle.std.specs.List.{IsDistinct};
 ghost use Rattle.ink_model.specs.Variables.Store.{Values, stored, store};
 ghost use Rattle.ink_trail.specs.Undo.{KeepsTrail, TrailsOrKeeps};
-ghost use Rattle.ink_vars.specs.Changes.{AnswersAs, changed_numbers, number_of};
+ghost use Rattle.ink_vars.specs.Changes.{AnswersAs, changed_indices, global_index};
 ghost use Rattle.ink_vars.specs.Globals.{DifferInName};
 ghost use Rattle.ink_vars.specs.Outcomes.{name_of};
 ghost use Rattle.ink_vars.specs.Undo.{global_back, globals_spare, globals_stood};
@@ -111,7 +111,7 @@ impl Globals {
     /// The global to which the number of a name leads at once, by its index, with its value. None says nothing of the name.
     #[inline(always)]
     pub fn found(&self, name: &str, number: Option<usize>) -> Option<(usize, &Value)>
-        ensures { IfSome result (λ f. (f.0 ≡ number_of name.now self.now.rows) × (Some f.1.now ≡ stored name.now self.now.rows)) }
+        ensures { IfSome result (λ f. (f.0 ≡ global_index name.now self.now.rows) × (Some f.1.now ≡ stored name.now self.now.rows)) }
     {
         self.table.found(name, number)
     }
@@ -229,7 +229,7 @@ impl Globals {
     // The index, where the global that stands there has that name.
     #[inline(always)]
     fn index_at(&self, name: &str, index: Option<usize>) -> Option<usize>
-        ensures { IfSome result (λ index. (index ≡ number_of name.now self.now.rows) × (is_some (stored name.now self.now.rows) ≡ true)) }
+        ensures { IfSome result (λ index. (index ≡ global_index name.now self.now.rows) × (is_some (stored name.now self.now.rows) ≡ true)) }
     {
         let (index, _) = self.table.found_at(name, index?)?;
         Some(index)
@@ -239,7 +239,7 @@ impl Globals {
     #[inline(always)]
     pub fn put_at(&mut self, name: &str, index: usize, value: Value)
         requires unmarked { globals_stood self.old ≡ None }
-        requires index { index ≡ number_of name.now self.old.rows }
+        requires index { index ≡ global_index name.now self.old.rows }
         requires there { is_some (stored name.now self.old.rows) ≡ true }
         ensures rows { self.new.rows ≡ store name.now value self.old.rows }
         ensures start { self.new.start ≡ self.old.start }
@@ -253,7 +253,7 @@ impl Globals {
     /// The same of a global that is there, whose index is given; a mark may stand. Memory is asked for only
     /// while one does, as by `put`.
     pub fn put_there(&mut self, name: &str, index: usize, value: Value) -> Result<(), AllocError>
-        requires index { index ≡ number_of name.now self.old.rows }
+        requires index { index ≡ global_index name.now self.old.rows }
         requires there { is_some (stored name.now self.old.rows) ≡ true }
         ensures ok { OnOk result (self.new.rows ≡ store name.now value self.old.rows) }
         ensures err { OnErr result (self.new.rows ≡ self.old.rows) }
@@ -299,7 +299,7 @@ impl Globals {
         index: usize,
         value: Value,
     ) -> Result<(), AllocError>
-        requires index { index ≡ number_of name.now self.old.rows }
+        requires index { index ≡ global_index name.now self.old.rows }
         ensures ok { OnOk result (self.new.rows ≡ store name.now value self.old.rows) }
         ensures err { OnErr result (self.new.rows ≡ self.old.rows) }
         ensures start { self.new.start ≡ self.old.start }
@@ -321,9 +321,9 @@ impl Globals {
         is_wanted: F,
     ) -> Result<Vec<usize>, AllocError>
         requires { F.IsAlwaysCallable is_wanted }
-        ensures numbers { (wanted : List ℕ → Bool) → AnswersAs (F.post is_wanted) wanted → IfOk result (λ numbers. numbers.items ≡ changed_numbers wanted self.now.start self.now.rows) }
-        ensures once { (wanted : List ℕ → Bool) → AnswersAs (F.post is_wanted) wanted → IfOk result (λ numbers. IsDistinct nat_eq numbers.items) }
-        ensures memory { (wanted : List ℕ → Bool) → AnswersAs (F.post is_wanted) wanted → OnErr result (changed_numbers wanted self.now.start self.now.rows ≢ []) }
+        ensures indices { (wanted : List ℕ → Bool) → AnswersAs (F.post is_wanted) wanted → IfOk result (λ indices. indices.items ≡ changed_indices wanted self.now.start self.now.rows) }
+        ensures once { (wanted : List ℕ → Bool) → AnswersAs (F.post is_wanted) wanted → IfOk result (λ indices. IsDistinct nat_eq indices.items) }
+        ensures memory { (wanted : List ℕ → Bool) → AnswersAs (F.post is_wanted) wanted → OnErr result (changed_indices wanted self.now.start self.now.rows ≢ []) }
     {
         changed(alloc, &self.changes, &self.table, is_wanted)
     }

@@ -3,7 +3,7 @@
 ghost use Rattle.std.specs.Prelude.{◌≡◌, ◌<◌, ◌≤◌, ◌+◌, [], false, true, is_some, is_ok, length, max, option_map, slice_get, IfErr, IfOk, IfSome, OnOk, OnErr, Some};
 ghost use Rattle.ink_model.specs.Variables.Store.{stored, store};
 ghost use Rattle.ink_trail.specs.Undo.{but_last};
-ghost use Rattle.ink_vars.specs.Changes.{number_of};
+ghost use Rattle.ink_vars.specs.Changes.{global_index};
 ghost use Rattle.ink_vars.specs.Globals.{DifferInName, set_value_at};
 ghost use Rattle.ink_vars.specs.Undo.{global_back};
 
@@ -116,7 +116,7 @@ impl Table {
 
     /// The index of a global; where there is no such global, that of the next new one.
     pub(crate) fn index_of(&self, name: &str) -> usize
-        ensures { result ≡ number_of name.now self.now }
+        ensures { result ≡ global_index name.now self.now }
     {
         let next = self.names.len();
         self.names.number(name).unwrap_or(next)
@@ -124,7 +124,7 @@ impl Table {
 
     /// The same by a name and its number.
     pub(crate) fn index_by(&self, name: &str, number: Option<usize>) -> usize
-        ensures { result ≡ number_of name.now self.now }
+        ensures { result ≡ global_index name.now self.now }
     {
         match self.found(name, number) {
             Some((index, _)) => index,
@@ -135,7 +135,7 @@ impl Table {
     /// The global that the slot of a number leads to, with its index, where it has that name.
     #[inline(always)]
     pub(crate) fn found(&self, name: &str, number: Option<usize>) -> Option<(usize, &Value)>
-        ensures { IfSome result (λ f. (f.0 ≡ number_of name.now self.now) × (Some f.1.now ≡ stored name.now self.now)) }
+        ensures { IfSome result (λ f. (f.0 ≡ global_index name.now self.now) × (Some f.1.now ≡ stored name.now self.now)) }
     {
         let index = *self.slots.get(number?)?;
         self.found_at(name, index)
@@ -144,7 +144,7 @@ impl Table {
     /// The global at an index, where it has that name.
     #[inline(always)]
     pub(crate) fn found_at(&self, name: &str, index: usize) -> Option<(usize, &Value)>
-        ensures { IfSome result (λ f. (f.0 ≡ number_of name.now self.now) × (Some f.1.now ≡ stored name.now self.now)) }
+        ensures { IfSome result (λ f. (f.0 ≡ global_index name.now self.now) × (Some f.1.now ≡ stored name.now self.now)) }
     {
         let there = self.names.name(index)?;
         let value = self.values.get(index)?;
@@ -171,7 +171,7 @@ impl Table {
 
     /// The value of the global of a name, by its index; none where there is no such global.
     pub(crate) fn value_at(&self, name: &str, index: usize) -> Option<&Value>
-        requires index { index ≡ number_of name.now self.now }
+        requires index { index ≡ global_index name.now self.now }
         ensures { option_map (λ value. value.now) result ≡ stored name.now self.now }
     {
         self.values.get(index)

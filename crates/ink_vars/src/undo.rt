@@ -4,7 +4,7 @@ ghost use Rattle.std.specs.Prelude.{◌≡◌, ◌≤◌, ◌<◌, ◌+◌, None
 ghost use Rattle.ink_vars.specs.Globals.{set_value_at};
 ghost use Rattle.ink_model.specs.Variables.Store.{store, stored};
 ghost use Rattle.ink_trail.specs.Undo.{KeepsTrail, Trails, TrailsOrKeeps, spare, trail_of};
-ghost use Rattle.ink_vars.specs.Changes.{AreNew, noted_at, number_of};
+ghost use Rattle.ink_vars.specs.Changes.{AreNew, noted_at, global_index};
 ghost use Rattle.ink_vars.specs.Slots.{AreCounts};
 ghost use Rattle.ink_vars.specs.Undo.{Covers, HasSlot, counts_back, global_back, rows_of, with_rows, with_wanted};
 ghost use Rattle.ink_vars.specs.declared.changes.Before.{Before};
@@ -40,12 +40,12 @@ pub(crate) fn put_noted(
     value: Value,
 ) -> Result<(), AllocError>
     requires room { 1 ≤ spare trail.old }
-    requires index { index ≡ number_of name.now table.old }
+    requires index { index ≡ global_index name.now table.old }
     ensures ok { OnOk result (table.new ≡ store name.now value table.old) }
     ensures err { OnErr result (table.new ≡ table.old) }
     ensures memory { OnErr result (is_some (stored name.now table.old) ≡ false) }
     ensures trail { TrailsOrKeeps global_back 1 table.old trail.old table.new trail.new result }
-    ensures covers { (noted : List Before) → is_some (noted_at (number_of name.now table.old) noted) ≡ true → AreNew (length table.old) noted
+    ensures covers { (noted : List Before) → is_some (noted_at (global_index name.now table.old) noted) ≡ true → AreNew (length table.old) noted
         → Covers noted (length table.old) (trail_of trail.old.undo) → Covers noted (length table.new) (trail_of trail.new.undo) }
 {
     if index < table.len() {

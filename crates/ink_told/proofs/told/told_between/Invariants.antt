@@ -3,5 +3,5 @@ use Rattle.ink_host.specs.Desk.{watches}
 use Rattle.ink_model.specs.Host.Told.{told}
 use Rattle.ink_told.proofs.told.told_between.Given as goal
 
-abbrev pub invariant-loop-number : goal.invariant-loop-number
-invariant-loop-number g l = l.told.items ≡ told (watches l.desk.watchers) l.old.rows (take l.number l.new.rows)
+abbrev pub invariant-loop-index : goal.invariant-loop-index
+invariant-loop-index g l = l.told.items ≡ told (watches l.desk.watchers) l.old.rows (take l.index l.new.rows)

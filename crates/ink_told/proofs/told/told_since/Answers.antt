@@ -14,52 +14,52 @@ pub returns-then-not-has_watchers-clause-told : goal.returns-then-not-has_watche
 returns-then-not-has_watchers-clause-told g c =
     c.new.ensures ∙ told_nobody c.args.desk.now.watchers c.args.globals.now.start c.args.globals.now.rows (sym c.has_watchers.ensures ∙ c.if-not-has_watchers.true)
 
-pub returns-in_err-numbers-clause-memory : goal.returns-in_err-numbers-clause-memory
-returns-in_err-numbers-clause-memory g c =
+pub returns-in_err-indices-clause-memory : goal.returns-in_err-indices-clause-memory
+returns-in_err-indices-clause-memory g c =
     let watched = watches c.args.desk.now.watchers in
     on_error c.from_residual.result
-    (told_some_of c.args.globals.now.rows watched c.args.globals.now.start (c.in_err-numbers.ensures.memory watched (λ name answer k. search rules)))
+    (told_some_of c.args.globals.now.rows watched c.args.globals.now.start (c.in_err-indices.ensures.memory watched (λ name answer k. search rules)))
 
--- something is told where a number was found
+-- something is told where an index was found
 is_there : (g : given.Over) (c : In-Some g) → told (watches c.args.desk.now.watchers) c.args.globals.now.start c.args.globals.now.rows ≢ []
 is_there g c =
     let watched = watches c.args.desk.now.watchers in
-    let ns = c.deref-number-items.result.now in
-    let within : c.loop-number.number-index < length ns = omega (arith, c.loop-number-test.true) in
-    told_some_at c.args.globals.now.rows watched c.args.globals.now.start ns c.loop-number.number-index
-    (c.deref-number-items.ensures.value ∙ c.in_ok-numbers.ensures.numbers watched (λ name answer k. search rules)) within
+    let ns = c.deref-index-items.result.now in
+    let within : c.loop-index.index-index < length ns = omega (arith, c.loop-index-test.true) in
+    told_some_at c.args.globals.now.rows watched c.args.globals.now.start ns c.loop-index.index-index
+    (c.deref-index-items.ensures.value ∙ c.in_ok-indices.ensures.indices watched (λ name answer k. search rules)) within
 
 pub returns-in_err-add_change-clause-memory : goal.returns-in_err-add_change-clause-memory
 returns-in_err-add_change-clause-memory g c =
     on_error c.from_residual-in_err-add_change.result (is_there g (goal.at.returns-in_err-add_change-clause-memory g c).In-Some)
 
-pub loop-number-preserved : goal.loop-number-preserved
-loop-number-preserved g c =
+pub loop-index-preserved : goal.loop-index-preserved
+loop-index-preserved g c =
     let now = c.args.globals.now.rows in
-    let ns = c.deref-number-items.result.now in
-    let i = c.loop-number.number-index in
-    let so_far = c.loop-number.told.items in
-    let within : i < length ns = omega (arith, c.loop-number-test.true) in
+    let ns = c.deref-index-items.result.now in
+    let i = c.loop-index.index-index in
+    let so_far = c.loop-index.told.items in
+    let within : i < length ns = omega (arith, c.loop-index-test.true) in
     elim c.match-pair.branch [
       | in-Some+in_ok-add_change w ↦
           let e : List ℕ × Value = (w.in-Some.name.now, w.in-Some.value.now) in
-          told_next now ns i so_far c.match-pair.told.items (Some e) within (sym w.in-Some.ensures) c.loop-number.invariant
+          told_next now ns i so_far c.match-pair.told.items (Some e) within (sym w.in-Some.ensures) c.loop-index.invariant
           (ap (λ v. v.items) w.told-is ∙ w.in_ok-add_change.ensures)
       | in_default w ↦
-          told_next now ns i so_far c.match-pair.told.items None within (sym w.in_default.ensures) c.loop-number.invariant
+          told_next now ns i so_far c.match-pair.told.items None within (sym w.in_default.ensures) c.loop-index.invariant
           (ap (λ v. v.items) w.told-is ∙ sym (append-nil so_far))
     ]
 
 -- all that was picked was told
-all_at : (g : given.Over) (c : After-from_vec g) → c.from_vec.result ≡ told_at c.args.globals.now.rows c.deref-number-items.result.now
+all_at : (g : given.Over) (c : After-from_vec g) → c.from_vec.result ≡ told_at c.args.globals.now.rows c.deref-index-items.result.now
 all_at g c =
-    let ns = c.deref-number-items.result.now in
-    let past : length ns ≤ c.loop-number.number-index = omega (arith, c.loop-number-test.false) in
-    c.from_vec.ensures ∙ c.loop-number.invariant ∙ ap (told_at c.args.globals.now.rows) (take_all c.loop-number.number-index ns past)
+    let ns = c.deref-index-items.result.now in
+    let past : length ns ≤ c.loop-index.index-index = omega (arith, c.loop-index-test.false) in
+    c.from_vec.ensures ∙ c.loop-index.invariant ∙ ap (told_at c.args.globals.now.rows) (take_all c.loop-index.index-index ns past)
 
 pub returns-clause-told : goal.returns-clause-told
 returns-clause-told g c =
     let watched = watches c.args.desk.now.watchers in
     let now = c.args.globals.now.rows in
     all_at g (goal.at.returns-clause-told g c).After-from_vec
-    ∙ ap (told_at now) (c.deref-number-items.ensures.value ∙ c.in_ok-numbers.ensures.numbers watched (λ name answer k. search rules)) ∙ told_changed now watched c.args.globals.now.start
+    ∙ ap (told_at now) (c.deref-index-items.ensures.value ∙ c.in_ok-indices.ensures.indices watched (λ name answer k. search rules)) ∙ told_changed now watched c.args.globals.now.start

@@ -1,6 +1,6 @@
 use Rattle.std.proofs.Common.{◌≡◌, ◌∙◌, ◌<◌, ◌≤◌, ◌++◌, ◌∷◌, [], None, ap, arith, is_some, length, subst, sym, true}
 use Rattle.std.proofs.lemmas.Result.{on_ok_weaker}
-use Rattle.ink_vars.proofs.Common.{Values, store, stored, Tracks, noted_at, number_of, with_noted}
+use Rattle.ink_vars.proofs.Common.{Values, store, stored, Tracks, noted_at, global_index, with_noted}
 use Rattle.ink_vars.proofs.Noting.{either_way, more_noted, none_of, noted, same_noted}
 use Rattle.ink_vars.proofs.Numbers.{number_next, stored_within}
 use Rattle.ink_vars.proofs.changes.Changes.put_new.Goals as goal
@@ -10,11 +10,11 @@ absent : (c : After-is_noted) → stored c.args.name.now c.args.globals.now ≡ 
 absent c = none_of (stored c.args.name.now c.args.globals.now) c.requires.absent
 
 -- a new global has the next number
-is_next : (c : After-is_noted) → c.len-next.result ≡ number_of c.args.name.now c.args.globals.now
+is_next : (c : After-is_noted) → c.len-next.result ≡ global_index c.args.name.now c.args.globals.now
 is_next c = c.len-next.ensures.len ∙ sym (number_next c.args.name.now c.args.globals.now (absent c))
 
 -- whether it was noted
-is_noted : (c : After-is_noted) → is_some (noted_at (number_of c.args.name.now c.args.globals.now) c.args.self.now.noted) ≡ c.is_noted.result
+is_noted : (c : After-is_noted) → is_some (noted_at (global_index c.args.name.now c.args.globals.now) c.args.self.now.noted) ≡ c.is_noted.result
 is_noted c = ap (λ i. is_some (noted_at i c.args.self.now.noted)) (sym (is_next c)) ∙ sym c.is_noted.ensures.noted
 
 -- what the globals were stays known, and each has a slot
@@ -50,7 +50,7 @@ pub add-requires-clause-unnoted : goal.add-requires-clause-unnoted
 add-requires-clause-unnoted c =
     let own = (goal.at.add-requires-clause-unnoted c).After-is_noted in
     ap (noted_at c.len-next.result) c.make_slot.ensures.noted ∙ ap (λ i. noted_at i c.args.self.now.noted) (is_next own)
-    ∙ none_of (noted_at (number_of c.args.name.now c.args.globals.now) c.args.self.now.noted) (is_noted own ∙ c.if-is_noted.false)
+    ∙ none_of (noted_at (global_index c.args.name.now c.args.globals.now) c.args.self.now.noted) (is_noted own ∙ c.if-is_noted.false)
 
 pub returns-clause-noted : goal.returns-clause-noted
 returns-clause-noted c =

@@ -1,6 +1,6 @@
 use Rattle.std.proofs.Common.{◌≡◌, ◌∙◌, ◌≤◌, ap, arith, inl, inr, is_some, length, subst, sym, true}
 use Rattle.std.proofs.lemmas.Result.{on_err_weaker}
-use Rattle.ink_vars.proofs.Common.{trail_of, Tracks, as_they_were, noted_at, number_of, Covers, global_back}
+use Rattle.ink_vars.proofs.Common.{trail_of, Tracks, as_they_were, noted_at, global_index, Covers, global_back}
 use Rattle.ink_vars.proofs.Covering.{covers_noted, is_noted}
 use Rattle.ink_vars.proofs.Either.{either-after}
 use Rattle.ink_vars.proofs.Fitting.{as_it_stood, fits_put, fits_same, tracked}
@@ -8,7 +8,7 @@ use Rattle.ink_vars.proofs.Noting.{either_way}
 use Rattle.ink_vars.proofs.globals.Globals.put_marked_at.Goals as goal
 
 pub note-requires : goal.note-requires
-note-requires c = record { slots = c.self.invariant.0.slots; index = c.requires.index ∙ ap (λ g. number_of c.args.name.now g.rows) (sym c.self.view_is) }
+note-requires c = record { slots = c.self.invariant.0.slots; index = c.requires.index ∙ ap (λ g. global_index c.args.name.now g.rows) (sym c.self.view_is) }
 
 -- the start stays
 stays : (c : goal.After-put_noted) → Tracks (as_they_were c.self.inside.changes.noted 0 c.self.inside.table) c.note.new.self.noted c.put_noted.new.table
@@ -35,8 +35,8 @@ invariant_of-self-in-Ok c =
     let start = as_they_were old.noted 0 now in
     let bs = c.note.new.self.noted in
     let tracks : Tracks start bs now = c.note.ensures.tracks start (tracked old now c.self.invariant.0) in
-    let noted : is_some (noted_at (number_of name now) bs) ≡ true =
-    ap (λ ns. is_some (noted_at (number_of name now) ns)) c.in-Ok.ensures.ok ∙ is_noted name now old.noted in
+    let noted : is_some (noted_at (global_index name now) bs) ≡ true =
+    ap (λ ns. is_some (noted_at (global_index name now) ns)) c.in-Ok.ensures.ok ∙ is_noted name now old.noted in
     let before : Covers old.noted (length now) (trail_of c.ready.new.self.undo) = subst (λ u. Covers old.noted (length now) (trail_of u)) (sym c.ready.ensures.kept.0) c.self.invariant.1 in
     let covers : Covers bs (length now) (trail_of c.ready.new.self.undo) =
     subst (λ ns. Covers ns (length now) (trail_of c.ready.new.self.undo)) (sym c.in-Ok.ensures.ok) (covers_noted name now old.noted (length now) (trail_of c.ready.new.self.undo) before) in (
