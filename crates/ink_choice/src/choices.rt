@@ -12,7 +12,7 @@ ghost use Rattle.ink_trail.specs.Undo.{KeepsTrail, Trails, TrailsOrKeeps, spare,
 use crate::choice::{Choice, copied_tags, copied_text};
 use crate::undo::ChoicePair;
 use ink_model::{Fault, MAX_CHOICES, Seq, Shared, Shown, Text};
-use ink_stack::Threads;
+use ink_stack::{Fork, Threads};
 use ink_trail::Trail;
 use std::alloc::{AllocError, Global};
 use std::marker::Model;
@@ -83,9 +83,45 @@ impl<P: Copy> Choices<P> {
     }
 
     /// Adds a choice of these parts, which keeps a copy of the thread that runs. It is built where it stands. The errors are those of
-    /// `add`.
+    /// `add`. Most threads are a frame alone without temporaries, of which a copy asks for no memory.
     #[inline(always)]
     pub(crate) fn add_forked(
+        &mut self,
+        text: Text,
+        tags: Seq<Shared<Text>>,
+        target: P,
+        hidden: bool,
+        threads: &Threads<P>,
+    ) -> Result<(), Fault>
+        ensures items { let choice : ChoiceOf P = record { text = text; tags = tags; target = target; hidden = hidden; thread = threads.now.threads.thread } in
+            Grows (rules.added choice self.old.items) self.old.items self.new.items result }
+        ensures trail { TrailsOrKeeps choices_back 1 self.old.items self.old.trail self.new.items self.new.trail result }
+        ensures pair { OnOk result (self.new.trail.undo ≡ with_pair ChoicePair.Added 1 self.old.trail.undo) }
+        ensures stood { choices_stood self.new ≡ choices_stood self.old }
+        ensures spare { choices_spare self.old ≤ choices_spare self.new + 1 }
+    {
+        if !threads.is_plain() {
+            return self.add_any(text, tags, target, hidden, threads);
+        }
+        ready_for_one(&mut self.items, &mut self.trail)?;
+        let thread = threads.with_fork(Fork::none(*self.items.allocator()));
+        push_ready(
+            &mut self.items,
+            &mut self.trail,
+            Choice {
+                text,
+                tags,
+                target,
+                hidden,
+                thread,
+            },
+        );
+        Ok(())
+    }
+
+    // The same in any thread.
+    #[inline(never)]
+    fn add_any(
         &mut self,
         text: Text,
         tags: Seq<Shared<Text>>,
@@ -236,7 +272,7 @@ impl<P: Copy> Choices<P> {
             self.clear_marked();
         } else {
             self.settled = 0;
-            self.items.clear();
+            end_all(&mut self.items);
         }
     }
 
@@ -310,6 +346,22 @@ fn note_added<P: Copy>(trail: &mut Trail<ChoicePair<P>>)
     ensures spare { spare trail.old ≤ spare trail.new + 1 }
 {
     trail.note(ChoicePair::Added, 1);
+}
+
+// All choices go. They are taken apart one by one, so that of what owns nothing nothing is copied.
+fn end_all<P: Copy>(items: &mut Vec<Choice<P>>)
+    ensures items { items.new.items ≡ [] }
+    ensures room { vec_capacity items.new ≡ vec_capacity items.old }
+{
+    while let Some(choice) = items.pop() {
+        let Choice {
+            text: _,
+            tags: _,
+            target: _,
+            hidden: _,
+            thread: _,
+        } = choice;
+    }
 }
 
 // Takes the whole list, and leaves an empty one.

@@ -24,6 +24,6 @@ down (p ∷ ps) found = down ps (option_and_then (inside p) found)
 abbrev pub piece_of : List ℕ → List Part → Option Data
 piece_of story parts = down parts (option_and_then (get (codes "root")) (json (unmarked story)))
 
--- a text of some JSON: it reads as that, and has no blanks between its tokens; of JSON without floats there is one such text, the compact one
+-- a text of some JSON: it reads as that, and has no blanks between its tokens; where the JSON has no float, it is byte by byte the compact one
 abbrev pub Spells : Data → List ℕ → Type 0
 Spells d text = (read text ≡ Some d) × (text ≡ print (tokens text)) × (has_float d ≡ false → text ≡ compact_text d)

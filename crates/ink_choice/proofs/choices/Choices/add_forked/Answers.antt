@@ -1,7 +1,6 @@
-use Rattle.std.proofs.Common.{◌≡◌, ◌∙◌, ◌<◌, ◌≤◌, ◌∷◌, ◌++◌, [], ap, arith, length, vec_capacity, Err, inr, refl}
+use Rattle.std.proofs.Common.{◌≡◌, ◌∙◌, ◌<◌, ◌≤◌, ◌∷◌, ◌++◌, [], ap, arith, length, vec_capacity, Err}
 use Rattle.std.proofs.lemmas.Result.{err_from_is_err_and}
 use Rattle.ink_model.specs.Run.Configuration.{ChoiceOf}
-use Rattle.ink_model.specs.declared.fault.Fault.TheVariants.{OutOfMemory}
 use Rattle.ink_trail.specs.Undo.{with_pair}
 use Rattle.ink_trail.proofs.Undoing.{stood-kept, stood-trails, trails-after, trails-one}
 use Rattle.ink_choice.specs.Undo.{choices_back, choices_spare, choices_stood}
@@ -35,26 +34,12 @@ pub returns-in_err-ready_for_one-clause-spare : goal.returns-in_err-ready_for_on
 unfolding choices_spare
 returns-in_err-ready_for_one-clause-spare g c = omega (arith, c.ready_for_one.ensures.spare, ap choices_spare c.self.view_is)
 
--- ---- the thread is not copied
+-- ---- any thread
 
-pub invariant_of-self-in_default : goal.invariant_of-self-in_default
-invariant_of-self-in_default g c = whole-as _ _ _ _ _ _ _ c.ready_for_one.ensures.more c.self.invariant c.ready_for_one.ensures.kept.0 c.ready_for_one.ensures.items
-
-pub returns-in_default-clause-items : goal.returns-in_default-clause-items
-returns-in_default-clause-items g c =
-    rw (c.ready_for_one.ensures.items, ← c.self.view_is) (refused _ c.self.inside.items.items OutOfMemory (inr (refl, c.in_ok-ready_for_one.ensures.few)))
-
-pub returns-in_default-clause-trail : goal.returns-in_default-clause-trail
-returns-in_default-clause-trail g c = rw (← c.self.view_is) (c.ready_for_one.ensures.items, c.ready_for_one.ensures.kept)
-
-pub returns-in_default-clause-stood : goal.returns-in_default-clause-stood
-unfolding choices_stood
-returns-in_default-clause-stood g c =
-    stood-kept choices_back _ _ _ _ c.ready_for_one.ensures.items c.ready_for_one.ensures.kept ∙ ap choices_stood c.self.view_is
-
-pub returns-in_default-clause-spare : goal.returns-in_default-clause-spare
-unfolding choices_spare
-returns-in_default-clause-spare g c = omega (arith, c.ready_for_one.ensures.spare, ap choices_spare c.self.view_is)
+pub returns-then-not-is_plain : goal.returns-then-not-is_plain
+returns-then-not-is_plain g c =
+    let e = c.add_any.ensures in
+    record { items = e.items; trail = e.trail; pair = e.pair; stood = e.stood; spare = e.spare }
 
 -- ---- the choice is added
 

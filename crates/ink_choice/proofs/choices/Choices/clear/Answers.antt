@@ -18,6 +18,6 @@ returns-else-is_marked-clause-spare g c = omega (arith, ap choices_spare c.self.
 
 pub invariant_of-self : goal.invariant_of-self
 invariant_of-self g c =
-    let new = c.clear.new.self in
-    let held = held-empty (vec_capacity new) new.items c.clear.ensures.items in
+    let new = c.end_all.new.items in
+    let held = held-empty (vec_capacity new) new.items c.end_all.ensures.items in
     (held.0, held-unmarked (vec_capacity new) c.self.inside.trail.undo new.items (sym c.is_marked.ensures ∙ c.if-is_marked.false) held, tt)
