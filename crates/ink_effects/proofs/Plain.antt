@@ -10,7 +10,7 @@ use Rattle.ink_model.specs.Text.Page.{Page, tag_section}
 use Rattle.ink_model.specs.Story.Path.{above}
 use Rattle.ink_model.specs.Values.Stack.{applied, popped, pushed}
 use Rattle.ink_model.specs.Run.Step.{control_effect, leaf_effect}
-use Rattle.ink_model.specs.Run.Step.Calls.{return_landing}
+use Rattle.ink_model.specs.Run.Step.Calls.{call, return_landing}
 use Rattle.ink_model.specs.Run.Step.Choices.{offer, offering, was_visited}
 use Rattle.ink_model.specs.Run.Step.Counts.{asking, pushing_count, turns_there, visits_there}
 use Rattle.ink_model.specs.Run.Step.Diverts.{condition, landing_by, led_to, where_true}
@@ -19,11 +19,17 @@ use Rattle.ink_model.specs.Run.Step.Text.{closed_tag, in_tag, keeps_tag, write_t
 use Rattle.ink_model.specs.Run.Step.Variables.{assign, declare, storing}
 use Rattle.ink_model.specs.declared.content.Control.{Control}
 use Rattle.ink_model.specs.declared.content.Control.TheVariants as control
+use Rattle.ink_model.specs.declared.content.Destination.{Destination}
 use Rattle.ink_model.specs.declared.content.Leaf.TheVariants as leaves
 use Rattle.ink_model.specs.declared.fault.Fault.TheVariants.{BadTarget, StackEmpty}
+use Rattle.ink_model.specs.declared.frame.FrameKind.{FrameKind}
+use Rattle.ink_model.specs.declared.frame.FrameKind.TheVariants.{Function, Tunnel}
 use Rattle.ink_model.specs.declared.scope.Scope.{Scope}
 use Rattle.ink_model.specs.declared.value.Value.TheVariants as value
+use Rattle.ink_effects.specs.Frequents.{leaf_of}
 use Rattle.ink_effects.specs.Performs.{AsksToStore, KeepsThreads, KeepsChoices}
+use Rattle.ink_effects.specs.declared.frequent.Frequent.{Frequent}
+use Rattle.ink_effects.specs.declared.frequent.Frequent.TheVariants as frequent
 
 abbrev pub IsPlain : Effect → Type 0
 IsPlain (Stores t f) = ⊥
@@ -122,6 +128,9 @@ value_plain v f = plain_if f.evaluating _ _ (push_plain v f) tt
 where_plain : (conditional : Bool) (f : Fields) (so : Fields → Effect) → ((g : Fields) → IsPlain (so g)) → IsPlain (where_true conditional f so)
 where_plain conditional f so plain = plain_or (condition conditional f) _ (λ r. plain_if r.0 (so r.1) _ (plain r.1) tt)
 
+pub call_plain : (s : StoryTree) (p : List Part) (seen : Context) (k : FrameKind) (to : Destination) (conditional : Bool) (f : Fields) → IsPlain (call k s p seen to conditional f)
+call_plain s p seen k to conditional f = where_plain conditional f _ (λ g. plain_or (led_to s p seen to g.globals) _ (λ l. tt))
+
 pub leaf_plain : (s : StoryTree) (p : List Part) (seen : Context) (l : Leaf) (f : Fields) → IsPlainLeaf l → IsPlain (leaf_effect s p seen l f)
 leaf_plain s p seen (leaves.Text t) f h = plain_if f.evaluating _ _ (push_plain (value.Text t) f) (text_plain _ _ f)
 leaf_plain s p seen leaves.Newline f h = plain_if f.evaluating _ _ (push_plain _ f) (write_plain _ f)
@@ -138,8 +147,8 @@ leaf_plain s p seen (leaves.Declare name) f h = absurd h
 leaf_plain s p seen (leaves.Assign name) f h = absurd h
 leaf_plain s p seen (leaves.Variable name) f h = plain_or (read f.globals seen.thread name) _ (λ v. push_plain v f)
 leaf_plain s p seen (leaves.Pointer name frame) f h = value_plain _ f
-leaf_plain s p seen (leaves.Call to conditional) f h = where_plain conditional f _ (λ g. plain_or (led_to s p seen to g.globals) _ (λ l. tt))
-leaf_plain s p seen (leaves.Tunnel to conditional) f h = where_plain conditional f _ (λ g. plain_or (led_to s p seen to g.globals) _ (λ l. tt))
+leaf_plain s p seen (leaves.Call to conditional) f h = call_plain s p seen Function to conditional f
+leaf_plain s p seen (leaves.Tunnel to conditional) f h = call_plain s p seen Tunnel to conditional f
 leaf_plain s p seen (leaves.External name arguments conditional) f h = tt
 leaf_plain s p seen (leaves.DeclareTemp name) f h = absurd h
 leaf_plain s p seen (leaves.AssignTemp name) f h = absurd h
@@ -192,3 +201,20 @@ module _ (s : StoryTree) (threads : ThreadsOf Spot) where
 pub when_ok : {A : Type 0} (r : Result A Fault) (B : Type 0) → B → OnOk r B
 when_ok (Ok a) B b = b
 when_ok (Err f) B b = tt
+
+-- ---- content of the most frequent kinds
+
+pub frequent_plain : (c : Frequent) → IsPlainLeaf (leaf_of c)
+frequent_plain frequent.Newline = tt
+frequent_plain (frequent.Int z) = tt
+frequent_plain frequent.Void = tt
+frequent_plain (frequent.Op o) = tt
+frequent_plain (frequent.Variable name) = tt
+frequent_plain frequent.BeginEval = tt
+frequent_plain frequent.EndEval = tt
+frequent_plain frequent.Pop = tt
+frequent_plain frequent.Nop = tt
+frequent_plain frequent.BeginString = tt
+frequent_plain frequent.EndString = tt
+frequent_plain frequent.BeginTag = tt
+frequent_plain frequent.EndTag = tt

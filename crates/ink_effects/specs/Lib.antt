@@ -1,6 +1,7 @@
 pub mod Standing
 pub mod Marks
 pub mod Flows
+pub mod Frequents
 pub mod Performs
 pub mod External
 pub mod Refusals

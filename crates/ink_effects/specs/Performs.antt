@@ -9,12 +9,14 @@ use Rattle.ink_model.specs.Text.Page.{Page}
 use Rattle.ink_model.specs.Variables.Store.{Values, store, stored}
 use Rattle.ink_model.specs.Story.Tree.{StoryTree}
 use Rattle.ink_model.specs.declared.fault.Fault.{Fault}
+use Rattle.ink_model.specs.declared.frame.FrameKind.TheVariants.{Tunnel}
 use Rattle.ink_model.specs.declared.value.Value.{Value}
 use Rattle.ink_model.specs.declared.place.Part.{Part}
 use Rattle.ink_effects.specs.declared.transfer.Landing.{Landing}
 use Rattle.ink_effects.specs.declared.transfer.Transfer.{Transfer}
 use Rattle.ink_effects.specs.declared.transfer.Transfer.TheVariants as transfer
 use Rattle.ink_stack.specs.Calls.{frame_kind}
+use Rattle.ink_stack.specs.declared.frame.CallKind.{CallKind}
 use Rattle.ink_tree.specs.Nodes.{place_of}
 use Rattle.ink_tree.specs.declared.spot.Spot.{Spot}
 use Rattle.ink_vars.specs.Outcomes.{name_of}
@@ -114,6 +116,23 @@ leading (Err f) to = Err f
 -- it goes on
 abbrev pub moving : Result (Unit {0}) Fault → Result Transfer Fault
 moving outcome = leading outcome transfer.Next
+
+-- it lands where a divert leads, or goes on
+abbrev pub diverting : Result (Option Landing) Fault → Result Transfer Fault
+diverting (Ok None) = Ok transfer.Next
+diverting (Ok (Some to)) = Ok (transfer.Land to)
+diverting (Err f) = Err f
+
+-- or where a call leads, in a frame of its kind
+abbrev pub calling : CallKind → Result (Option Landing) Fault → Result Transfer Fault
+calling kind (Ok None) = Ok transfer.Next
+calling kind (Ok (Some to)) = Ok (transfer.Call kind to)
+calling kind (Err f) = Err f
+
+-- it goes back to where a tunnel leads
+abbrev pub returning : Result (Option Landing) Fault → Result Transfer Fault
+returning (Ok to) = Ok (transfer.Return Tunnel to)
+returning (Err f) = Err f
 
 -- the same of what may have written a text
 abbrev pub after_text : Result Bool Fault → Result Transfer Fault

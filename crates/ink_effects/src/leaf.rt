@@ -14,7 +14,7 @@ use crate::calls::call;
 use crate::choices::offer;
 use crate::control::perform_control;
 use crate::counts::push_count;
-use crate::diverts::{divert, number_of};
+use crate::diverts::{number_of, perform_divert};
 use crate::evaluation::{operate, push_target, push_value};
 use crate::sections::write_tag;
 use crate::shared::Shared;
@@ -89,7 +89,7 @@ pub fn perform_leaf<'a>(
             alloc, story, here, *control, flow, output, shared, transfer,
         ),
         Leaf::Op(operator) => operate(alloc, &mut flow.stack, *operator),
-        Leaf::Divert { to, conditional } => divert(
+        Leaf::Divert { to, conditional } => perform_divert(
             story,
             here,
             to,

@@ -23,7 +23,7 @@ use std::alloc::Global;
 /// A text is pushed in evaluation mode, and written outside it. Whether a text was written.
 #[tactic(auto, unfolding(ink_model::specs::Values::Value::printed))]
 #[inline(never)]
-pub(crate) fn write_text(
+pub fn write_text(
     stack: &mut EvalStack,
     output: &mut Output,
     evaluating: bool,

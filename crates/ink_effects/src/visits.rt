@@ -113,8 +113,9 @@ pub fn enter_passed<'a>(
     Ok((here, found))
 }
 
-/// The containers around a place are entered in a turn where flow lands there from another place. The one error is a refused
-/// request for memory, which is made only for a row that is not there, and where a mark stands and there is no room for the
+/// The containers around a place are entered in a turn where flow lands there from another place: those of `entered_places`, among
+/// which is none with the flag 4 in whose middle the place is, so that `all_visited` counts each as at its start. The one error is a
+/// refused request for memory, which is made only for a row that is not there, and where a mark stands and there is no room for the
 /// notes; nothing has changed then.
 #[inline(always)]
 pub fn enter_landed(

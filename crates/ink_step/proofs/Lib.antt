@@ -14,6 +14,7 @@ pub mod Shows
 pub mod Chosen
 pub mod Makes
 pub mod Finished
+pub mod Direct
 pub mod Backs
 pub mod Marked
 pub mod Owned

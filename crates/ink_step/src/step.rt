@@ -6,7 +6,7 @@ ghost use Rattle.std.specs.Prelude.{◌≡◌, ◌⊎◌, ◌||◌, Bool, List, 
 ghost use Rattle.ink_check.specs.Standing.{story_tree};
 ghost use Rattle.ink_host.specs.Desk.{Grew, bound_by};
 ghost use Rattle.ink_host.specs.Telling.{log_of};
-ghost use Rattle.ink_model.specs.Memory.Asks.{acting_asks, calling_asks, external_asks};
+ghost use Rattle.ink_model.specs.Memory.Asks.{calling_asks, external_asks};
 ghost use Rattle.ink_model.specs.Choices.Choosing.{following, following_asks};
 ghost use Rattle.ink_model.specs.Run.Effect.{Effect, Fields, context_of, fields_of};
 ghost use Rattle.ink_model.specs.Flow.Transfers.{called, moved_on, reach, returned};
@@ -17,9 +17,12 @@ ghost use Rattle.ink_model.specs.Run.Move.{Outcome, going, landing_outcome, may_
 ghost use Rattle.ink_model.specs.Memory.Moves.{landed_asks, move_asks, moved_asks, returned_asks};
 ghost use Rattle.ink_model.specs.Run.Place.{next_place};
 ghost use Rattle.ink_model.specs.Run.Step.{acted, call_made, effect, step};
+ghost use Rattle.ink_model.specs.Run.Step.Calls as calls;
+ghost use Rattle.ink_model.specs.Run.Step.Diverts as diverts;
 ghost use Rattle.ink_model.specs.Run.Step.Host.{call_at, call_external};
 ghost use Rattle.ink_model.specs.Run.Step.Variables as effects;
 ghost use Rattle.ink_model.specs.Flow.Threads.{frame_count, staled};
+ghost use Rattle.ink_model.specs.Story.Acceptance.{lands_to, written_target};
 ghost use Rattle.ink_model.specs.Story.Tree.{StoryTree, at, leaf};
 ghost use Rattle.ink_model.specs.Memory.Variables.{is_pointer};
 ghost use Rattle.ink_model.specs.declared.host.Event.{Event as Happening};
@@ -28,9 +31,10 @@ ghost use Rattle.ink_model.specs.declared.scope.Scope.TheVariants as scope;
 ghost use Rattle.ink_stack.specs.Calls.{frame_kind};
 ghost use Rattle.ink_step.specs.Stores.{StoresAtOnce};
 ghost use Rattle.ink_step.specs.Marks.{NotesOwn, keeps_mark, pressed, presses, stack_lacks, stood_of, takes_there, threads_lack};
-ghost use Rattle.ink_step.specs.Finishes.{Finishes};
+ghost use Rattle.ink_step.specs.Finishes.{Acts, ActsThere, Finishes};
 ghost use Rattle.ink_effects.specs.Performs.{AsksToStore, KeepsThreads, KeepsChoices, Performs, landing_of, leading, storing_in, unstored};
 ghost use Rattle.ink_effects.specs.External.{call_of};
+ghost use Rattle.ink_effects.specs.Frequents.{leaf_of};
 ghost use Rattle.ink_effects.specs.Refusals.{StepStopsAtRefusal};
 ghost use Rattle.ink_step.specs.Steps.{EndsPlainly, StepEnds, StepMakes, Steps, step_end, wants};
 ghost use Rattle.ink_step.specs.Standing.{aside_in, config_of, globals_of, start_of};
@@ -43,11 +47,12 @@ ghost use Rattle.ink_vars.specs.Undo.{globals_stood};
 use crate::machine::Machine;
 use ink_check::Story;
 use ink_effects::{
-    External, Landing, Transfer, call_external, external_in, is_external, number_of, perform_leaf,
-    ready_choices, ready_stack, ready_threads, take, top, would_call,
+    External, Frequent, Landing, Transfer, call_external, external_in, frequent_kind, is_external,
+    number_of, perform_frequent, perform_leaf, ready_choices, ready_stack, ready_threads, take,
+    top, tunnel_landing, wanted_landing, would_call, write_text,
 };
 use ink_host::{Desk, PureFn, TurnFn, Watcher};
-use ink_model::{Fault, FrameKind, Leaf, Shared, Text, Value};
+use ink_model::{Control, Destination, Fault, FrameKind, Leaf, Shared, Text, Value};
 use ink_moves::{MOVING, StepEnd, done, end, fork, land, move_on, move_to, next_of, return_frame};
 use ink_stack::CallKind;
 use ink_trail::Undo;
@@ -83,11 +88,11 @@ impl Machine {
         ensures mark { stood_of self.new ≡ stood_of self.old }
     {
         let Some(place) = self.flow.threads.place() else {
-            return Ok(StepEnd::Stopped);
+            return self.step_in(story, desk, quiet);
         };
         match story.tree().leaf_at(place) {
             Some(content) if !is_external(content) => self.pass(story, place, content),
-            _ => self.step_in(story, desk, quiet, place),
+            _ => self.step_in(story, desk, quiet),
         }
     }
 
@@ -113,16 +118,14 @@ impl Machine {
         }
     }
 
-    // The step from a place where flow is, by the whole way.
+    // The same by the whole way.
     #[inline(never)]
     fn step_in<P: PureFn, T: TurnFn, W: Watcher>(
         &mut self,
         story: &Story,
         desk: &mut Desk<P, T, W>,
         quiet: bool,
-        place: Spot,
     ) -> Result<StepEnd, Fault>
-        requires at { self.old.flow.threads.threads.thread.frame.place ≡ Some place }
         ensures step { let s = story_tree story.now in let b = bound_by P.meaning desk.old.functions in let c = config_of s self.old in
             (es : List Happening) × Grew T.log (log_of W.state) desk.old es desk.new × Steps quiet s b desk.old.next (presses s self.old self.new) (asks s b c) (step s b c) es (globals_of self.old) c (config_of s self.new) result }
         ensures refusals { StepStopsAtRefusal T.refusals desk.old desk.new result }
@@ -134,6 +137,9 @@ impl Machine {
         ensures aside { aside_in self.new ≡ aside_in self.old }
         ensures mark { stood_of self.new ≡ stood_of self.old }
     {
+        let Some(place) = self.flow.threads.place() else {
+            return Ok(StepEnd::Stopped);
+        };
         if quiet && self.wants_call(story, desk, place) {
             return Ok(StepEnd::WantsCall);
         }
@@ -227,39 +233,224 @@ impl Machine {
         self.finish(story, &mut transfer)
     }
 
-    /// What stands where flow is has its effect, and flow moves; where it stops it may follow a choice.
+    /// What stands where flow is has its effect, and flow moves; where it stops it may follow a choice. An empty container, or nothing,
+    /// is passed over.
     #[inline(always)]
     fn act(&mut self, story: &Story, here: Spot, found: Option<&Leaf>) -> Result<StepEnd, Fault>
+        requires at { self.old.flow.threads.threads.thread.frame.place ≡ Some here }
         requires stands { let s = story_tree story.now in option_map (λ l. l.now) found ≡ leaf_in (at s (place_of s here)) }
         requires stack_room { length self.old.flow.stack.items + 2 ≤ stack_spare self.old.flow.stack }
         requires room { MOVING + 8 ≤ threads_spare self.old.flow.threads }
-        ensures ends { let s = story_tree story.now in let p = place_of s here in let stands = option_map (λ l. leaf l.now) found.entry in let c = config_of s self.old in
-            let e = effect s p stands (context_of c) (fields_of c) in
-            StepEnds (((takes_there stands && keeps_mark (stood_of self.old)) || pressed s self.new) || acting_asks s (content_asks s p stands (context_of c) (fields_of c)) e c) (acted s e c) self.old.shared.globals.rows (config_of s self.new) result }
+        ensures ends { let s = story_tree story.now in ActsThere s (place_of s here) (option_map (λ l. leaf l.now) found.entry) self.old self.new result }
         ensures start { start_of self.new ≡ start_of self.old }
         ensures own { NotesOwn 1 self.old.trail self.new.trail }
         ensures aside { aside_in self.new ≡ aside_in self.old }
         ensures mark { stood_of self.new ≡ stood_of self.old }
     {
-        let mut transfer = Transfer::Next;
-        self.perform(story, here, found, &mut transfer)?;
-        let Some(next) = self.next_after(story, &transfer) else {
-            return self.finish(story, &mut transfer);
-        };
-        self.go_to_next(story, next);
-        Ok(StepEnd::Went)
+        match found {
+            Some(content) => self.act_here(story, here, content),
+            None => self.finish_next(story),
+        }
     }
 
-    /// The same of content that holds no other and calls nothing. What stores a global has a function of its own, which mostly stores
-    /// at once.
+    /// The same of content that holds no other and calls nothing. What content does is said by its effect alone, and `act_by_transfer`
+    /// serves for all of it; frequent content has a way of its own, which knows where flow goes and asks no transfer.
     #[inline(always)]
     fn act_here(&mut self, story: &Story, here: Spot, content: &Leaf) -> Result<StepEnd, Fault>
+        requires at { self.old.flow.threads.threads.thread.frame.place ≡ Some here }
         requires stands { let s = story_tree story.now in Some content.now ≡ leaf_in (at s (place_of s here)) }
         requires stack_room { length self.old.flow.stack.items + 2 ≤ stack_spare self.old.flow.stack }
         requires room { MOVING + 8 ≤ threads_spare self.old.flow.threads }
-        ensures ends { let s = story_tree story.now in let p = place_of s here in let stands = Some (leaf content.now) in let c = config_of s self.old in
-            let e = effect s p stands (context_of c) (fields_of c) in
-            StepEnds (((takes_there stands && keeps_mark (stood_of self.old)) || pressed s self.new) || acting_asks s (content_asks s p stands (context_of c) (fields_of c)) e c) (acted s e c) self.old.shared.globals.rows (config_of s self.new) result }
+        ensures ends { let s = story_tree story.now in ActsThere s (place_of s here) (Some (leaf content.now)) self.old self.new result }
+        ensures start { start_of self.new ≡ start_of self.old }
+        ensures own { NotesOwn 1 self.old.trail self.new.trail }
+        ensures aside { aside_in self.new ≡ aside_in self.old }
+        ensures mark { stood_of self.new ≡ stood_of self.old }
+    {
+        match content {
+            Leaf::Text(text) => self.act_text(story, here, text),
+            Leaf::Divert { to, conditional } => self.act_divert(story, here, to, *conditional),
+            Leaf::Call { to, conditional } => self.act_call(
+                story,
+                here,
+                CallKind::Function,
+                to,
+                *conditional,
+            ),
+            Leaf::Tunnel { to, conditional } => self.act_call(
+                story,
+                here,
+                CallKind::Tunnel,
+                to,
+                *conditional,
+            ),
+            _ => match frequent_kind(content) {
+                Some(frequent) => self.act_frequent(story, here, frequent),
+                None => self.act_other(story, here, content),
+            },
+        }
+    }
+
+    // The same of a text.
+    #[inline(never)]
+    fn act_text(&mut self, story: &Story, here: Spot, text: &Shared<Text>) -> Result<StepEnd, Fault>
+        requires at { self.old.flow.threads.threads.thread.frame.place ≡ Some here }
+        requires room { MOVING + 4 ≤ threads_spare self.old.flow.threads }
+        ensures ends { let s = story_tree story.now in ActsThere s (place_of s here) (Some (leaf (Leaf.Text text.now))) self.old self.new result }
+        ensures start { start_of self.new ≡ start_of self.old }
+        ensures own { NotesOwn 1 self.old.trail self.new.trail }
+        ensures aside { aside_in self.new ≡ aside_in self.old }
+        ensures mark { stood_of self.new ≡ stood_of self.old }
+    {
+        match write_text(
+            &mut self.flow.stack,
+            &mut self.output,
+            self.flow.threads.is_evaluating(),
+            self.flow.threads.fresh_depth(),
+            text,
+        ) {
+            Ok(true) => self.finish_text(story),
+            Ok(false) => self.go_after(story, here),
+            Err(fault) => Err(fault),
+        }
+    }
+
+    // The same of a divert: flow lands at once, or goes on.
+    #[inline(always)]
+    fn act_divert(
+        &mut self,
+        story: &Story,
+        here: Spot,
+        to: &Destination,
+        conditional: bool,
+    ) -> Result<StepEnd, Fault>
+        requires at { self.old.flow.threads.threads.thread.frame.place ≡ Some here }
+        requires path { let s = story_tree story.now in written_target s (place_of s here) ≡ lands_to s (place_of s here) to.now }
+        requires stack_room { 1 ≤ stack_spare self.old.flow.stack }
+        requires room { MOVING + 4 ≤ threads_spare self.old.flow.threads }
+        ensures ends { let s = story_tree story.now in let c = config_of s self.old in Acts s false (diverts.divert s (place_of s here) (context_of c) to.now conditional (fields_of c)) self.old self.new result }
+        ensures start { start_of self.new ≡ start_of self.old }
+        ensures own { NotesOwn 1 self.old.trail self.new.trail }
+        ensures aside { aside_in self.new ≡ aside_in self.old }
+        ensures mark { stood_of self.new ≡ stood_of self.old }
+    {
+        match wanted_landing(
+            story,
+            here,
+            to,
+            conditional,
+            &mut self.flow.stack,
+            &self.shared.globals,
+            &self.flow.threads,
+        ) {
+            Ok(Some(landing)) => self.finish_divert(story, landing),
+            Ok(None) => self.go_after(story, here),
+            Err(fault) => Err(fault),
+        }
+    }
+
+    // The same of a call or a tunnel: flow lands at once in a frame of this kind, or goes on.
+    #[inline(never)]
+    fn act_call(
+        &mut self,
+        story: &Story,
+        here: Spot,
+        kind: CallKind,
+        to: &Destination,
+        conditional: bool,
+    ) -> Result<StepEnd, Fault>
+        requires at { self.old.flow.threads.threads.thread.frame.place ≡ Some here }
+        requires path { let s = story_tree story.now in written_target s (place_of s here) ≡ lands_to s (place_of s here) to.now }
+        requires stack_room { 1 ≤ stack_spare self.old.flow.stack }
+        requires room { MOVING + 4 ≤ threads_spare self.old.flow.threads }
+        ensures ends { let s = story_tree story.now in let c = config_of s self.old in Acts s false (calls.call (frame_kind kind) s (place_of s here) (context_of c) to.now conditional (fields_of c)) self.old self.new result }
+        ensures start { start_of self.new ≡ start_of self.old }
+        ensures own { NotesOwn 1 self.old.trail self.new.trail }
+        ensures aside { aside_in self.new ≡ aside_in self.old }
+        ensures mark { stood_of self.new ≡ stood_of self.old }
+    {
+        match wanted_landing(
+            story,
+            here,
+            to,
+            conditional,
+            &mut self.flow.stack,
+            &self.shared.globals,
+            &self.flow.threads,
+        ) {
+            Ok(Some(landing)) => self.finish_call(story, kind, landing),
+            Ok(None) => self.go_after(story, here),
+            Err(fault) => Err(fault),
+        }
+    }
+
+    // The same of the return of a function.
+    #[inline(never)]
+    fn act_return(&mut self, story: &Story) -> Result<StepEnd, Fault>
+        requires room { MOVING + 4 ≤ threads_spare self.old.flow.threads }
+        ensures ends { let s = story_tree story.now in Acts s false (calls.return_function (fields_of (config_of s self.old))) self.old self.new result }
+        ensures start { start_of self.new ≡ start_of self.old }
+        ensures own { NotesOwn 1 self.old.trail self.new.trail }
+        ensures aside { aside_in self.new ≡ aside_in self.old }
+        ensures mark { stood_of self.new ≡ stood_of self.old }
+    {
+        self.finish_return(story, FrameKind::Function, None)
+    }
+
+    // The same of the return of a tunnel.
+    #[inline(never)]
+    fn act_return_tunnel(&mut self, story: &Story) -> Result<StepEnd, Fault>
+        requires stack_room { 1 ≤ stack_spare self.old.flow.stack }
+        requires room { MOVING + 4 ≤ threads_spare self.old.flow.threads }
+        ensures ends { let s = story_tree story.now in Acts s false (calls.return_tunnel s (fields_of (config_of s self.old))) self.old self.new result }
+        ensures start { start_of self.new ≡ start_of self.old }
+        ensures own { NotesOwn 1 self.old.trail self.new.trail }
+        ensures aside { aside_in self.new ≡ aside_in self.old }
+        ensures mark { stood_of self.new ≡ stood_of self.old }
+    {
+        match tunnel_landing(story, &mut self.flow.stack) {
+            Ok(landing) => self.finish_return(story, FrameKind::Tunnel, landing),
+            Err(fault) => Err(fault),
+        }
+    }
+
+    // The same of content of the kinds after which flow goes on.
+    #[inline(always)]
+    fn act_frequent(
+        &mut self,
+        story: &Story,
+        here: Spot,
+        content: Frequent<'_>,
+    ) -> Result<StepEnd, Fault>
+        requires at { self.old.flow.threads.threads.thread.frame.place ≡ Some here }
+        requires stack_room { length self.old.flow.stack.items + 2 ≤ stack_spare self.old.flow.stack }
+        requires room { MOVING + 8 ≤ threads_spare self.old.flow.threads }
+        ensures ends { let s = story_tree story.now in ActsThere s (place_of s here) (Some (leaf (leaf_of content.entry))) self.old self.new result }
+        ensures start { start_of self.new ≡ start_of self.old }
+        ensures own { NotesOwn 1 self.old.trail self.new.trail }
+        ensures aside { aside_in self.new ≡ aside_in self.old }
+        ensures mark { stood_of self.new ≡ stood_of self.old }
+    {
+        perform_frequent(
+            self.alloc,
+            story,
+            here,
+            content,
+            &mut self.flow,
+            &mut self.output,
+            &self.shared,
+        )?;
+        self.go_after(story, here)
+    }
+
+    // The same of other content. What stores a global has a function of its own, which mostly stores at once.
+    #[inline(always)]
+    fn act_other(&mut self, story: &Story, here: Spot, content: &Leaf) -> Result<StepEnd, Fault>
+        requires at { self.old.flow.threads.threads.thread.frame.place ≡ Some here }
+        requires stands { let s = story_tree story.now in Some content.now ≡ leaf_in (at s (place_of s here)) }
+        requires stack_room { length self.old.flow.stack.items + 2 ≤ stack_spare self.old.flow.stack }
+        requires room { MOVING + 8 ≤ threads_spare self.old.flow.threads }
+        ensures ends { let s = story_tree story.now in ActsThere s (place_of s here) (Some (leaf content.now)) self.old self.new result }
         ensures start { start_of self.new ≡ start_of self.old }
         ensures own { NotesOwn 1 self.old.trail self.new.trail }
         ensures aside { aside_in self.new ≡ aside_in self.old }
@@ -269,8 +460,61 @@ impl Machine {
             Leaf::Assign(name) | Leaf::Declare(name) => self.act_storing(
                 story, here, content, name,
             ),
-            _ => self.act(story, here, Some(content)),
+            Leaf::Control(control) => self.act_control(story, here, content, *control),
+            _ => self.act_by_transfer(story, here, content),
         }
+    }
+
+    // The same of control content of other kinds: a return comes back at once.
+    #[inline(always)]
+    fn act_control(
+        &mut self,
+        story: &Story,
+        here: Spot,
+        content: &Leaf,
+        control: Control,
+    ) -> Result<StepEnd, Fault>
+        requires is { content.now ≡ Leaf.Control control }
+        requires stands { let s = story_tree story.now in Some content.now ≡ leaf_in (at s (place_of s here)) }
+        requires stack_room { length self.old.flow.stack.items + 2 ≤ stack_spare self.old.flow.stack }
+        requires room { MOVING + 8 ≤ threads_spare self.old.flow.threads }
+        ensures ends { let s = story_tree story.now in ActsThere s (place_of s here) (Some (leaf content.now)) self.old self.new result }
+        ensures start { start_of self.new ≡ start_of self.old }
+        ensures own { NotesOwn 1 self.old.trail self.new.trail }
+        ensures aside { aside_in self.new ≡ aside_in self.old }
+        ensures mark { stood_of self.new ≡ stood_of self.old }
+    {
+        match control {
+            Control::Return => self.act_return(story),
+            Control::ReturnTunnel => self.act_return_tunnel(story),
+            _ => self.act_by_transfer(story, here, content),
+        }
+    }
+
+    // The same of any such content, which tells by a transfer where flow goes.
+    #[inline(never)]
+    fn act_by_transfer(
+        &mut self,
+        story: &Story,
+        here: Spot,
+        content: &Leaf,
+    ) -> Result<StepEnd, Fault>
+        requires stands { let s = story_tree story.now in Some content.now ≡ leaf_in (at s (place_of s here)) }
+        requires stack_room { length self.old.flow.stack.items + 2 ≤ stack_spare self.old.flow.stack }
+        requires room { MOVING + 8 ≤ threads_spare self.old.flow.threads }
+        ensures ends { let s = story_tree story.now in ActsThere s (place_of s here) (Some (leaf content.now)) self.old self.new result }
+        ensures start { start_of self.new ≡ start_of self.old }
+        ensures own { NotesOwn 1 self.old.trail self.new.trail }
+        ensures aside { aside_in self.new ≡ aside_in self.old }
+        ensures mark { stood_of self.new ≡ stood_of self.old }
+    {
+        let mut transfer = Transfer::Next;
+        self.perform(story, here, content, &mut transfer)?;
+        let Some(next) = self.next_after(story, &transfer) else {
+            return self.finish(story, &mut transfer);
+        };
+        self.go_to_next(story, next);
+        Ok(StepEnd::Went)
     }
 
     // The same of content that assigns to a name, or declares it as a global.
@@ -282,13 +526,12 @@ impl Machine {
         content: &Leaf,
         name: &Shared<Text>,
     ) -> Result<StepEnd, Fault>
+        requires at { self.old.flow.threads.threads.thread.frame.place ≡ Some here }
         requires is { (content.now ≡ Leaf.Assign name.now) ⊎ (content.now ≡ Leaf.Declare name.now) }
         requires stands { let s = story_tree story.now in Some content.now ≡ leaf_in (at s (place_of s here)) }
         requires stack_room { length self.old.flow.stack.items + 2 ≤ stack_spare self.old.flow.stack }
         requires room { MOVING + 8 ≤ threads_spare self.old.flow.threads }
-        ensures ends { let s = story_tree story.now in let p = place_of s here in let stands = Some (leaf content.now) in let c = config_of s self.old in
-            let e = effect s p stands (context_of c) (fields_of c) in
-            StepEnds (((takes_there stands && keeps_mark (stood_of self.old)) || pressed s self.new) || acting_asks s (content_asks s p stands (context_of c) (fields_of c)) e c) (acted s e c) self.old.shared.globals.rows (config_of s self.new) result }
+        ensures ends { let s = story_tree story.now in ActsThere s (place_of s here) (Some (leaf content.now)) self.old self.new result }
         ensures start { start_of self.new ≡ start_of self.old }
         ensures own { NotesOwn 1 self.old.trail self.new.trail }
         ensures aside { aside_in self.new ≡ aside_in self.old }
@@ -296,28 +539,11 @@ impl Machine {
     {
         match self.stored_at_once(story, here, name) {
             Some((next, index)) => self.store_at_once(story, name, next, index),
-            None => self.act_apart(story, here, content),
+            None => self.act_by_transfer(story, here, content),
         }
     }
 
-    // The same of any such content, by the whole way.
-    #[inline(never)]
-    fn act_apart(&mut self, story: &Story, here: Spot, content: &Leaf) -> Result<StepEnd, Fault>
-        requires stands { let s = story_tree story.now in Some content.now ≡ leaf_in (at s (place_of s here)) }
-        requires stack_room { length self.old.flow.stack.items + 2 ≤ stack_spare self.old.flow.stack }
-        requires room { MOVING + 8 ≤ threads_spare self.old.flow.threads }
-        ensures ends { let s = story_tree story.now in let p = place_of s here in let stands = Some (leaf content.now) in let c = config_of s self.old in
-            let e = effect s p stands (context_of c) (fields_of c) in
-            StepEnds (((takes_there stands && keeps_mark (stood_of self.old)) || pressed s self.new) || acting_asks s (content_asks s p stands (context_of c) (fields_of c)) e c) (acted s e c) self.old.shared.globals.rows (config_of s self.new) result }
-        ensures start { start_of self.new ≡ start_of self.old }
-        ensures own { NotesOwn 1 self.old.trail self.new.trail }
-        ensures aside { aside_in self.new ≡ aside_in self.old }
-        ensures mark { stood_of self.new ≡ stood_of self.old }
-    {
-        self.act(story, here, Some(content))
-    }
-
-    // The place after the one where flow is, and the number of the global of a name in order of declaration, where a value can be stored
+    // The place after the one where flow is, and the index of the global of a name, where a value can be stored
     // in it at once: it is found by its number and holds no pointer, and a value that is none lies on the stack.
     #[inline(always)]
     fn stored_at_once(
@@ -326,9 +552,10 @@ impl Machine {
         here: Spot,
         name: &Shared<Text>,
     ) -> Option<(Spot, usize)>
+        requires at { self.now.flow.threads.threads.thread.frame.place ≡ Some here }
         ensures { IfSome result (λ r. StoresAtOnce (story_tree story.now) self.now name.now r.0 r.1) }
     {
-        let next = next_of(story.tree(), &self.flow.threads)?;
+        let next = self.place_after(story, here)?;
         let (index, global) = self
             .shared
             .globals
@@ -412,6 +639,34 @@ impl Machine {
         }
     }
 
+    /// Flow goes on after the content at the place where it is.
+    #[inline(always)]
+    fn go_after(&mut self, story: &Story, here: Spot) -> Result<StepEnd, Fault>
+        requires at { self.old.flow.threads.threads.thread.frame.place ≡ Some here }
+        requires room { MOVING + 4 ≤ threads_spare self.old.flow.threads }
+        ensures ends { Finishes (story_tree story.now) self.old Transfer.Next self.new result }
+        ensures start { start_of self.new ≡ start_of self.old }
+        ensures own { NotesOwn 1 self.old.trail self.new.trail }
+        ensures aside { aside_in self.new ≡ aside_in self.old }
+        ensures mark { stood_of self.new ≡ stood_of self.old }
+    {
+        let Some(next) = self.place_after(story, here) else {
+            return self.finish_next(story);
+        };
+        self.go_to_next(story, next);
+        Ok(StepEnd::Went)
+    }
+
+    /// The place after the one where flow is, which is known, if there is one.
+    #[inline(always)]
+    fn place_after(&self, story: &Story, here: Spot) -> Option<Spot>
+        requires at { self.now.flow.threads.threads.thread.frame.place ≡ Some here }
+        ensures { let s = story_tree story.now in
+            IfSome result (λ next. option_and_then (next_place s) (place_in (map_threads (place_of s) self.now.flow.threads.threads)) ≡ Some (place_of s next)) }
+    {
+        story.tree().next(here)
+    }
+
     /// Flow goes on to the place after its own, which is known.
     #[inline(always)]
     fn go_to_next(&mut self, story: &Story, next: Spot)
@@ -428,8 +683,8 @@ impl Machine {
         move_to(story.tree(), &mut self.flow.threads, next);
     }
 
-    /// After a content was performed flow goes where it sends it, and a global is stored. Each way but that of `end` has a function of
-    /// its own, in which the compiler drops the others.
+    /// After a content was performed flow goes where it sends it, and a global is stored. The ways of frequent content have functions
+    /// of their own, in which the compiler drops the others.
     #[inline(always)]
     fn finish(&mut self, story: &Story, transfer: &mut Transfer<'_>) -> Result<StepEnd, Fault>
         requires room { MOVING + 4 ≤ threads_spare self.old.flow.threads }
@@ -441,19 +696,18 @@ impl Machine {
     {
         match transfer {
             Transfer::Wrote => self.finish_text(story),
-            Transfer::Land(to) => self.finish_divert(story, to),
             Transfer::Store(..) => self.finish_stored(story, transfer),
-            Transfer::Call(kind, to) => self.finish_call(story, *kind, to),
-            Transfer::Return(kind, to) => self.finish_return(story, *kind, *to),
             Transfer::Next => self.finish_next(story),
             Transfer::Fork => self.finish_fork(story),
             Transfer::Done => self.finish_done(story),
-            Transfer::End => self.finish_other(story, transfer),
+            Transfer::Land(_) | Transfer::Call(..) | Transfer::Return(..) | Transfer::End => {
+                self.finish_other(story, transfer)
+            }
         }
     }
 
     // The same after a text.
-    #[inline(never)]
+    #[inline(always)]
     fn finish_text(&mut self, story: &Story) -> Result<StepEnd, Fault>
         requires room { MOVING + 4 ≤ threads_spare self.old.flow.threads }
         ensures ends { Finishes (story_tree story.now) self.old Transfer.Wrote self.new result }
@@ -466,18 +720,17 @@ impl Machine {
         self.finish_by(story, &mut transfer)
     }
 
-    // The same after a divert.
-    #[inline(never)]
-    fn finish_divert(&mut self, story: &Story, to: &Landing) -> Result<StepEnd, Fault>
-        requires room { MOVING + 4 ≤ threads_spare self.old.flow.threads }
-        ensures ends { Finishes (story_tree story.now) self.old (Transfer.Land to.now) self.new result }
+    // The same after a divert. Flow does not stop where it lands.
+    #[inline(always)]
+    fn finish_divert(&mut self, story: &Story, to: Landing) -> Result<StepEnd, Fault>
+        requires room { 2 ≤ threads_spare self.old.flow.threads }
+        ensures ends { Finishes (story_tree story.now) self.old (Transfer.Land to) self.new result }
         ensures start { start_of self.new ≡ start_of self.old }
         ensures own { NotesOwn 1 self.old.trail self.new.trail }
         ensures aside { aside_in self.new ≡ aside_in self.old }
         ensures mark { stood_of self.new ≡ stood_of self.old }
     {
-        let mut transfer = Transfer::Land(*to);
-        self.finish_by(story, &mut transfer)
+        self.go_to(story, to)
     }
 
     // The same after an assignment, for which alone it is called. In the first arm the compiler drops the ways of other content; the
@@ -501,22 +754,21 @@ impl Machine {
         }
     }
 
-    // The same after a call.
-    #[inline(never)]
-    fn finish_call(&mut self, story: &Story, kind: CallKind, to: &Landing) -> Result<StepEnd, Fault>
-        requires room { MOVING + 4 ≤ threads_spare self.old.flow.threads }
-        ensures ends { Finishes (story_tree story.now) self.old (Transfer.Call kind to.now) self.new result }
+    // The same after a call. Flow does not stop where it leads.
+    #[inline(always)]
+    fn finish_call(&mut self, story: &Story, kind: CallKind, to: Landing) -> Result<StepEnd, Fault>
+        requires room { 4 ≤ threads_spare self.old.flow.threads }
+        ensures ends { Finishes (story_tree story.now) self.old (Transfer.Call kind to) self.new result }
         ensures start { start_of self.new ≡ start_of self.old }
         ensures own { NotesOwn 1 self.old.trail self.new.trail }
         ensures aside { aside_in self.new ≡ aside_in self.old }
         ensures mark { stood_of self.new ≡ stood_of self.old }
     {
-        let mut transfer = Transfer::Call(kind, *to);
-        self.finish_by(story, &mut transfer)
+        self.go_into(story, kind, to)
     }
 
     // The same after the return from one.
-    #[inline(never)]
+    #[inline(always)]
     fn finish_return(
         &mut self,
         story: &Story,
@@ -576,7 +828,7 @@ impl Machine {
         self.finish_by(story, &mut transfer)
     }
 
-    // The same after what is none of these: after `end`.
+    // The same after any content: after `end`, and after what is none of these.
     #[inline(never)]
     fn finish_other(&mut self, story: &Story, transfer: &mut Transfer<'_>) -> Result<StepEnd, Fault>
         requires room { MOVING + 4 ≤ threads_spare self.old.flow.threads }
@@ -644,25 +896,24 @@ impl Machine {
         }
     }
 
-    /// Performs what was found at a place: an empty container, or nothing, is passed over. Flow goes on, but for content that
-    /// sets where it goes.
+    /// Performs the content at a place. Flow goes on, but for content that sets where it goes.
     #[inline(always)]
     fn perform<'a>(
         &mut self,
         story: &Story,
         here: Spot,
-        found: Option<&'a Leaf>,
+        content: &'a Leaf,
         transfer: &mut Transfer<'a>,
     ) -> Result<(), Fault>
         requires on { transfer.old ≡ Transfer.Next }
-        requires stands { let s = story_tree story.now in option_map (λ l. l.now) found ≡ leaf_in (at s (place_of s here)) }
+        requires stands { let s = story_tree story.now in Some content.now ≡ leaf_in (at s (place_of s here)) }
         requires stack_room { length self.old.flow.stack.items + 2 ≤ stack_spare self.old.flow.stack }
         requires room { 1 ≤ threads_spare self.old.flow.threads }
-        ensures effect { let s = story_tree story.now in let p = place_of s here in let stands = option_map (λ l. leaf l.now) found.entry in let c = config_of s self.old in
+        ensures effect { let s = story_tree story.now in let p = place_of s here in let stands = Some (leaf content.now) in let c = config_of s self.old in
             Performs s ((takes_there stands && is_some (stack_stood self.old.flow.stack)) || content_asks s p stands (context_of c) (fields_of c)) (effect s p stands (context_of c) (fields_of c)) (fields_of (config_of s self.new)) (leading result transfer.new) }
-        ensures threads { let s = story_tree story.now in let stands = option_map (λ l. leaf l.now) found.entry in let c = config_of s self.old in
+        ensures threads { let s = story_tree story.now in let stands = Some (leaf content.now) in let c = config_of s self.old in
             OnOk result (KeepsThreads s (effect s (place_of s here) stands (context_of c) (fields_of c)) self.old.flow.threads.threads self.new.flow.threads.threads) }
-        ensures choices { let s = story_tree story.now in let stands = option_map (λ l. leaf l.now) found.entry in let c = config_of s self.old in
+        ensures choices { let s = story_tree story.now in let stands = Some (leaf content.now) in let c = config_of s self.old in
             OnOk result (KeepsChoices s (effect s (place_of s here) stands (context_of c) (fields_of c)) self.old.flow.choices.items self.new.flow.choices.items) }
         ensures counts { self.new.shared.counts.rows ≡ self.old.shared.counts.rows }
         ensures turn { self.new.shared.turn ≡ self.old.shared.turn }
@@ -674,19 +925,16 @@ impl Machine {
         ensures mark { stood_of self.new ≡ stood_of self.old }
         ensures spare { threads_spare self.old.flow.threads ≤ threads_spare self.new.flow.threads + 1 }
     {
-        match found {
-            None => Ok(()),
-            Some(content) => perform_leaf(
-                self.alloc,
-                story,
-                here,
-                content,
-                &mut self.flow,
-                &mut self.output,
-                &self.shared,
-                transfer,
-            ),
-        }
+        perform_leaf(
+            self.alloc,
+            story,
+            here,
+            content,
+            &mut self.flow,
+            &mut self.output,
+            &self.shared,
+            transfer,
+        )
     }
 
     /// Flow goes where a content sends it. Temporaries that the content stores are set already, and what it offers is offered; a

@@ -1,6 +1,6 @@
 //! Visits of a machine's containers: those on the way in, and around where flow has landed (docs/RUNNING.md, "Visits").
 
-ghost use Rattle.std.specs.Prelude.{◌≡◌, true, IfOk, IfErr, OnOk, OnErr, option_map, if◌then◌else◌, ◌&&◌, ◌≤◌, ◌+◌, ◌||◌};
+ghost use Rattle.std.specs.Prelude.{◌≡◌, Some, true, IfOk, IfErr, OnOk, OnErr, option_map, if◌then◌else◌, ◌&&◌, ◌≤◌, ◌+◌, ◌||◌};
 ghost use Rattle.ink_check.specs.Standing as check;
 ghost use Rattle.ink_model.specs.Variables.Counts as rules;
 ghost use Rattle.ink_model.specs.Run.Entered.{flags_at};
@@ -44,6 +44,7 @@ impl Machine {
     ) -> Result<(Spot, Option<&'a Leaf>), Fault>
         requires room { 1 ≤ threads_spare self.old.flow.threads }
         ensures here { let s = story_tree tree.now in IfOk result (λ r. place_of s r.0 ≡ content_place s (place_of s place)) }
+        ensures at { IfOk result (λ r. self.new.flow.threads.threads.thread.frame.place ≡ Some r.0) }
         ensures found { let s = story_tree tree.now in IfOk result (λ r. option_map (λ l. l.now) r.1 ≡ leaf_in (at s (place_of s r.0))) }
         ensures ok { let s = story_tree tree.now in OnOk result (config_of s self.new ≡ gone_in s (place_of s place) (config_of s self.old)) }
         ensures fault { IfErr result (λ f. f ≡ Fault.OutOfMemory) }

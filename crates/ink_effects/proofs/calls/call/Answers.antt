@@ -1,19 +1,10 @@
-use Rattle.ink_effects.proofs.Common.{story_tree, frame_kind, fields, seen_by, place_of}
-use Rattle.ink_model.specs.Run.Step.Calls.{call_to}
-use Rattle.ink_effects.proofs.Leading.{passed, performed}
 use Rattle.ink_effects.proofs.calls.call.Goals as goal
 
-pub returns-in-Ok-true-clause-effect : goal.returns-in-Ok-true-clause-effect
-returns-in-Ok-true-clause-effect c evaluating fresh page rest =
-    let s = story_tree c.args.story.now in
-    let so = call_to (frame_kind c.args.kind) s (place_of s c.args.here) (seen_by s c.args.threads.now.threads rest) c.args.to.now in
-    let stack = c.is_wanted.new.stack.items in
-    let new = fields evaluating fresh stack page c.args.globals.now.rows in
-    performed s _ new _ so _ _ c.in-Ok-true.field-0-test (c.in-Ok-true.ensures.wanted evaluating fresh page c.args.globals.now.rows) (c.lead.ensures evaluating fresh stack page rest)
+pub returns-in-Ok-Some-clause-effect : goal.returns-in-Ok-Some-clause-effect
+returns-in-Ok-Some-clause-effect c evaluating fresh page rest = rw c.in-Ok-Some.field-0-is at (c.in-Ok-Some.ensures.call c.args.kind evaluating fresh page rest)
 
-pub returns-in-Ok-false-clause-effect : goal.returns-in-Ok-false-clause-effect
-returns-in-Ok-false-clause-effect c evaluating fresh page rest =
-    let s = story_tree c.args.story.now in
-    let so = call_to (frame_kind c.args.kind) s (place_of s c.args.here) (seen_by s c.args.threads.now.threads rest) c.args.to.now in
-    let new = fields evaluating fresh c.is_wanted.new.stack.items page c.args.globals.now.rows in
-    passed s _ new _ so _ _ c.requires.on c.in-Ok-false.field-0-test (c.in-Ok-false.ensures.wanted evaluating fresh page c.args.globals.now.rows)
+pub returns-in-Ok-None-clause-effect : goal.returns-in-Ok-None-clause-effect
+returns-in-Ok-None-clause-effect c evaluating fresh page rest = rw c.requires.on (rw c.in-Ok-None.field-0-is at (c.in-Ok-None.ensures.call c.args.kind evaluating fresh page rest))
+
+pub returns-in-Err-clause-effect : goal.returns-in-Err-clause-effect
+returns-in-Err-clause-effect c evaluating fresh page rest = c.in-Err.ensures.call c.args.kind evaluating fresh page rest

@@ -68,8 +68,8 @@ module _ (c : Start) where
 
 -- ---- each content
 
-pub divert-requires-clause-path : goal.divert-requires-clause-path
-divert-requires-clause-path c = leaf_landing (story_tree c.args.story.now) (place_of (story_tree c.args.story.now) c.args.here) _ (c.requires.stands ∙ ap (λ l. Some (leaf l)) c.in-Divert.is)
+pub perform_divert-requires-clause-path : goal.perform_divert-requires-clause-path
+perform_divert-requires-clause-path c = leaf_landing (story_tree c.args.story.now) (place_of (story_tree c.args.story.now) c.args.here) _ (c.requires.stands ∙ ap (λ l. Some (leaf l)) c.in-Divert.is)
 
 pub call-requires-clause-path : goal.call-requires-clause-path
 call-requires-clause-path c = leaf_landing (story_tree c.args.story.now) (place_of (story_tree c.args.story.now) c.args.here) _ (c.requires.stands ∙ ap (λ l. Some (leaf l)) c.in-Call.is)
@@ -137,7 +137,7 @@ returns-in-Tag-clause-effect c =
 pub returns-in-Divert-clause-effect : goal.returns-in-Divert-clause-effect
 returns-in-Divert-clause-effect c =
     let w = (goal.at.returns-in-Divert-clause-effect c).Start in
-    does w _ _ _ _ _ c.in-Divert.is refl (c.divert.ensures.effect _ _ _ (rest w))
+    does w _ _ _ _ _ c.in-Divert.is refl (c.perform_divert.ensures.effect _ _ _ (rest w))
 
 pub returns-in-Call-clause-effect : goal.returns-in-Call-clause-effect
 returns-in-Call-clause-effect c =
@@ -297,10 +297,10 @@ pub returns-in-Op-clause-choices : goal.returns-in-Op-clause-choices
 returns-in-Op-clause-choices c = offers_none (goal.at.returns-in-Op-clause-choices c).Start _ _ c.operate.result c.in-Op.is tt
 
 pub returns-in-Divert-clause-threads : goal.returns-in-Divert-clause-threads
-returns-in-Divert-clause-threads c = kept_plain (goal.at.returns-in-Divert-clause-threads c).Start _ _ c.divert.result c.in-Divert.is tt
+returns-in-Divert-clause-threads c = kept_plain (goal.at.returns-in-Divert-clause-threads c).Start _ _ c.perform_divert.result c.in-Divert.is tt
 
 pub returns-in-Divert-clause-choices : goal.returns-in-Divert-clause-choices
-returns-in-Divert-clause-choices c = offers_none (goal.at.returns-in-Divert-clause-choices c).Start _ _ c.divert.result c.in-Divert.is tt
+returns-in-Divert-clause-choices c = offers_none (goal.at.returns-in-Divert-clause-choices c).Start _ _ c.perform_divert.result c.in-Divert.is tt
 
 pub returns-in-Variable-clause-threads : goal.returns-in-Variable-clause-threads
 returns-in-Variable-clause-threads c = kept_plain (goal.at.returns-in-Variable-clause-threads c).Start _ _ c.push_variable.result c.in-Variable.is tt

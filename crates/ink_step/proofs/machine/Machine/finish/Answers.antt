@@ -8,16 +8,7 @@ returns-in-Wrote-clause-ends c =
     subst (λ t. Finishes (story_tree c.args.story.now) c.args.self.now t c.finish_text.new.self c.finish_text.result) (sym c.in-Wrote.is) c.finish_text.ensures.ends
 
 pub returns-in-Land-clause-ends : goal.returns-in-Land-clause-ends
-returns-in-Land-clause-ends c =
-    subst (λ t. Finishes (story_tree c.args.story.now) c.args.self.now t c.finish_divert.new.self c.finish_divert.result) (sym c.in-Land.is) c.finish_divert.ensures.ends
-
-pub returns-in-Call-clause-ends : goal.returns-in-Call-clause-ends
-returns-in-Call-clause-ends c =
-    subst (λ t. Finishes (story_tree c.args.story.now) c.args.self.now t c.finish_call.new.self c.finish_call.result) (sym c.in-Call.is) c.finish_call.ensures.ends
-
-pub returns-in-Return-clause-ends : goal.returns-in-Return-clause-ends
-returns-in-Return-clause-ends c =
-    subst (λ t. Finishes (story_tree c.args.story.now) c.args.self.now t c.finish_return.new.self c.finish_return.result) (sym c.in-Return.is) c.finish_return.ensures.ends
+returns-in-Land-clause-ends c = c.finish_other.ensures.ends
 
 pub returns-in-Next-clause-ends : goal.returns-in-Next-clause-ends
 returns-in-Next-clause-ends c =
@@ -33,6 +24,3 @@ returns-in-Done-clause-ends c =
 
 pub returns-in-Store-clause-ends : goal.returns-in-Store-clause-ends
 returns-in-Store-clause-ends c = c.finish_stored.ensures.ends
-
-pub returns-in-End-clause-ends : goal.returns-in-End-clause-ends
-returns-in-End-clause-ends c = c.finish_other.ensures.ends

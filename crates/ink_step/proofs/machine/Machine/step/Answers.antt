@@ -1,28 +1,7 @@
-use Rattle.std.proofs.Common.{◌≡◌, ◌∙◌, ap, option_map, refl, rules, subst, sym, false, is_some, [], Some, Ok}
-use Rattle.ink_step.proofs.Common.{story_tree, grew-none, bound_by, log_of, asks, Stop, Comes, step, call_at, at, leaf, presses, config_of, keeps_all, stops_kept, leaf_in, place_of}
-use Rattle.ink_step.specs.Steps.{Steps}
-use Rattle.ink_moves.specs.declared.flow.StepEnd.TheVariants as ends
-use Rattle.ink_step.proofs.Follows.{stands_still}
+use Rattle.std.proofs.Common.{◌≡◌, ◌∙◌, ap, option_map, rules, subst, sym, false, is_some, [], Some}
+use Rattle.ink_step.proofs.Common.{story_tree, grew-none, bound_by, log_of, asks, step, call_at, at, leaf, presses, config_of, keeps_all, stops_kept, leaf_in, place_of}
 use Rattle.ink_step.proofs.Makes.{plainly_never, steps_plainly}
-use Rattle.ink_step.proofs.Owned.{own_same}
 use Rattle.ink_step.proofs.machine.Machine.step.Goals as goal
-
-pub returns-in_default-clause-step : goal.returns-in_default-clause-step
-returns-in_default-clause-step g c =
-    let s = story_tree c.args.story.now in
-    let desk = c.args.desk.now in
-    let b = bound_by g.P.PureFn.meaning desk.functions in
-    let before = config_of s c.args.self.now in
-    let pressed = presses s c.args.self.now c.args.self.now in (
-      [],
-      grew-none g.T.TurnFn.log (log_of g.W.Watcher.state) desk,
-      subst (λ o. Steps c.args.quiet s b desk.next pressed (asks s b before) o [] before.shared.globals before before (Ok ends.Stopped))
-          (sym (stands_still s b before (ap (option_map (place_of s)) (sym c.place.ensures ∙ c.in_default.is))))
-          (steps_plainly s b desk.next pressed (asks s b before) before.shared.globals c.args.quiet (Comes (Stop before)) before before (Ok ends.Stopped) refl),
-    )
-
-pub returns-in_default-clause-refusals : goal.returns-in_default-clause-refusals
-returns-in_default-clause-refusals g c = keeps_all g.T.TurnFn.refusals c.args.desk.now
 
 -- content stands there that holds no other and calls nothing
 pub pass-requires : goal.pass-requires
@@ -52,8 +31,3 @@ returns-in-Some-leaf_at-clause-machine g c is =
 
 pub returns-in-Some-leaf_at-clause-refusals : goal.returns-in-Some-leaf_at-clause-refusals
 returns-in-Some-leaf_at-clause-refusals g c = stops_kept g.T.TurnFn.refusals c.args.desk.now c.args.desk.now c.pass.result (keeps_all g.T.TurnFn.refusals c.args.desk.now)
-
--- ---- the own fields
-
-pub returns-in_default-clause-own : goal.returns-in_default-clause-own
-returns-in_default-clause-own g c = own_same 1 _ _ refl

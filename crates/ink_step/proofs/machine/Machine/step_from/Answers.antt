@@ -134,6 +134,9 @@ returns-in-None-clause-mark g c = c.act.ensures.mark ∙ c.go_in.ensures.mark
 pub act_external-requires-clause-stack_room : goal.act_external-requires-clause-stack_room
 act_external-requires-clause-stack_room g c = subst (λ k. length k.items + 2 ≤ stack_spare k) (sym c.go_in.ensures.stack) c.requires.stack_room
 
+pub act-requires-clause-at : goal.act-requires-clause-at
+act-requires-clause-at g c = c.in_ok-here.ensures.at
+
 pub act-requires-clause-stack_room : goal.act-requires-clause-stack_room
 act-requires-clause-stack_room g c = subst (λ k. length k.items + 2 ≤ stack_spare k) (sym c.go_in.ensures.stack) c.requires.stack_room
 

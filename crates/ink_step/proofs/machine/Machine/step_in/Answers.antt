@@ -1,9 +1,9 @@
-use Rattle.std.proofs.Common.{◌≡◌, ◌∙◌, ◌&&◌, ◌||◌, ap, rules, subst, sym, true, false, true≢false, [], Err, Ok, refl}
-use Rattle.ink_step.proofs.Common.{story_tree, grew-none, bound_by, log_of, asks, step, Stood, keeps_mark, pressed, presses, stood_of, takes_first, aside_in, config_of, start_of, or_first, or_more, keeps_all, stops_kept, Machine}
+use Rattle.std.proofs.Common.{◌≡◌, ◌∙◌, ◌&&◌, ◌||◌, ap, option_map, rules, subst, sym, true, false, true≢false, [], Err, Ok, refl}
+use Rattle.ink_step.proofs.Common.{story_tree, grew-none, bound_by, log_of, asks, Stop, Comes, step, Stood, keeps_mark, pressed, presses, stood_of, takes_first, aside_in, config_of, start_of, or_first, or_more, keeps_all, stops_kept, Machine, place_of}
 use Rattle.ink_step.specs.Steps.{StepMakes, Steps, wants}
 use Rattle.ink_moves.specs.declared.flow.StepEnd.TheVariants as ends
-use Rattle.ink_step.proofs.Follows.{ready_alike}
-use Rattle.ink_step.proofs.Makes.{makes_quietly, makes_said, makes_short, said}
+use Rattle.ink_step.proofs.Follows.{ready_alike, stands_still}
+use Rattle.ink_step.proofs.Makes.{makes_quietly, makes_said, makes_short, said, steps_plainly}
 use Rattle.ink_step.proofs.Marks.{step_pressed}
 use Rattle.ink_step.proofs.machine.Machine.step_in.Given as given
 use Rattle.ink_step.proofs.Owned.{own_before, own_same}
@@ -17,6 +17,29 @@ quietly g c = elim c.else-quiet.branch [
   | else-quiet-via-then-quiet+else-wants_call w ↦ λ q. sym w.wants_call.ensures ∙ w.if-wants_call.false
   | else-quiet-via-else-quiet w ↦ λ q. absurd (true≢false (sym q ∙ w.if-quiet.false))
 ]
+
+pub returns-in_default-clause-step : goal.returns-in_default-clause-step
+returns-in_default-clause-step g c =
+    let s = story_tree c.args.story.now in
+    let desk = c.args.desk.now in
+    let b = bound_by g.P.PureFn.meaning desk.functions in
+    let before = config_of s c.args.self.now in
+    let pressed = presses s c.args.self.now c.args.self.now in (
+      [],
+      grew-none g.T.TurnFn.log (log_of g.W.Watcher.state) desk,
+      subst (λ o. Steps c.args.quiet s b desk.next pressed (asks s b before) o [] before.shared.globals before before (Ok ends.Stopped))
+          (sym (stands_still s b before (ap (option_map (place_of s)) (sym c.place.ensures ∙ c.in_default.is))))
+          (steps_plainly s b desk.next pressed (asks s b before) before.shared.globals c.args.quiet (Comes (Stop before)) before before (Ok ends.Stopped) refl),
+    )
+
+pub returns-in_default-clause-refusals : goal.returns-in_default-clause-refusals
+returns-in_default-clause-refusals g c = keeps_all g.T.TurnFn.refusals c.args.desk.now
+
+pub wants_call-requires : goal.wants_call-requires
+wants_call-requires g c = record { at = sym c.place.ensures ∙ c.in-Some.is }
+
+pub step_from-requires-clause-at : goal.step_from-requires-clause-at
+step_from-requires-clause-at g c = ap (λ ts. ts.thread.frame.place) c.make_step_room.ensures.threads ∙ sym c.place.ensures ∙ c.in-Some.is
 
 pub returns-then-wants_call-clause-step : goal.returns-then-wants_call-clause-step
 returns-then-wants_call-clause-step g c =
@@ -106,6 +129,9 @@ pub returns-clause-mark : goal.returns-clause-mark
 returns-clause-mark g c = c.step_from.ensures.mark ∙ c.make_step_room.ensures.mark
 
 -- ---- the own fields
+
+pub returns-in_default-clause-own : goal.returns-in_default-clause-own
+returns-in_default-clause-own g c = own_same 1 _ _ refl
 
 pub returns-then-wants_call-clause-own : goal.returns-then-wants_call-clause-own
 returns-then-wants_call-clause-own g c = own_same 1 _ _ refl

@@ -1,0 +1,7 @@
+use Rattle.ink_effects.proofs.diverts.perform_divert.Goals as goal
+
+pub returns-in-Ok-Some-clause-effect : goal.returns-in-Ok-Some-clause-effect
+returns-in-Ok-Some-clause-effect c evaluating fresh page rest = rw c.in-Ok-Some.field-0-is at (c.in-Ok-Some.ensures.divert evaluating fresh page rest)
+
+pub returns-in-Ok-None-clause-effect : goal.returns-in-Ok-None-clause-effect
+returns-in-Ok-None-clause-effect c evaluating fresh page rest = rw c.requires.on (rw c.in-Ok-None.field-0-is at (c.in-Ok-None.ensures.divert evaluating fresh page rest))
