@@ -65,8 +65,9 @@ pub fn make<P: Copy>(
 }
 
 /// The same, and what is made is added behind the other choices, where it is built: it is not handed up first. A choice point calls
-/// this, and nothing here calls `make`. `TooDeep` also where there are 1,000 choices; `OutOfMemory` also where the choice's place behind the others is refused. A choice that is added is a
-/// change of a cell of the choices. On an error nothing has changed, neither of the stack nor of the choices.
+/// this, and nothing here calls `make`. `TooDeep` also where there are 1,000 choices; `OutOfMemory` also where the choice's place
+/// behind the others is refused. A choice that is added is a change of a cell of the choices. On an error nothing has changed,
+/// neither of the stack nor of the choices.
 #[inline(always)]
 pub fn add_made<P: Copy>(
     alloc: Global,
