@@ -465,7 +465,7 @@ impl Machine {
         }
     }
 
-    // The same of control content of other kinds: a return comes back at once.
+    // The same of control content of other kinds: a return comes back at once, and a thread forks or ends at once.
     #[inline(always)]
     fn act_control(
         &mut self,
@@ -487,6 +487,8 @@ impl Machine {
         match control {
             Control::Return => self.act_return(story),
             Control::ReturnTunnel => self.act_return_tunnel(story),
+            Control::Thread => self.finish_fork(story),
+            Control::Done => self.finish_done(story),
             _ => self.act_by_transfer(story, here, content),
         }
     }
