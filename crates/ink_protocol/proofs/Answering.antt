@@ -113,7 +113,7 @@ abbrev quiet : List Shown → List ℕ → Bool → Bool → Passage
 quiet choices text loose more = record { text = text; tags = []; choices = choices; events = []; more = more; loose = loose }
 
 -- a newline behind the last bracket
-ends_line : (list middle text : List ℕ) → codes "{\"choices\":" ++ ((list ++ (middle ++ (text ++ 125 ∷ []))) ++ 10 ∷ []) ≡ codes "{\"choices\":" ++ (list ++ (middle ++ (text ++ codes "}\n")))
+pub ends_line : (list middle text : List ℕ) → codes "{\"choices\":" ++ ((list ++ (middle ++ (text ++ 125 ∷ []))) ++ 10 ∷ []) ≡ codes "{\"choices\":" ++ (list ++ (middle ++ (text ++ codes "}\n")))
 ends_line list middle text = ap (λ t. codes "{\"choices\":" ++ t)
     (append_assoc list (middle ++ (text ++ 125 ∷ [])) (10 ∷ []) ∙ ap (λ t. list ++ t) (append_assoc middle (text ++ 125 ∷ []) (10 ∷ []) ∙ ap (λ t. middle ++ t) (append_assoc text (125 ∷ []) (10 ∷ []))))
 

@@ -1,24 +1,22 @@
 //! Answers as they are written (docs/PROTOCOL.md, "Answers").
 
 ghost use Rattle.std.specs.Fmt.{signed_decimal};
-ghost use Rattle.std.specs.Prelude.{◌≡◌, [], ◌∷◌, ◌++◌, OnOk, IfOk, IfNone, IfSome, true, false, map, codes, pos};
+ghost use Rattle.std.specs.Prelude.{◌≡◌, [], ◌∷◌, ◌++◌, OnOk, IfOk, IfNone, IfSome, true, false, map, codes};
 ghost use Rattle.json.specs.Print.{escape, print};
 ghost use Rattle.json.specs.Token as tokens;
-ghost use Rattle.serde_json.specs.Data.{Data, array, number, string};
-ghost use Rattle.serde_json.specs.Find.{of_integer};
+ghost use Rattle.serde_json.specs.Data.{Data, string};
 ghost use Rattle.serde_json.specs.Written.{comma_if, compact_text, items_text};
-ghost use Rattle.ink_model.specs.Protocol.Answer.{answer, answer_asks, reply_data, reply_of_events, reply_of_halt, Acts, Breaks, Saves, Shows, Tells, items_of, passage_data, shown_data};
-ghost use Rattle.ink_model.specs.Host.Events.{call_data, event_data};
-ghost use Rattle.ink_model.specs.Host.Bindings.{value_given};
+ghost use Rattle.ink_model.specs.Protocol.Answer.{answer, answer_asks, reply_data, reply_of_events, reply_of_halt, Acts, Breaks, Saves, Shows, Tells, items_of, shown_data};
 ghost use Rattle.ink_model.specs.Protocol.ValueJson.{value_data};
-ghost use Rattle.ink_protocol.specs.Answers.{choices_front, outcome_tokens, passage_line, quiet_middle, values_text};
+ghost use Rattle.ink_protocol.specs.Answers.{choices_front, flags_text, loud_middle, passage_line, quiet_middle, values_text};
 ghost use Rattle.ink_protocol.specs.Replies.{HasTextOf, reply_by};
 ghost use Rattle.ink_tokens.specs.Tokens.{Added, data_tokens};
 
+use crate::events::print_events;
 use crate::fixed::{done_text, fault_text, refusal_text, truth_text, void_text};
 use crate::plain::is_plain;
-use ink_model::{Event, Fault, Given, Halt, Passage, Refusal, Seq, Shared, Shown, Text, Value};
-use ink_tokens::{put, put_flag, put_integer, put_natural, put_text, write_value};
+use ink_model::{Event, Fault, Halt, Passage, Refusal, Seq, Shared, Shown, Text, Value};
+use ink_tokens::{put, write_value};
 use json::{Token, Writer};
 use std::alloc::{AllocError, Global};
 use std::mem;
@@ -171,9 +169,14 @@ fn put_number(line: &mut Vec<u8>, front: &str, number: i32) -> Result<(), AllocE
     put_between(line, front, digits.format(number), "}\n")
 }
 
-// A text between two others, behind what is written already.
+/// A text between two others, behind what is written already.
 #[inline(always)]
-fn put_between(line: &mut Vec<u8>, front: &str, text: &str, end: &str) -> Result<(), AllocError>
+pub(crate) fn put_between(
+    line: &mut Vec<u8>,
+    front: &str,
+    text: &str,
+    end: &str,
+) -> Result<(), AllocError>
     ensures { OnOk result (line.new.items ≡ line.old.items ++ (front.now ++ (text.now ++ end.now))) }
 {
     append(line, front)?;
@@ -181,9 +184,9 @@ fn put_between(line: &mut Vec<u8>, front: &str, text: &str, end: &str) -> Result
     append(line, end)
 }
 
-// A text, behind what is written already.
+/// A text, behind what is written already.
 #[inline(always)]
-fn append(line: &mut Vec<u8>, text: &str) -> Result<(), AllocError>
+pub(crate) fn append(line: &mut Vec<u8>, text: &str) -> Result<(), AllocError>
     ensures { OnOk result (line.new.items ≡ line.old.items ++ text.now) }
 {
     line.extend_from_slice(text.as_bytes())
@@ -265,8 +268,8 @@ fn put_shown_all(alloc: Global, line: &mut Vec<u8>, choices: &[Shown]) -> Result
     Ok(())
 }
 
-// A comma, where something stands before.
-fn put_comma(line: &mut Vec<u8>, later: bool) -> Result<(), AllocError>
+/// A comma, where something stands before.
+pub(crate) fn put_comma(line: &mut Vec<u8>, later: bool) -> Result<(), AllocError>
     ensures { OnOk result (line.new.items ≡ line.old.items ++ comma_if later) }
 {
     if later {
@@ -299,9 +302,24 @@ fn put_plain_choice(line: &mut Vec<u8>, text: &str) -> Result<(), AllocError>
 fn shown_behind(alloc: Global, line: &mut Vec<u8>, choice: &Shown) -> Result<(), AllocError>
     ensures { OnOk result (line.new.items ≡ line.old.items ++ compact_text (shown_data choice.now)) }
 {
-    let mut out = writer_behind(alloc, line);
-    choice.put(alloc, &mut out)?;
-    *line = out.into_inner();
+    append(line, "{\"tags\":[")?;
+    print_texts(alloc, line, choice.tags.as_slice())?;
+    append(line, ",\"text\":")?;
+    print_string(alloc, line, choice.text.as_str())?;
+    append(line, "}")
+}
+
+// Texts, with commas between them and the bracket behind the last, behind what is written already.
+fn print_texts(alloc: Global, line: &mut Vec<u8>, texts: &[Shared<Text>]) -> Result<(), AllocError>
+    ensures { OnOk result (line.new.items ≡ line.old.items ++ items_text false (items_of (map string texts.now))) }
+{
+    let mut begun = false;
+    for text in texts {
+        put_comma(line, begun)?;
+        print_string(alloc, line, text.as_str())?;
+        begun = true;
+    }
+    line.push(b']')?;
     Ok(())
 }
 
@@ -378,9 +396,38 @@ fn put_loud(alloc: Global, line: &mut Vec<u8>, passage: &Passage) -> Result<(), 
     requires { line.old.items ≡ [] }
     ensures { OnOk result (line.new.items ≡ answer (Tells passage.now)) }
 {
-    let mut out = writer_behind(alloc, line);
-    write_passage(alloc, &mut out, passage)?;
-    end_line(line, out)
+    put_choices(alloc, line, passage.choices.as_slice())?;
+    put_middle(alloc, line, passage)?;
+    let text = passage.text.as_str();
+    close_text(alloc, line, text)
+}
+
+// What stands between the choices of any passage and its text, behind what is written already.
+fn put_middle(alloc: Global, line: &mut Vec<u8>, passage: &Passage) -> Result<(), AllocError>
+    ensures { OnOk result (line.new.items ≡ line.old.items ++ loud_middle passage.now) }
+{
+    append(line, ",\"events\":[")?;
+    print_events(alloc, line, passage.events.as_slice())?;
+    append(line, flags_text(passage.loose, passage.more))?;
+    print_texts(alloc, line, passage.tags.as_slice())?;
+    append(line, ",\"text\":")
+}
+
+// What stands between the events of a passage and its tags.
+fn flags_text(loose: bool, more: bool) -> &'static str
+    ensures { result.now ≡ flags_text loose more }
+{
+    if loose {
+        if more {
+            ",\"loose\":true,\"more\":true,\"tags\":["
+        } else {
+            ",\"loose\":true,\"more\":false,\"tags\":["
+        }
+    } else if more {
+        ",\"loose\":false,\"more\":true,\"tags\":["
+    } else {
+        ",\"loose\":false,\"more\":false,\"tags\":["
+    }
 }
 
 // What a writer has written, and a newline.
@@ -417,9 +464,9 @@ fn put_acts(alloc: Global, line: &mut Vec<u8>, events: &[Event]) -> Result<(), A
     requires { line.old.items ≡ [] }
     ensures { OnOk result (line.new.items ≡ answer (Acts events.now)) }
 {
-    let mut out = writer_behind(alloc, line);
-    write_acts(alloc, &mut out, events)?;
-    end_line(line, out)
+    append(line, "{\"events\":[")?;
+    print_events(alloc, line, events)?;
+    append(line, "}\n")
 }
 
 // The answer that shows a value.
@@ -452,9 +499,11 @@ fn put_fault(
     requires { line.old.items ≡ [] }
     ensures { OnOk result (line.new.items ≡ answer (Breaks fault events.now)) }
 {
-    let mut out = writer_behind(alloc, line);
-    write_fault(alloc, &mut out, fault, events)?;
-    end_line(line, out)
+    append(line, "{\"events\":[")?;
+    print_events(alloc, line, events)?;
+    append(line, ",\"fault\":")?;
+    print_string(alloc, line, fault.name())?;
+    append(line, "}\n")
 }
 
 // The answer that has a save.
@@ -479,8 +528,12 @@ pub fn print_values(alloc: Global, values: &[Value]) -> Result<Vec<u8>, AllocErr
     Ok(text)
 }
 
-// Values, with commas between them and the bracket behind the last, behind what is written already.
-fn print_all(alloc: Global, line: &mut Vec<u8>, values: &[Value]) -> Result<(), AllocError>
+/// Values, with commas between them and the bracket behind the last, behind what is written already.
+pub(crate) fn print_all(
+    alloc: Global,
+    line: &mut Vec<u8>,
+    values: &[Value],
+) -> Result<(), AllocError>
     ensures { OnOk result (line.new.items ≡ line.old.items ++ items_text false (items_of (map value_data values.now))) }
 {
     let mut follows = false;
@@ -493,8 +546,12 @@ fn print_all(alloc: Global, line: &mut Vec<u8>, values: &[Value]) -> Result<(), 
     Ok(())
 }
 
-// A value, behind what is written already. An integer, a truth value and a plain text need no writer of JSON.
-fn print_value(alloc: Global, line: &mut Vec<u8>, value: &Value) -> Result<(), AllocError>
+/// A value, behind what is written already. An integer, a truth value and a plain text need no writer of JSON.
+pub(crate) fn print_value(
+    alloc: Global,
+    line: &mut Vec<u8>,
+    value: &Value,
+) -> Result<(), AllocError>
     ensures { OnOk result (line.new.items ≡ line.old.items ++ compact_text (value_data value.now)) }
 {
     match value {
@@ -506,16 +563,16 @@ fn print_value(alloc: Global, line: &mut Vec<u8>, value: &Value) -> Result<(), A
     }
 }
 
-// An integer, behind what is written already.
-fn print_integer(line: &mut Vec<u8>, number: i32) -> Result<(), AllocError>
+/// An integer, behind what is written already.
+pub(crate) fn print_integer(line: &mut Vec<u8>, number: i32) -> Result<(), AllocError>
     ensures { OnOk result (line.new.items ≡ line.old.items ++ signed_decimal number) }
 {
     let mut digits = itoa::Buffer::new();
     append(line, digits.format(number))
 }
 
-// A string, behind what is written already.
-fn print_string(alloc: Global, line: &mut Vec<u8>, text: &str) -> Result<(), AllocError>
+/// A string, behind what is written already.
+pub(crate) fn print_string(alloc: Global, line: &mut Vec<u8>, text: &str) -> Result<(), AllocError>
     ensures { OnOk result (line.new.items ≡ line.old.items ++ compact_text (string text.now)) }
 {
     if is_plain(text.as_bytes()) {
@@ -585,195 +642,10 @@ fn put_value(alloc: Global, out: &mut Writer, value: &Value) -> Result<(), Alloc
     write_value(alloc, out, value)
 }
 
-// The member with an event's stamp.
-fn put_stamp(out: &mut Writer, stamp: u64) -> Result<(), AllocError>
-    ensures { OnOk result (Added out.old out.new (tokens.key (codes "stamp") ∷ data_tokens (number (of_integer (pos stamp))))) }
-{
-    put_key(out, "stamp")?;
-    put_natural(out, stamp)
-}
-
-// What stands in lists of answers.
-trait Listed {
-    ghost json: { Self → Data };
-
-    fn put(&self, alloc: Global, out: &mut Writer) -> Result<(), AllocError>
-        ensures { OnOk result (Added out.old out.new (data_tokens (json self.now))) };
-}
-
-impl Listed for Shared<Text> {
-    ghost json = { λ t. string t };
-
-    fn put(&self, _alloc: Global, out: &mut Writer) -> Result<(), AllocError> {
-        put_string(out, self.get().as_str())
-    }
-}
-
-impl Listed for Shown {
-    ghost json = { λ s. shown_data s };
-
-    fn put(&self, alloc: Global, out: &mut Writer) -> Result<(), AllocError> {
-        begin(out)?;
-        put_list(alloc, out, "tags", self.tags.as_slice())?;
-        put_text(out, "text", self.text.as_str())?;
-        end(out)
-    }
-}
-
-impl Listed for Value {
-    ghost json = { λ v. value_data v };
-
-    fn put(&self, alloc: Global, out: &mut Writer) -> Result<(), AllocError> {
-        write_value(alloc, out, self)
-    }
-}
-
-impl Listed for Event {
-    ghost json = { λ e. event_data e };
-
-    fn put(&self, alloc: Global, out: &mut Writer) -> Result<(), AllocError> {
-        match self {
-            Event::Call {
-                name,
-                arguments,
-                gave,
-                stamp,
-            } => write_call(alloc, out, name, arguments.as_slice(), gave, *stamp),
-            Event::Saw { name, stamp, value } => write_saw(alloc, out, name, *stamp, value),
-        }
-    }
-}
-
-// A member with a list.
-fn put_list<T: Listed>(
-    alloc: Global,
-    out: &mut Writer,
-    name: &str,
-    items: &[T],
-) -> Result<(), AllocError>
-    ensures { OnOk result (Added out.old out.new (tokens.key name.now ∷ data_tokens (array (items_of (map T.json items.now))))) }
-{
-    put_key(out, name)?;
-    write_list(alloc, out, items)
-}
-
-fn write_list<T: Listed>(alloc: Global, out: &mut Writer, items: &[T]) -> Result<(), AllocError>
-    ensures { OnOk result (Added out.old out.new (data_tokens (array (items_of (map T.json items.now))))) }
-{
-    put(out, Token::BeginArray)?;
-    for item in items {
-        item.put(alloc, out)?;
-    }
-    put(out, Token::EndArray)
-}
-
-// ---- answers
-
-fn write_acts(alloc: Global, out: &mut Writer, events: &[Event]) -> Result<(), AllocError>
-    ensures { OnOk result (Added out.old out.new (data_tokens (reply_data (Acts events.now)))) }
-{
-    begin(out)?;
-    put_list(alloc, out, "events", events)?;
-    end(out)
-}
-
-fn write_passage(alloc: Global, out: &mut Writer, passage: &Passage) -> Result<(), AllocError>
-    ensures { OnOk result (Added out.old out.new (data_tokens (passage_data passage.now))) }
-{
-    begin(out)?;
-    put_list(alloc, out, "choices", passage.choices.as_slice())?;
-    put_list(alloc, out, "events", passage.events.as_slice())?;
-    put_flag(out, "loose", passage.loose)?;
-    put_flag(out, "more", passage.more)?;
-    put_list(alloc, out, "tags", passage.tags.as_slice())?;
-    put_text(out, "text", passage.text.as_str())?;
-    end(out)
-}
-
 fn write_shown(alloc: Global, out: &mut Writer, value: &Value) -> Result<(), AllocError>
     ensures { OnOk result (Added out.old out.new (data_tokens (reply_data (Shows value.now)))) }
 {
     begin(out)?;
-    put_value(alloc, out, value)?;
-    end(out)
-}
-
-fn write_fault(
-    alloc: Global,
-    out: &mut Writer,
-    fault: Fault,
-    events: &[Event],
-) -> Result<(), AllocError>
-    ensures { OnOk result (Added out.old out.new (data_tokens (reply_data (Breaks fault events.now)))) }
-{
-    begin(out)?;
-    put_list(alloc, out, "events", events)?;
-    put_text(out, "fault", fault.name())?;
-    end(out)
-}
-
-// ---- events
-
-// A call of a turn function, and what came of it.
-fn write_call(
-    alloc: Global,
-    out: &mut Writer,
-    name: &Text,
-    arguments: &[Value],
-    gave: &Option<Given>,
-    stamp: u64,
-) -> Result<(), AllocError>
-    ensures { OnOk result (Added out.old out.new (data_tokens (call_data name.now arguments.now gave.now stamp))) }
-{
-    begin(out)?;
-    put_list(alloc, out, "args", arguments)?;
-    put_text(out, "call", name.as_str())?;
-    put_outcome(out, gave)?;
-    put_stamp(out, stamp)?;
-    end(out)
-}
-
-// The member that tells what a call gave, or that it was refused.
-fn put_outcome(out: &mut Writer, gave: &Option<Given>) -> Result<(), AllocError>
-    ensures { OnOk result (Added out.old out.new (outcome_tokens gave.now)) }
-{
-    match gave {
-        Some(given) => put_given(out, given),
-        None => put_flag(out, "refused", true),
-    }
-}
-
-fn put_given(out: &mut Writer, given: &Given) -> Result<(), AllocError>
-    ensures { OnOk result (Added out.old out.new (tokens.key (codes "gave") ∷ data_tokens (value_data (value_given given.now)))) }
-{
-    put_key(out, "gave")?;
-    write_given(out, given)
-}
-
-fn write_given(out: &mut Writer, given: &Given) -> Result<(), AllocError>
-    ensures { OnOk result (Added out.old out.new (data_tokens (value_data (value_given given.now)))) }
-{
-    match given {
-        Given::Int(number) => put_integer(out, *number),
-        Given::Bool(truth) => put(out, Token::Bool(*truth)),
-        Given::Text(text) => put_string(out, text.get().as_str()),
-        Given::Void => put(out, Token::Null),
-    }
-}
-
-// A change that a watcher saw.
-fn write_saw(
-    alloc: Global,
-    out: &mut Writer,
-    name: &Text,
-    stamp: u64,
-    value: &Value,
-) -> Result<(), AllocError>
-    ensures { OnOk result (Added out.old out.new (data_tokens (event_data (Event.Saw name.now stamp value.now)))) }
-{
-    begin(out)?;
-    put_text(out, "saw", name.as_str())?;
-    put_stamp(out, stamp)?;
     put_value(alloc, out, value)?;
     end(out)
 }

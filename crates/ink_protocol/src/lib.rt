@@ -5,6 +5,7 @@
 mod answer;
 mod command;
 mod counting;
+mod events;
 mod fault;
 mod fixed;
 mod given;

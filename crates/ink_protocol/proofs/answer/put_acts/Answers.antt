@@ -1,9 +1,10 @@
-use Rattle.std.proofs.Common.{◌∙◌, refl, sym}
-use Rattle.ink_model.specs.Protocol.Answer.{Acts}
-use Rattle.ink_protocol.proofs.Answering.{answer_from_tokens, made_as}
+use Rattle.std.proofs.Common.{◌∙◌, ◌++◌, [], ap, codes}
+use Rattle.ink_protocol.proofs.Answering.{made_as}
+use Rattle.ink_protocol.proofs.Telling.{acts_answer, behind}
 use Rattle.ink_protocol.proofs.answer.put_acts.Goals as goal
 
 pub returns : goal.returns
 returns c =
-    made_as c.end_line.result _ _ _ c.end_line.ensures
-    (sym (answer_from_tokens (Acts c.args.events.now) _ _ _ _ (c.writer_behind-out.ensures.before ∙ c.requires) c.writer_behind-out.ensures.tokens c.in_ok-write_acts.ensures refl refl))
+    let r = c.append-2.result in
+    let front = c.in_ok-append.ensures ∙ ap (λ l. l ++ codes "{\"events\":[") c.requires in
+    made_as r _ _ _ (behind r [] _ _ _ _ front (behind r _ _ _ _ _ c.in_ok-print_events.ensures c.append-2.ensures)) (acts_answer c.args.events.now)

@@ -1,9 +1,11 @@
-use Rattle.std.proofs.Common.{◌∙◌, refl, sym}
-use Rattle.ink_model.specs.Protocol.Answer.{Tells}
-use Rattle.ink_protocol.proofs.Answering.{answer_from_tokens, made_as}
+use Rattle.std.proofs.Common.{◌∙◌}
+use Rattle.ink_protocol.proofs.Answering.{made_as, passage_from}
+use Rattle.ink_protocol.proofs.Telling.{loud_line}
+use Rattle.ink_protocol.specs.Answers.{loud_middle}
 use Rattle.ink_protocol.proofs.answer.put_loud.Goals as goal
 
 pub returns : goal.returns
 returns c =
-    made_as c.end_line.result _ _ _ c.end_line.ensures
-    (sym (answer_from_tokens (Tells c.args.passage.now) _ _ _ _ (c.writer_behind-out.ensures.before ∙ c.requires) c.writer_behind-out.ensures.tokens c.in_ok-write_passage.ensures refl refl))
+    let p = c.args.passage.now in
+    made_as c.close_text.result _ _ _ c.close_text.ensures
+    (loud_line p ∙ passage_from p c.as_slice.result.now c.as_str-text.result.now (loud_middle p) _ _ c.as_slice.ensures c.as_str-text.ensures c.in_ok-put_choices.ensures c.in_ok-put_middle.ensures)
