@@ -143,21 +143,11 @@ pub fn answer_text(alloc: Global, buffer: &mut Vec<u8>, outcome: Outcome) -> Res
     ensures { (saved : Data) → HasTextOf saved outcome → OnOk result (buffer.new.items ≡ answer (reply_by saved outcome)) }
 {
     buffer.clear();
-    match told_number(&outcome) {
-        Some((front, number)) => put_number(buffer, front, number),
-        None => put_replied(alloc, buffer, &outcome),
+    // A number is what `get` tells most often.
+    if let Outcome::Value(Ok(Value::Int(number))) = &outcome {
+        return put_number(buffer, "{\"value\":", *number);
     }
-}
-
-// The number that a command's call returned, if it returned one, and what stands before it in the answer.
-fn told_number(outcome: &Outcome) -> Option<(&'static str, i32)>
-    ensures { (saved : Data) → IfSome result (λ told. answer (reply_by saved outcome.now) ≡ told.0.now ++ (signed_decimal told.1 ++ codes "}\n")) }
-{
-    match outcome {
-        Outcome::Value(Ok(Value::Int(number))) => Some(("{\"value\":", *number)),
-        Outcome::Visits(Ok(visits)) => Some(("{\"visits\":", *visits)),
-        _ => None,
-    }
+    put_replied(alloc, buffer, &outcome)
 }
 
 // An answer that tells a number, without the writer of JSON.

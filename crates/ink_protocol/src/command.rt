@@ -144,13 +144,13 @@ fn choose_command(digits: &str) -> Option<LineCommand<'_>>
     Some(LineCommand::Choose { number })
 }
 
-fn jump_command(target: &str) -> Option<LineCommand<'_>>
-    ensures { option_map command_by result ≡ jump_of target.now }
+fn jump_command(path: &str) -> Option<LineCommand<'_>>
+    ensures { option_map command_by result ≡ jump_of path.now }
 {
-    if target.is_empty() {
+    if path.is_empty() {
         return None;
     }
-    Some(LineCommand::Jump { path: target })
+    Some(LineCommand::Jump { path })
 }
 
 // Out of the way of the others, since reading a value takes much of the stack.
