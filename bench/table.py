@@ -7,7 +7,7 @@
 A row is the difference of two sessions by its number of units: one with the work and one without it, so that starting the
 program and reading the story do not count. Instructions are counted by valgrind; they are the same in each run, whatever else
 the machine does. The last line tells what an instruction takes on this machine. bench/released.json has the instructions of
-the last release, which --store writes anew. docs/SPEED.md reads the table.
+the last release, which CHANGES.md names, and --store writes them anew. docs/SPEED.md reads the table.
 """
 import argparse
 import json

@@ -1,6 +1,6 @@
 #!/usr/bin/env python3
 """What the pages show is what comes of it: each block with lines `$ COMMAND` of README.md and docs/, and the scripts of HOST.md and
-DIFFERENCES.md.
+DIFFERENCES.md. And what the scripts tell of themselves by `--help`, and how the program ends when nobody reads its answers.
 
     tests/pages.py [PROGRAM]      the program is ./inkplay unless another is named
 
@@ -57,6 +57,27 @@ GAME = {"inkVersion": 21, "root": ["^Hello.", "\n", "ev", "str", "^Go.", "/str",
 REFUSED = {"inkVersion": 21, "root": ["done", {"kitchen": [["\n"] * 12 + [1.5, None], None]}]}
 
 
+def try_scripts(judge):
+    """What the scripts tell of themselves: first the words that the page has."""
+    for script, page in (("inkplay", "PROGRAM.md"), ("inkread", "READER.md")):
+        with open(os.path.join(toolchain.TOP, "docs", page), encoding="utf-8") as file:
+            usage = re.search(r"(?m)^    (%s .*\n)" % script, file.read()).group(1)
+        told, status, error = played("./%s --help" % script, toolchain.TOP)
+        judge(page, "./%s --help" % script, (told[:len(usage)], status, error), (usage, 0, ""))
+    for command, wanted in (("./start", 0), ("./start --help", 0), ("./start no_program", 2)):
+        judge("HOST.md", command, played(command, toolchain.TOP)[1], wanted)
+
+
+def try_lost_reader(judge, program):
+    """How the program ends where nobody reads its answers any more."""
+    with tempfile.TemporaryDirectory() as folder:
+        os.symlink(program, os.path.join(folder, "inkplay"))
+        with open(os.path.join(folder, "input"), "w", encoding="utf-8") as file:
+            file.write(json.dumps(GAME) + "\n" + "get gold\n" * 100000)
+        seen = played("./inkplay < input | head -1; exit ${PIPESTATUS[0]}", folder)
+    judge("PROTOCOL.md", "answers that nobody reads", seen, ('{"value":1}\n', 1, "inkplay: run fault: Write\n"))
+
+
 def main():
     program = os.path.abspath(sys.argv[1]) if len(sys.argv) > 1 else toolchain.player()
     held = wrong = 0
@@ -106,6 +127,8 @@ def main():
                 judge(name, "the script that shows what stands there", played(code, folder)[:2], ("1.5\n", 0))
                 told = played("./inkplay story.json", folder)
                 judge(name, "where the story is refused", told[2], "inkplay: story refused: Unsupported at kitchen.0.12\n")
+    try_scripts(judge)
+    try_lost_reader(judge, program)
     print("%d hold, %d do not" % (held, wrong))
     return 1 if wrong or not held else 0
 

@@ -18,6 +18,9 @@ use std::{io, mem};
 /// The input was served to its end.
 const SERVED: u8 = 0;
 
+/// A player whose functions and watchers are those of the words.
+type Playing = Player<Table, Script, Observer>;
+
 fn main(rt: HostRuntime) -> ExitCode {
     let alloc = rt.alloc();
     let Ok(words) = words(&rt) else {
@@ -85,7 +88,7 @@ fn serve_bytes<S: Source, T: Sink>(
 /// Serves the lines of the input to a player, which ends with them.
 fn serve_player<S: Source, T: Sink>(
     alloc: Global,
-    player: Player<Table, Script, Observer>,
+    player: Playing,
     source: &mut S,
     sink: &mut T,
 ) -> Result<(), RunFault> {
@@ -96,7 +99,7 @@ fn serve_player<S: Source, T: Sink>(
 }
 
 /// The program ends here, so that nothing of the story and the game has to be walked to be let go.
-fn leave(player: Player<Table, Script, Observer>) {
+fn leave(player: Playing) {
     mem::forget(player);
 }
 

@@ -11,16 +11,22 @@ mod settings;
 use desk::{Answering, ReaderDesk, reader_desk};
 use files::SaveFile;
 use ink_page::{Look, ask_for_the_rest};
-use ink_player::{Counting, Observer, Player, RunFault, Story, check, read_story};
+use ink_player::{Counting, Observer, Player, ReadRefusal, RunFault, Story, check, read_story};
 use ink_reader::Reader;
 use ink_words::{PlayDesk, Table, read_story_file, words};
 use lines::InputLines;
 use looks::look;
-use report::{refuse_file, refuse_memory, refuse_start, refuse_story, refuse_words, tell_run};
+use report::{ReadEnd, refuse_words, tell_end};
 use settings::{Settings, read_settings};
-use std::alloc::Global;
+use std::alloc::{AllocError, Global};
 use std::process::ExitCode;
 use std::{io, mem};
+
+/// The input was read to its end, or the reader quit.
+const SERVED: u8 = 0;
+
+/// A player whose functions and watchers are those of the words, and which asks the reader for the others.
+type Reading = Player<Table, Answering<HostRuntime>, Observer>;
 
 fn main(rt: HostRuntime) -> ExitCode {
     let alloc = rt.alloc();
@@ -32,72 +38,61 @@ fn main(rt: HostRuntime) -> ExitCode {
         return ExitCode::from(refuse_words(&rt));
     };
     let look = look(&rt, settings.tags);
-    ExitCode::from(read_file(rt, alloc, look, &settings, desk))
+    ExitCode::from(match read(rt, alloc, look, &settings, desk) {
+        Ok(()) => SERVED,
+        Err(end) => tell_end(&rt, alloc, look, settings.story, &end),
+    })
 }
 
-/// Reads the story of a file.
-fn read_file(
+/// Reads a story to the end of the input, or until the reader quits.
+fn read(
     rt: HostRuntime,
     alloc: Global,
     look: Look,
     settings: &Settings<'_>,
     desk: PlayDesk,
-) -> u8 {
-    match read_story_file(&rt, alloc, settings.story) {
-        Ok(bytes) => read_bytes(rt, alloc, look, settings, bytes.as_slice(), desk),
-        Err(_) => refuse_file(&rt, settings.story),
+) -> Result<(), ReadEnd> {
+    let Ok(bytes) = read_story_file(&rt, alloc, settings.story) else {
+        return Err(ReadEnd::File);
+    };
+    let story = accepted(alloc, bytes)?;
+    let desk = asking_desk(rt, alloc, look, &story, desk)?;
+    let player = opened(alloc, story, desk)?;
+    read_player(rt, alloc, look, settings, player)?;
+    Ok(())
+}
+
+/// The story that these bytes are, if it is accepted.
+fn accepted(alloc: Global, bytes: Vec<u8>) -> Result<Story, ReadEnd> {
+    match read_and_check(alloc, bytes.as_slice()) {
+        Ok(story) => Ok(story),
+        Err(refusal) => Err(ReadEnd::Story { bytes, refusal }),
     }
 }
 
-/// Reads the story that these bytes are, if it is accepted.
-fn read_bytes(
-    rt: HostRuntime,
-    alloc: Global,
-    look: Look,
-    settings: &Settings<'_>,
-    bytes: &[u8],
-    desk: PlayDesk,
-) -> u8 {
-    let raw = match read_story(alloc, bytes) {
-        Ok(raw) => raw,
-        Err(refusal) => return refuse_story(&rt, alloc, look, bytes, &refusal),
-    };
-    match check(alloc, raw) {
-        Ok(story) => bind_story(rt, alloc, look, settings, story, desk),
-        Err(refusal) => refuse_story(&rt, alloc, look, bytes, &refusal),
-    }
+fn read_and_check(alloc: Global, bytes: &[u8]) -> Result<Story, ReadRefusal> {
+    let raw = read_story(alloc, bytes)?;
+    check(alloc, raw)
 }
 
-/// Binds what the words say, and questions to the reader for the other functions that the story calls.
-fn bind_story(
+/// The desk with what the words bind, and with questions to the reader for the other functions that the story calls.
+fn asking_desk(
     rt: HostRuntime,
     alloc: Global,
     look: Look,
-    settings: &Settings<'_>,
-    story: Story,
+    story: &Story,
     desk: PlayDesk,
-) -> u8 {
-    let Ok(mut desk) = reader_desk(alloc, desk) else {
-        return refuse_memory(&rt);
-    };
-    let Ok(()) = ask_for_the_rest(alloc, rt, look, &story, &mut desk) else {
-        return refuse_memory(&rt);
-    };
-    open_story(rt, alloc, look, settings, story, desk)
+) -> Result<ReaderDesk<HostRuntime>, AllocError> {
+    let mut desk = reader_desk(alloc, desk)?;
+    ask_for_the_rest(alloc, rt, look, story, &mut desk)?;
+    Ok(desk)
 }
 
-/// Opens the story, and reads it.
-fn open_story(
-    rt: HostRuntime,
-    alloc: Global,
-    look: Look,
-    settings: &Settings<'_>,
-    story: Story,
-    desk: ReaderDesk<HostRuntime>,
-) -> u8 {
+/// The player at the story's start.
+fn opened(alloc: Global, story: Story, desk: ReaderDesk<HostRuntime>) -> Result<Reading, ReadEnd> {
     match Player::open(alloc, story, desk) {
-        Ok(player) => tell_run(&rt, read_player(rt, alloc, look, settings, player)),
-        Err(end) => refuse_start(&rt, end.fault),
+        Ok(player) => Ok(player),
+        Err(end) => Err(ReadEnd::Start(end.fault)),
     }
 }
 
@@ -107,7 +102,7 @@ fn read_player(
     alloc: Global,
     look: Look,
     settings: &Settings<'_>,
-    player: Player<Table, Answering<HostRuntime>, Observer>,
+    player: Reading,
 ) -> Result<(), RunFault> {
     let mut reader = Reader::new(alloc, player, look, settings.saves);
     let mut shelf = SaveFile {
