@@ -66,6 +66,9 @@ def try_scripts(judge):
         judge(page, "./%s --help" % script, (told[:len(usage)], status, error), (usage, 0, ""))
     for command, wanted in (("./start", 0), ("./start --help", 0), ("./start no_program", 2)):
         judge("HOST.md", command, played(command, toolchain.TOP)[1], wanted)
+    left = [os.path.join(folder, name) for folder, _, names in os.walk(os.path.join(toolchain.TOP, "out"))
+            for name in names if name in ("crates.txt", ".git") or name.endswith((".rt", ".antt"))]
+    judge("DECISIONS.md", "what start leaves in out/ keeps no ./check from beginning", left, [])
 
 
 def try_lost_reader(judge, program):

@@ -17,24 +17,20 @@ def rt():
     return os.path.realpath(found)
 
 
-def program(crate, words=()):
-    """The path of a crate's program, which is proved and built first where something has changed: rt runs it with these
-    words. Ends with status 2 where there is none then."""
-    folder = os.path.join(TOP, "crates", crate)
-    built = os.path.join(folder, "out", crate)
-    command = [rt(), "run"] + (["--"] + list(words) if words else [])
-    done = subprocess.run(command, cwd=folder, stdin=subprocess.DEVNULL, stdout=subprocess.DEVNULL, stderr=subprocess.PIPE)
+def program(crate, words=(), lines=b""):
+    """The path of a crate's program, which `start` proves and builds first where it is not up to date, and then runs with these
+    words and lines. Ends with status 1 where it cannot be built."""
+    built = os.path.join(TOP, "out", crate, crate)
+    subprocess.run([os.path.join(TOP, "start"), crate, *words], cwd=os.path.join(TOP, "crates", crate), input=lines,
+                   stdout=subprocess.DEVNULL)
     if not os.path.exists(built):
-        sys.exit("%s: %s is not built\n%s" % (os.path.basename(sys.argv[0]), crate, done.stderr.decode()[-2000:]))
+        sys.exit("%s: %s is not built" % (os.path.basename(sys.argv[0]), crate))
     return built
 
 
 def player():
-    """The path of the program that plays stories, which ./inkplay proves and builds first where something has changed."""
-    done = subprocess.run([os.path.join(TOP, "inkplay")], input=b'{"inkVersion":21,"root":["done",null]}\n', stdout=subprocess.DEVNULL)
-    if done.returncode:
-        sys.exit("%s: inkplay is not built" % os.path.basename(sys.argv[0]))
-    return os.path.join(TOP, "out/inkplay/inkplay/crates/inkplay/out/inkplay")
+    """The path of the program that plays stories, built likewise."""
+    return program("inkplay", lines=b'{"inkVersion":21,"root":["done",null]}\n')
 
 
 # Which program runs the tables whose names begin so (docs/TABLES.md).
