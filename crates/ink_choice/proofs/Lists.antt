@@ -1,5 +1,5 @@
 -- Lists of choices, seen one after another.
-use Rattle.std.proofs.Common.{◌≡◌, ◌≢◌, ◌⊎◌, ◌∙◌, ℕ, zero, suc, ◌+◌, ◌<◌, ◌≤◌, Bool, true, false, not, ◌||◌, if◌then◌else◌, List, [], ◌∷◌, ◌++◌, length, map, get_or, slice_get, take, drop, Option, Some, None, Result, Ok, Err, Vec, vec_capacity, vec_len, nat_le, ◌==◌, option_map, ap, sym, refl, append_assoc, add-one, subst, arith, inl, inr}
+use Rattle.std.proofs.Common.{◌≡◌, ◌≢◌, ◌⊎◌, ◌∙◌, ℕ, zero, suc, ◌+◌, ◌<◌, ◌≤◌, Bool, true, false, not, ◌||◌, if◌then◌else◌, List, [], ◌∷◌, ◌++◌, length, map, get_or, slice_get, take, drop, Option, Some, None, Result, Ok, Err, Vec, vec_len, nat_le, ◌==◌, option_map, ap, sym, refl, append_assoc, add-one, subst, arith, inl, inr}
 use Rattle.std.specs.List.{remove}
 use Rattle.std.specs.Result.{OnErr}
 use Rattle.std.proofs.lemmas.Bool.{cases_Bool, le-leb, le-ltb, lt-leb, lt-ltb, not-false, not-true}
@@ -17,9 +17,6 @@ use Rattle.ink_model.specs.declared.passage.Shown.{Shown}
 -- an index within a list is within its length
 pub in_list : {A L : Type 0} (v : Vec A L) (xs : List A) (i : ℕ) → v.items ≡ xs → i < length xs → i < vec_len v
 in_list v xs i same h = omega (arith, v.ok.0, ap length same, h)
-
-pub room_left : {A L : Type 0} (v : Vec A L) (xs : List A) → v.items ≡ xs → length xs < vec_capacity v → vec_len v < vec_capacity v
-room_left v xs same h = omega (arith, v.ok.0, ap length same, h)
 
 pub on_err : {T E X : Type 0} (r : Result T E) → X → OnErr r X
 on_err (Ok t) x = tt
@@ -151,10 +148,6 @@ module _ {P : Type 0} where
 
   pub too_many : (cs : List (ChoiceOf P)) → MAX_CHOICES < length cs → None ≡ (if nat_le (length cs) MAX_CHOICES then Some cs else None)
   too_many cs h = rw (lt-leb (length cs) MAX_CHOICES h) refl
-
-  -- there is no room for one more
-  pub full : (c : ChoiceOf P) (cs : List (ChoiceOf P)) → MAX_CHOICES ≤ length cs → Grows {U = Unit} (added c cs) cs cs (Err TooDeep)
-  full c cs h = rw (le-ltb (length cs) MAX_CHOICES h) (inl refl, refl)
 
   -- there is room for one more, and it is added, or memory is refused
   pub one_more : (c : ChoiceOf P) (cs new : List (ChoiceOf P)) (u : Unit) → length cs < MAX_CHOICES → new ≡ cs ++ c ∷ [] → Grows {U = Unit} (added c cs) cs new (Ok u)

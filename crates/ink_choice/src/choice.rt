@@ -58,6 +58,7 @@ pub(crate) fn copied_text(alloc: Global, text: &Text) -> Result<Text, AllocError
 }
 
 /// A list of the same tags, which are shared. The one error is a refused request for memory, which no tags never make.
+#[inline(always)]
 pub(crate) fn copied_tags(
     alloc: Global,
     tags: &Seq<Shared<Text>>,

@@ -1,6 +1,6 @@
 //! The choices that are offered.
 
-ghost use Rattle.std.specs.Prelude.{◌≡◌, ◌≢◌, ◌≤◌, ◌<◌, ◌+◌, ◌∷◌, ◌++◌, ◌||◌, ◌⊎◌, [], None, Some, drop, false, is_some, not, length, map, option_map, remove, slice_get, slice_index_or, take, true, vec_capacity, IfErr, IfNone, IfOk, OnOk, OnErr};
+ghost use Rattle.std.specs.Prelude.{◌≡◌, ◌≢◌, ◌≤◌, ◌<◌, ◌+◌, ◌∷◌, ◌++◌, ◌||◌, ◌⊎◌, [], None, Some, drop, false, is_some, not, length, map, option_map, remove, slice_get, slice_index_or, string_bytes, string_len, take, true, vec_capacity, IfErr, IfNone, IfOk, OnOk, OnErr};
 ghost use Rattle.ink_model.specs.declared.limits.TheConstants.{MAX_CHOICES};
 ghost use Rattle.ink_choice.specs.Undo.{choices_back, choices_spare, choices_stood};
 ghost use Rattle.ink_choice.specs.Outcomes.{FindsIndex, Takes};
@@ -18,16 +18,20 @@ use std::alloc::{AllocError, Global};
 use std::marker::Model;
 use std::mem;
 
+/// The memory of a text that went is kept where it is no more than so many bytes.
+const KEPT_TEXT: usize = 1024;
+
 /// Choices, the invisible ones among them, in the order in which they were made: 1,000 at the most; and while a mark stands the
 /// trail of what they were. A contract sees the list and the trail.
 ///
 /// `settled` says how many of the first ones have no number of an Enter in their threads, so that the end of a line looks only at
-/// those behind them.
+/// those behind them. `texts` has the memory of texts of choices that went, so that those to come need not ask for any.
 #[derive(Drop)]
 pub struct Choices<P> {
     pub(crate) items: Vec<Choice<P>>,
     pub(crate) settled: usize,
     pub(crate) trail: Trail<ChoicePair<P>>,
+    pub(crate) texts: Vec<String>,
 }
 
 impl<P> Model for Choices<P> {
@@ -56,6 +60,7 @@ impl<P: Copy> Choices<P> {
             items: Vec::new(alloc),
             settled: 0,
             trail: Trail::new(alloc),
+            texts: Vec::new(alloc),
         }
     }
 
@@ -65,6 +70,33 @@ impl<P: Copy> Choices<P> {
         ensures most { result ≤ MAX_CHOICES }
     {
         self.items.len()
+    }
+
+    /// A text without characters, in the memory of one that went where there is one.
+    #[inline(always)]
+    pub(crate) fn empty_text(&mut self) -> String
+        ensures bytes { string_bytes result ≡ [] }
+        ensures len { string_len result ≡ 0 }
+        ensures same { self.new ≡ self.old }
+    {
+        let Some(text) = self.texts.pop() else {
+            return self.new_text();
+        };
+        let mut text = text;
+        text.clear();
+        text
+    }
+
+    // The same where none went.
+    #[cold]
+    #[inline(never)]
+    fn new_text(&mut self) -> String
+        ensures bytes { string_bytes result ≡ [] }
+        ensures len { string_len result ≡ 0 }
+        ensures same { self.new ≡ self.old }
+    {
+        make_room(&mut self.texts, self.items.len() + 1);
+        String::new(*self.items.allocator())
     }
 
     /// Adds a choice behind the others, which is one change of a cell. `TooDeep` where there are 1,000; `OutOfMemory` for a refused
@@ -272,7 +304,7 @@ impl<P: Copy> Choices<P> {
             self.clear_marked();
         } else {
             self.settled = 0;
-            end_all(&mut self.items);
+            end_all(&mut self.items, &mut self.texts);
         }
     }
 
@@ -348,19 +380,36 @@ fn note_added<P: Copy>(trail: &mut Trail<ChoicePair<P>>)
     trail.note(ChoicePair::Added, 1);
 }
 
-// All choices go. They are taken apart one by one, so that of what owns nothing nothing is copied.
-fn end_all<P: Copy>(items: &mut Vec<Choice<P>>)
+// All choices go. They are taken apart one by one, so that of what owns nothing nothing is copied. Their texts leave their memory.
+fn end_all<P: Copy>(items: &mut Vec<Choice<P>>, texts: &mut Vec<String>)
     ensures items { items.new.items ≡ [] }
     ensures room { vec_capacity items.new ≡ vec_capacity items.old }
 {
     while let Some(choice) = items.pop() {
         let Choice {
-            text: _,
+            text,
             tags: _,
             target: _,
             hidden: _,
             thread: _,
         } = choice;
+        keep(texts, text);
+    }
+}
+
+// Makes room to keep the memory of so many texts once they go. Where that is refused, their memory goes with them.
+fn make_room(texts: &mut Vec<String>, count: usize) {
+    if texts.capacity() < count {
+        let _room = texts.reserve(count);
+    }
+}
+
+// A text goes, and its memory is kept where there is room for it and it is not much.
+#[inline(always)]
+fn keep(texts: &mut Vec<String>, text: Text) {
+    let text = text.into_string();
+    if texts.len() < texts.capacity() && text.capacity() <= KEPT_TEXT {
+        texts.push_reserved(text);
     }
 }
 

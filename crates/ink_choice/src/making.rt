@@ -11,7 +11,9 @@ ghost use Rattle.ink_value.specs.Undo.{stack_back, stack_spare, stack_stood};
 
 use crate::choice::Choice;
 use crate::choices::Choices;
-use crate::operands::{Operands, find_operands, pop_all, pop_ready, push_tags, ready_to_pop};
+use crate::operands::{
+    Operands, find_operands, is_tag, pop_all, pop_ready, push_tags, ready_to_pop,
+};
 use crate::texts::joined;
 use crate::undo::ChoicePair;
 use ink_model::choice_flags::{is_invisible_default, is_once_only};
@@ -98,7 +100,8 @@ pub fn add_made<P: Copy>(
         };
         return Ok(());
     }
-    let text = match joined(alloc, operands.start.text, operands.choice_only.text) {
+    let empty = choices.empty_text();
+    let text = match joined(empty, operands.start.text, operands.choice_only.text) {
         Ok(text) => text,
         Err(fault) => return Err(fault),
     };
@@ -141,7 +144,8 @@ fn choice_of<P: Copy>(
     ensures { let choice = rules.choice flags target threads.now.threads.thread (operands_of (reverse stack.now.items) operands.now) in
         MakesWith choice.text (rules.choice_asks choice) choice result }
 {
-    match joined(alloc, operands.start.text, operands.choice_only.text) {
+    let empty = String::new(alloc);
+    match joined(empty, operands.start.text, operands.choice_only.text) {
         Ok(text) => {
             let Ok(tags) = tags_of(alloc, stack, operands) else {
                 return Err(Fault::OutOfMemory);
@@ -172,6 +176,9 @@ fn tags_of(
     ensures ok { IfOk result (λ tags. tags ≡ choice_tags (operands_of (reverse stack.now.items) operands.now)) }
     ensures memory { OnErr result (has_any (choice_tags (operands_of (reverse stack.now.items) operands.now)) ≡ true) }
 {
+    if !is_tag(stack, operands.choice_only.tags) && !is_tag(stack, operands.start.tags) {
+        return Ok(Seq::new(alloc));
+    }
     let mut tags = Vec::new(alloc);
     push_tags(&mut tags, stack, operands.choice_only.tags)?;
     push_tags(&mut tags, stack, operands.start.tags)?;

@@ -1,6 +1,7 @@
 //! What a choice point is to pop, found on the stack before anything is popped (docs/CHOICES.md, "What is popped").
 
 ghost use Rattle.std.specs.Prelude.{◌≡◌, ◌≢◌, ◌<◌, ◌≤◌, ◌+◌, ◌-◌, ◌^◌, length, [], ◌∷◌, ◌++◌, Ok, Err, drop, reverse, IfOk, IfSome, MatchOption, MatchResult, OnOk, OnErr};
+ghost use Rattle.std.specs.Bool.{OnFalse};
 ghost use Rattle.ink_choice.specs.Operands.{operands_of, words_of};
 ghost use Rattle.ink_model.specs.Choices.Making as rules;
 ghost use Rattle.ink_model.specs.Choices.Making.{tags_first};
@@ -125,6 +126,17 @@ pub(crate) fn push_tags(
         }
     }
     Ok(())
+}
+
+/// Whether a tag lies at a depth.
+#[inline(always)]
+pub(crate) fn is_tag(stack: &EvalStack, depth: usize) -> bool
+    ensures { OnFalse result (tags_first (drop depth (reverse stack.now.items)) ≡ []) }
+{
+    match value_at(stack, depth) {
+        Some(Value::Tag(_)) => true,
+        _ => false,
+    }
 }
 
 // The value at a depth, none where there is none so deep.

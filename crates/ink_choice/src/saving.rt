@@ -19,10 +19,12 @@ impl<P: Copy> Choices<P> {
     {
         if items.len() <= MAX_CHOICES {
             let trail = Trail::new(*items.allocator());
+            let texts = Vec::new(*items.allocator());
             Some(Choices {
                 items,
                 settled: 0,
                 trail,
+                texts,
             })
         } else {
             None

@@ -1,17 +1,18 @@
 //! The text of a choice (docs/CHOICES.md, "The text").
 
-ghost use Rattle.std.specs.Prelude.{◌≡◌, ◌++◌};
+ghost use Rattle.std.specs.Prelude.{◌≡◌, ◌++◌, [], string_bytes, string_len};
 ghost use Rattle.std.specs.List.{prefix_len, suffix_len};
 ghost use Rattle.ink_model.specs.Text.Bytes.{is_blank, trimmed, without};
 ghost use Rattle.ink_model.specs.Choices.Making.{has_any, trimmed_text};
 ghost use Rattle.ink_choice.specs.Outcomes.{MakesWith};
 
 use ink_model::{Fault, MAX_TEXT, Text};
-use std::alloc::Global;
 
-/// Both texts as one, without the blanks at its ends. `TooDeep` where that is longer than a text may be; `OutOfMemory` for a
-/// refused request for memory, which an empty text never makes.
-pub(crate) fn joined(alloc: Global, start: &str, choice_only: &str) -> Result<Text, Fault>
+/// Both texts as one, without the blanks at its ends, written into an empty one. `TooDeep` where that is longer than a text may be;
+/// `OutOfMemory` for a refused request for memory, which an empty text never makes.
+pub(crate) fn joined(empty: String, start: &str, choice_only: &str) -> Result<Text, Fault>
+    requires bytes { string_bytes empty ≡ [] }
+    requires len { string_len empty ≡ 0 }
     ensures { let text = trimmed_text (start.now ++ choice_only.now) in MakesWith text (has_any text) text result }
 {
     let (start, choice_only) = trim_both(start, choice_only);
@@ -19,7 +20,8 @@ pub(crate) fn joined(alloc: Global, start: &str, choice_only: &str) -> Result<Te
     if len > MAX_TEXT {
         return Err(Fault::TooDeep);
     }
-    let mut text = String::with_capacity(alloc, len)?;
+    let mut text = empty;
+    text.reserve(len)?;
     text.push_str(start)?;
     text.push_str(choice_only)?;
     Ok(Text::from_string(text))
