@@ -1,5 +1,5 @@
 -- Frames alone without temporaries.
-use Rattle.std.proofs.Common.{◌≡◌, ◌∙◌, ◌<◌, ◌++◌, ℕ, zero, suc, List, [], ◌∷◌, Option, Some, true, ap, arith, length, refl, reverse, sym, option_to_list, slice_get, slice_index_or}
+use Rattle.std.proofs.Common.{◌≡◌, ◌∙◌, ◌<◌, ◌≤◌, ◌++◌, ℕ, zero, suc, List, [], ◌∷◌, Option, Some, true, ap, arith, length, map, refl, reverse, sym, take, option_to_list, slice_get, slice_index_or}
 use Rattle.std.proofs.lemmas.List.{reverse-reverse}
 use Rattle.std.specs.Prelude.{unwrap_or}
 use Rattle.ink_stack.proofs.Common.{FrameOf, ThreadOf}
@@ -11,6 +11,9 @@ module _ {P : Type 0} where
   pub plain_is : (f : FrameOf P) (items : List (FrameOf P)) (p : Option P) (n : ℕ) → n ≡ length items → n ≡ 0 → is_bare f ≡ true → IsPlain (record { frame = f; below = reverse items; previous = p })
   plain_is f [] p n many none bare = record { temps = bare_none f bare; below = refl }
   plain_is f (x ∷ xs) p n many none bare = absurd (omega arith)
+
+  pub plain_of : (f : FrameOf P) (items : List (FrameOf P)) (p : Option P) → f.temps ≡ [] → items ≡ [] → IsPlain (record { frame = f; below = reverse items; previous = p })
+  plain_of f items p bare none = record { temps = bare; below = ap reverse none }
 
   -- a copy of it asks for no memory
   pub plain_fork : (t : ThreadOf P) → IsPlain t → ([], []) ≡ fork_of t
@@ -24,6 +27,14 @@ module _ {P : Type 0} where
 
   pub none_same : (xs ys : List (FrameOf P)) → reverse xs ≡ [] → reverse ys ≡ [] → ys ≡ xs
   none_same xs ys none nor = sym (reverse-reverse ys) ∙ ap reverse (nor ∙ sym none) ∙ reverse-reverse xs
+
+pub none_there : {A : Type 0} (xs : List A) → length xs ≤ 0 → xs ≡ []
+none_there [] few = refl
+none_there (x ∷ xs) few = absurd (omega arith)
+
+pub none_seen : {A B : Type 0} (f : A → B) (n : ℕ) → map f (take n []) ≡ []
+none_seen f zero = refl
+none_seen f (suc n) = refl
 
 -- the last one, by its index, is the one that is popped
 pub last_got : {A : Type 0} (xs : List A) (i : ℕ) (x : A) → slice_get xs i ≡ Some x → slice_index_or xs i x ≡ x

@@ -118,3 +118,6 @@ no_row name (r ∷ rs) h = by (name_order name r.0) refl (no_row name rs (λ j d
 pub row_here : (name : List ℕ) (rows : Values) (i : ℕ) (d : List ℕ × Value) → rows_rise name_order rows ≡ true → i < length rows → bytes_eq (get_or rows i d).0 name ≡ true
     → row name_order name rows ≡ Some (get_or rows i d).1
 row_here name rows i d rises inside same = (found_at name rows i d rises inside (same_names (get_or rows i d).0 name same)).1 d
+
+pub finds_here : (name : List ℕ) (rows : Values) (i : ℕ) (d : List ℕ × Value) → rows_rise name_order rows ≡ true → i < length rows → bytes_eq (get_or rows i d).0 name ≡ true → FindsName name rows (Ok i)
+finds_here name rows i d rises inside same = found_at name rows i d rises inside (same_names (get_or rows i d).0 name same)

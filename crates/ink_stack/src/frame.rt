@@ -185,6 +185,14 @@ impl<P: Copy> Frame<P> {
         self.temps.is_empty()
     }
 
+    /// Whether there are no temporaries, and no list that keeps memory for some.
+    #[inline(always)]
+    pub(crate) fn owns_nothing(&self) -> bool
+        ensures { OnTrue result (self.now.temps ≡ []) }
+    {
+        self.temps.owns_nothing()
+    }
+
     /// What it was pushed for.
     pub fn kind(&self) -> FrameKind
         ensures { result ≡ self.now.kind }
@@ -304,6 +312,16 @@ impl<P: Copy> Frame<P> {
         ensures back { IfOk result (λ was. temp_back was.0 was.1 self.new ≡ self.old) }
     {
         self.temps.set(name, value)
+    }
+
+    /// The same where what the name had before is not asked for.
+    #[inline(always)]
+    pub(crate) fn put_temp(&mut self, name: TempName<'_>, value: Value) -> Result<(), AllocError>
+        ensures ok { OnOk result (self.new ≡ with_row_in (text_of name.entry) value self.old) }
+        ensures err { OnErr result (self.new ≡ self.old) }
+        ensures memory { OnErr result (row name_order (text_of name.entry) self.old.temps ≡ None) }
+    {
+        self.temps.put(name, value)
     }
 
     // ---- what a mark needs

@@ -120,6 +120,17 @@ impl<P: Copy> Frames<P> {
         }
     }
 
+    /// Whether there is no list, as where there never was a frame: then nothing is let go with it.
+    #[inline(always)]
+    pub(crate) fn owns_nothing(&self) -> bool
+        ensures { OnTrue result (self.now.items ≡ []) }
+    {
+        if self.headers.capacity() == 0 && self.temps.capacity() == 0 {
+            return self.lowest.is_unshared();
+        }
+        false
+    }
+
     /// The header of the frame at an index.
     #[inline(always)]
     pub(crate) fn header_at(&self, index: usize) -> Header<P>

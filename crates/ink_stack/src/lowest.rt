@@ -1,6 +1,7 @@
 //! Headers that several lists of frames share.
 
 ghost use Rattle.std.specs.Prelude.{◌≡◌, [], ◌∷◌, ◌++◌, ◌<◌, ◌≤◌, ◌+◌, get_or, length, map, take, vec_capacity, IfOk, MatchOption};
+ghost use Rattle.std.specs.Bool.{OnTrue};
 ghost use Rattle.ink_stack.specs.Frames.{as_seen, items_of, unnumbered};
 ghost use Rattle.ink_stack.specs.declared.frame.Header.{Header};
 
@@ -49,6 +50,17 @@ impl<P: Copy> Lowest<P> {
         ensures { result ≡ length self.now }
     {
         self.count
+    }
+
+    /// Whether there is nothing that is shared.
+    #[inline(always)]
+    pub(crate) fn is_unshared(&self) -> bool
+        ensures { OnTrue result (self.now ≡ []) }
+    {
+        match &self.shared {
+            None => true,
+            Some(_) => false,
+        }
     }
 
     /// The header at an index.

@@ -163,6 +163,17 @@ impl<P: Copy> Running<P> {
         false
     }
 
+    /// Whether it is a frame alone without temporaries and without lists, as such a frame's copy is: then nothing is let go with it.
+    #[inline(always)]
+    pub(crate) fn owns_nothing(&self) -> bool
+        ensures { OnTrue result (IsPlain self.now.thread) }
+    {
+        if self.below.owns_nothing() {
+            return self.frame.owns_nothing();
+        }
+        false
+    }
+
     /// It becomes the same as another, where both are a frame alone without temporaries, and keeps its lists.
     #[inline(always)]
     pub(crate) fn copy_plain(&mut self, other: &Running<P>)
@@ -375,6 +386,29 @@ impl<P: Copy> Running<P> {
             return self.frame.set_temp(name, value);
         }
         self.below.set_temp(number - 1, name, value)
+    }
+
+    /// The same where what the name had before is not asked for.
+    pub(crate) fn put_temp(
+        &mut self,
+        number: usize,
+        name: TempName<'_>,
+        value: Value,
+    ) -> Result<(), AllocError>
+        requires from { 0 < number }
+        requires there { number ≤ frame_count self.old.thread }
+        ensures ok { OnOk result (self.new.thread ≡ with_temp number (text_of name.entry) value self.old.thread) }
+        ensures err { OnErr result (self.new.thread ≡ self.old.thread) }
+        ensures room { MoreRoom self.old.room self.new.room }
+        ensures memory { OnErr result (temp_in number (text_of name.entry) self.old.thread ≡ None) }
+    {
+        if number == self.frames() {
+            return self.frame.put_temp(name, value);
+        }
+        match self.set_temp(number, name, value) {
+            Ok(_was) => Ok(()),
+            Err(_) => Err(AllocError),
+        }
     }
 
     // ---- what a mark needs

@@ -1,6 +1,6 @@
 //! Where the rows of temporaries stand.
 
-ghost use Rattle.std.specs.Prelude.{◌≡◌, ◌≢◌, ◌<◌, ◌≤◌, ℕ, List, [], get_or, insert, length, remove, vec_capacity, IfOk, OnOk, OnErr};
+ghost use Rattle.std.specs.Prelude.{◌≡◌, ◌≢◌, ◌<◌, ◌≤◌, ℕ, List, [], bytes_eq, get_or, insert, length, remove, true, vec_capacity, IfOk, OnOk, OnErr};
 ghost use Rattle.std.specs.Bool.{OnTrue, OnFalse};
 ghost use Rattle.ink_model.specs.declared.value.Value.{Value};
 ghost use Rattle.ink_stack.specs.Cells.{value_at};
@@ -29,10 +29,16 @@ impl Drop for Rows {
     }
 }
 
-// A row goes. Numbers and truths own nothing, so that for them nothing is called.
+// A row goes.
 #[inline(always)]
 fn end_row(row: (Shared<Text>, Value)) {
     let (_name, value) = row;
+    let_go(value);
+}
+
+/// A value goes. Numbers and truths own nothing, so that for them nothing is called.
+#[inline(always)]
+pub(crate) fn let_go(value: Value) {
     match value {
         Value::Int(_) | Value::Bool(_) => {}
         value => end_value(value),
@@ -64,6 +70,26 @@ impl Rows {
             Rows::Empty => true,
             Rows::One(_) => false,
             Rows::Many(rows) => rows.is_empty(),
+        }
+    }
+
+    /// Whether there are none, and no list that keeps memory for some.
+    #[inline(always)]
+    pub(crate) fn is_unused(&self) -> bool
+        ensures { OnTrue result (rows_of self.now ≡ []) }
+    {
+        matches!(self, Rows::Empty)
+    }
+
+    /// Whether there is one row alone, which stands in place, and it has this name.
+    #[inline(always)]
+    pub(crate) fn is_only(&self, name: &str) -> bool
+        ensures some { OnTrue result (0 < length (rows_of self.now)) }
+        ensures same { (d : List ℕ × Value) → OnTrue result (bytes_eq (get_or (rows_of self.now) 0 d).0 name.now ≡ true) }
+    {
+        match self {
+            Rows::One(row) => row.0.as_str() == name,
+            Rows::Empty | Rows::Many(_) => false,
         }
     }
 

@@ -1,13 +1,13 @@
 //! The temporaries of a frame.
 
-ghost use Rattle.std.specs.Prelude.{◌≡◌, ◌≢◌, [], None, true, option_map, remove, IfOk, OnOk, OnErr};
+ghost use Rattle.std.specs.Prelude.{◌≡◌, ◌≢◌, [], ◌∷◌, None, true, option_map, remove, IfOk, OnOk, OnErr};
 ghost use Rattle.std.specs.Bool.{OnTrue, OnFalse};
 ghost use Rattle.ink_model.specs.Variables.Rows.{name_order, row, rows_rise, with_row};
 ghost use Rattle.ink_stack.specs.Cells.{temps_back, value_at};
 ghost use Rattle.ink_stack.specs.Rows.{FindsName};
 ghost use Rattle.ink_stack.specs.Temps.{text_of};
 
-use crate::temp_rows::{FEW, Rows};
+use crate::temp_rows::{FEW, Rows, let_go};
 use ink_model::{Shared, Text, Value};
 use std::alloc::{AllocError, Global};
 use std::cmp::Ordering;
@@ -88,6 +88,14 @@ impl Temps {
         self.rows.is_empty()
     }
 
+    /// Whether there are none, and no list that keeps memory for some.
+    #[inline(always)]
+    pub(crate) fn owns_nothing(&self) -> bool
+        ensures { OnTrue result (self.now ≡ []) }
+    {
+        self.rows.is_unused()
+    }
+
     /// No temporaries any more. A list of few keeps its memory, for those that come next.
     #[inline(always)]
     pub(crate) fn clear(&mut self)
@@ -144,6 +152,54 @@ impl Temps {
                 self.rows.insert(self.alloc, index, (name, value))?;
                 Ok((index, None))
             }
+        }
+    }
+
+    /// The same where what the name had before is not asked for. For a shared name that comes first, or has the only row, no other
+    /// function is called.
+    #[inline(always)]
+    pub(crate) fn put(&mut self, name: TempName<'_>, value: Value) -> Result<(), AllocError>
+        ensures ok { OnOk result (self.new ≡ with_row name_order (text_of name.entry) value self.old) }
+        ensures err { OnErr result (self.new ≡ self.old) }
+        ensures memory { OnErr result (row name_order (text_of name.entry) self.old ≡ None) }
+    {
+        let TempName::Shared(shared) = name else {
+            return self.put_any(name, value);
+        };
+        if self.rows.is_unused() {
+            return self.put_first(shared, value);
+        }
+        if !self.rows.is_only(shared.as_str()) {
+            return self.put_any(name, value);
+        }
+        let_go(self.rows.replace(0, value));
+        Ok(())
+    }
+
+    // The same of the first name, which is shared. The one error is a count of owners that is full.
+    #[inline(always)]
+    fn put_first(&mut self, name: &Shared<Text>, value: Value) -> Result<(), AllocError>
+        requires { self.old ≡ [] }
+        ensures ok { OnOk result (self.new ≡ (name.now, value) ∷ []) }
+        ensures err { OnErr result (self.new ≡ self.old) }
+    {
+        let Ok(name) = name.share() else {
+            return Err(AllocError);
+        };
+        self.rows = Rows::One((name, value));
+        Ok(())
+    }
+
+    // The same of any name. It is a call of its own, so that most are put without what others want.
+    #[inline(never)]
+    fn put_any(&mut self, name: TempName<'_>, value: Value) -> Result<(), AllocError>
+        ensures ok { OnOk result (self.new ≡ with_row name_order (text_of name.entry) value self.old) }
+        ensures err { OnErr result (self.new ≡ self.old) }
+        ensures memory { OnErr result (row name_order (text_of name.entry) self.old ≡ None) }
+    {
+        match self.set(name, value) {
+            Ok(_was) => Ok(()),
+            Err(_) => Err(AllocError),
         }
     }
 

@@ -573,9 +573,9 @@ impl<P: Copy> Threads<P> {
         if self.trail.is_marked() {
             return self.put_temp_marked(frame, name, value);
         }
-        let set = self.running.set_temp(frame, name, value);
+        let set = self.running.put_temp(frame, name, value);
         self.running.within();
-        let Ok(_was) = set else {
+        let Ok(_) = set else {
             return Err(Fault::OutOfMemory);
         };
         Ok(())
@@ -730,7 +730,7 @@ fn push_any<P: Copy>(
 }
 
 /// Drops the thread that runs, and the one below runs in its place; false where there is none. Where both are a frame alone without
-/// temporaries, as most are, the one below is copied over the other.
+/// temporaries, as most are, and the one below owns nothing, that is copied over the other, and nothing is let go.
 #[inline(always)]
 fn drop_top<P: Copy>(
     running: &mut Running<P>,
@@ -744,13 +744,15 @@ fn drop_top<P: Copy>(
     ensures room { vec_capacity below.new ≡ vec_capacity below.old }
 {
     match below.last() {
-        Some(next) if running.is_plain() && next.running.is_plain() => {
+        Some(next) if running.is_plain() && next.running.owns_nothing() => {
             running.copy_plain(&next.running);
         }
         _ => return drop_any(running, below, spare),
     }
     running.within();
-    let _next = below.pop();
+    // It owns nothing that would have to be let go.
+    let last = below.pop();
+    mem::forget(last);
     true
 }
 

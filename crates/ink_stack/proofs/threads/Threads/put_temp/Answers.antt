@@ -12,7 +12,7 @@ returns-then-is_marked g c =
 
 pub invariant_of-self : goal.invariant_of-self
 invariant_of-self g c =
-    (c.self.invariant.0, held-moved c.self.inside.trail.undo c.self.inside.running c.set_temp-set.new.self c.self.inside.below.items _ (sym c.is_marked.ensures ∙ c.if-is_marked.false) c.within.ensures c.self.invariant.1)
+    (c.self.invariant.0, held-moved c.self.inside.trail.undo c.self.inside.running c.put_temp-set.new.self c.self.inside.below.items _ (sym c.is_marked.ensures ∙ c.if-is_marked.false) c.within.ensures c.self.invariant.1)
 
 pub returns-in_default : goal.returns-in_default
 returns-in_default g c =
@@ -22,7 +22,7 @@ returns-in_default g c =
 
 pub invariant_of-self-2 : goal.invariant_of-self-2
 invariant_of-self-2 g c =
-    (c.self.invariant.0, held-moved c.self.inside.trail.undo c.self.inside.running c.set_temp-set.new.self c.self.inside.below.items _ (sym c.is_marked.ensures ∙ c.if-is_marked.false) c.within.ensures c.self.invariant.1)
+    (c.self.invariant.0, held-moved c.self.inside.trail.undo c.self.inside.running c.put_temp-set.new.self c.self.inside.below.items _ (sym c.is_marked.ensures ∙ c.if-is_marked.false) c.within.ensures c.self.invariant.1)
 
 pub returns : goal.returns
 returns g c =
@@ -31,5 +31,5 @@ returns g c =
     let ok = ap (λ t. record { thread = t; below = reverse c.self.inside.below.items }) c.in-Ok.ensures.ok in
     rw (← c.self.view_is) (record { ok = ok; fault = tt; kept = tt; memory = tt; trail = trail; pair = no_temp c.args.frame c.self.inside.trail none; stood = stood-of 1 _ _ trail; spare = spare-of 1 _ _ trail })
 
-pub set_temp-set-requires-clause-there : goal.set_temp-set-requires-clause-there
-set_temp-set-requires-clause-there g c = subst (λ v. c.args.frame ≤ frame_count v.threads.thread) (sym c.self.view_is) c.requires.there
+pub put_temp-set-requires-clause-there : goal.put_temp-set-requires-clause-there
+put_temp-set-requires-clause-there g c = subst (λ v. c.args.frame ≤ frame_count v.threads.thread) (sym c.self.view_is) c.requires.there
