@@ -158,8 +158,9 @@ pub fn call(
 
 /// A frame of this kind is popped. Flow goes on after its call, or lands at the place that is given, in the frame below: that is
 /// `returned` of Flow/Transfers.antt, and by `ReachesAs` threads, stack and page are as it leaves them, the fault is its fault, or
-/// it is `OutOfMemory` where memory is asked for. `BadPop` where the top frame is of another kind or the only one, else `BadMode` where another number of strings and tags is open than at its call; the
-/// faults of moving on where no place is given; `TooDeep` and `OutOfMemory` at a function's mark.
+/// it is `OutOfMemory` where memory is asked for. `BadPop` where the top frame is of another kind or the only one, else `BadMode`
+/// where another number of strings and tags is open than at its call; the faults of moving on where no place is given; `TooDeep`
+/// and `OutOfMemory` at a function's mark.
 pub fn return_frame(
     tree: &Tree,
     threads: &mut Threads<Spot>,

@@ -4,7 +4,7 @@ use Rattle.std.proofs.lemmas.List.{get_or-set_same, length-reverse, set-get_or, 
 use Rattle.ink_stack.proofs.Common.{BaseFirst, FrameOf, ThreadOf, FrameKind}
 use Rattle.ink_model.specs.Flow.Threads.{changed, frame_count}
 use Rattle.ink_stack.specs.Cells.{Within, with_frame}
-use Rattle.ink_stack.specs.Frames.{Room, is_bare, with_temps}
+use Rattle.ink_frames.specs.Frames.{Room, is_bare, with_temps}
 use Rattle.ink_stack.proofs.Bases.{base_same}
 use Rattle.ink_stack.proofs.Numbers.{changed_is, other_number, same_number, split_at, split_set, unlike}
 

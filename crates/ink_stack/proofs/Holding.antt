@@ -6,7 +6,7 @@ use Rattle.ink_trail.specs.Undo.{Undo, trail_of, with_count, with_pair}
 use Rattle.ink_stack.proofs.Backs.{gone-is, mode-is}
 use Rattle.ink_stack.proofs.Bases.{base_same}
 use Rattle.ink_stack.specs.Cells.{Within, ungone}
-use Rattle.ink_stack.specs.Frames.{FitsIn, MoreRoom, Room}
+use Rattle.ink_frames.specs.Frames.{FitsIn, MoreRoom, Room}
 use Rattle.ink_stack.specs.Undo.{HasGone, HasMode, Held, More, Rooms, StaysHeld, rooms_of, threads_back}
 use Rattle.ink_stack.specs.declared.undo.ThreadsPair.TheVariants.{Gone, Evaluating, ThreadPopped, Replaced}
 

@@ -1,17 +1,11 @@
 pub mod Common
-pub mod Mapping
 pub mod Reversing
 pub mod Runs
 pub mod Quietness
-pub mod Rows
-pub mod Rises
 pub mod Numbers
 pub mod Settling
 pub mod Bases
-pub mod Rising
-pub mod Searching
 pub mod BaseTests
-pub mod Cells
 pub mod Framing
 pub mod Staling
 pub mod Holding
@@ -20,9 +14,6 @@ pub mod Counting
 pub mod Unmarked
 pub mod Keeping
 pub mod Tops
-pub mod Flat
-pub mod Sharing
-pub mod Bounding
 pub mod Lengths
 pub mod Given
 pub mod Plain

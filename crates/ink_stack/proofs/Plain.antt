@@ -1,10 +1,10 @@
 -- Frames alone without temporaries.
-use Rattle.std.proofs.Common.{◌≡◌, ◌∙◌, ◌<◌, ◌≤◌, ◌++◌, ℕ, zero, suc, List, [], ◌∷◌, Option, Some, true, ap, arith, length, map, refl, reverse, sym, take, option_to_list, slice_get, slice_index_or}
+use Rattle.std.proofs.Common.{◌≡◌, ◌∙◌, ◌<◌, ◌++◌, ℕ, zero, suc, List, [], ◌∷◌, Option, Some, true, ap, arith, length, refl, reverse, sym, option_to_list, slice_get, slice_index_or}
 use Rattle.std.proofs.lemmas.List.{reverse-reverse}
 use Rattle.std.specs.Prelude.{unwrap_or}
 use Rattle.ink_stack.proofs.Common.{FrameOf, ThreadOf}
-use Rattle.ink_stack.proofs.Flat.{bare_none}
-use Rattle.ink_stack.specs.Frames.{is_bare}
+use Rattle.ink_frames.proofs.Flat.{bare_none}
+use Rattle.ink_frames.specs.Frames.{is_bare}
 use Rattle.ink_stack.specs.Running.{IsPlain, fork_of}
 
 module _ {P : Type 0} where
@@ -27,14 +27,6 @@ module _ {P : Type 0} where
 
   pub none_same : (xs ys : List (FrameOf P)) → reverse xs ≡ [] → reverse ys ≡ [] → ys ≡ xs
   none_same xs ys none nor = sym (reverse-reverse ys) ∙ ap reverse (nor ∙ sym none) ∙ reverse-reverse xs
-
-pub none_there : {A : Type 0} (xs : List A) → length xs ≤ 0 → xs ≡ []
-none_there [] few = refl
-none_there (x ∷ xs) few = absurd (omega arith)
-
-pub none_seen : {A B : Type 0} (f : A → B) (n : ℕ) → map f (take n []) ≡ []
-none_seen f zero = refl
-none_seen f (suc n) = refl
 
 -- the last one, by its index, is the one that is popped
 pub last_got : {A : Type 0} (xs : List A) (i : ℕ) (x : A) → slice_get xs i ≡ Some x → slice_index_or xs i x ≡ x

@@ -1,20 +1,12 @@
 -- Frames of which the lowest do not have the number of their Enter. In a list the bottom one is the first.
-use Rattle.std.proofs.Common.{◌≡◌, ◌∙◌, ◌≤◌, ◌+◌, ◌-◌, ℕ, zero, suc, List, [], ◌∷◌, ◌++◌, Bool, true, false, not, is_some, Option, Some, None, ap, append_assoc, arith, drop, get_or, if◌then◌else◌, length, map, nat_eq, refl, set, subst, sym, take}
-use Rattle.std.proofs.Math.Seq.{drop-append-add, take-append-add}
-use Rattle.ink_stack.proofs.Common.{FrameOf, Values, framed, unnumbered_frame, stale, Settled}
-use Rattle.ink_stack.specs.Frames.{unnumbered}
-use Rattle.ink_stack.specs.declared.frame.Header.{Header}
+use Rattle.std.proofs.Common.{◌≡◌, ◌∙◌, ◌≤◌, ℕ, zero, suc, List, [], ◌∷◌, ◌++◌, Bool, true, false, not, is_some, Option, Some, None, ap, arith, get_or, if◌then◌else◌, length, map, nat_eq, refl, set, sym}
+use Rattle.ink_stack.proofs.Common.{FrameOf, unnumbered_frame, stale, Settled}
 
 pub no_number : (o : Option ℕ) (none : Bool) → is_some o ≡ not none → none ≡ true → o ≡ None
 no_number None none is h = refl
 no_number (Some n) none is h = absurd (let e : true ≡ false = is ∙ ap not h in cc)
 
 module _ {P : Type 0} where
-  pub settled_within : (n : ℕ) (fs : List (FrameOf P)) → Settled n fs → n ≤ length fs
-  settled_within zero fs h = omega arith
-  settled_within (suc n) [] h = absurd h
-  settled_within (suc n) (f ∷ fs) h = omega (arith, settled_within n fs h.1)
-
   -- ---- a frame more, and fewer
 
   pub settled_below : (n : ℕ) (fs gs : List (FrameOf P)) → Settled n fs → Settled n (fs ++ gs)
@@ -59,19 +51,3 @@ module _ {P : Type 0} where
   settled_same zero (f ∷ fs) all h = absurd (omega arith)
   settled_same (suc n) (f ∷ fs) all h =
       ap (λ e. record f { enter = e } ∷ map unnumbered_frame fs) (sym h.0) ∙ ap (λ gs. f ∷ gs) (settled_same n fs (omega arith) h.1)
-
-  -- only from a header on
-  unnumbered_from : (n : ℕ) (hs : List (Header P)) (ts : List Values) → Settled n (framed hs ts) → take n hs ++ map unnumbered (drop n hs) ≡ map unnumbered hs
-  unnumbered_from zero hs ts h = refl
-  unnumbered_from (suc n) [] ts h = absurd h
-  unnumbered_from (suc n) (x ∷ hs) [] h = ap (λ e. record x { enter = e } ∷ (take n hs ++ map unnumbered (drop n hs))) h.0 ∙ ap (λ xs. unnumbered x ∷ xs) (unnumbered_from n hs [] h.1)
-  unnumbered_from (suc n) (x ∷ hs) (t ∷ ts) h = ap (λ e. record x { enter = e } ∷ (take n hs ++ map unnumbered (drop n hs))) h.0 ∙ ap (λ xs. unnumbered x ∷ xs) (unnumbered_from n hs ts h.1)
-
-  pub unnumbered_own : (ls own : List (Header P)) (ts : List Values) (n : ℕ) → length ls ≤ n → Settled n (framed (ls ++ own) ts)
-      → ls ++ (take (n - length ls) own ++ map unnumbered (drop (n - length ls) own)) ≡ map unnumbered (ls ++ own)
-  unnumbered_own ls own ts n shared h =
-      let k = n - length ls in
-      let is : n ≡ length ls + k = omega arith in
-      sym (append_assoc ls (take k own) (map unnumbered (drop k own)))
-      ∙ (λ i. sym (take-append-add ls own k) i ++ map unnumbered (sym (drop-append-add ls own k) i))
-      ∙ unnumbered_from (length ls + k) (ls ++ own) ts (subst (λ m. Settled m (framed (ls ++ own) ts)) is h)

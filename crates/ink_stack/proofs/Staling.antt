@@ -4,7 +4,7 @@ use Rattle.ink_stack.proofs.Common.{nat_tests, RunningView}
 use Rattle.ink_model.specs.Flow.Frames.{FrameOf, ThreadOf, frame_numbered, is_function}
 use Rattle.ink_model.specs.Flow.Threads.{changed, stale, stale_run, staled}
 use Rattle.ink_stack.specs.Cells.{holds_of, with_frame}
-use Rattle.ink_stack.specs.Frames.{Room}
+use Rattle.ink_frames.specs.Frames.{Room}
 use Rattle.ink_stack.proofs.Bases.{stale_kind}
 use Rattle.ink_stack.proofs.Framing.{length-changed}
 use Rattle.ink_stack.proofs.Numbers.{other_number, same_number}

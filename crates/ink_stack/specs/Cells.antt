@@ -1,41 +1,16 @@
 -- What cells of a thread held, put back.
-use Rattle.std.specs.Prelude.{◌<◌, ℕ, zero, suc, List, [], ◌∷◌, length, remove, nat_eq, Bool, false, if◌then◌else◌, Option, Some, None}
+use Rattle.std.specs.Prelude.{◌<◌, ℕ, List, [], ◌∷◌, length, nat_eq, Bool, false, if◌then◌else◌, Option, Some, None}
+use Rattle.ink_frames.specs.Frames.{FitsIn, Room}
 use Rattle.ink_model.specs.Flow.Bases.{BaseFirst}
 use Rattle.ink_model.specs.Flow.Frames.{FrameOf, ThreadOf}
-use Rattle.ink_model.specs.Variables.Store.{Values}
 use Rattle.ink_model.specs.Flow.Threads.{changed, frame_count}
 use Rattle.ink_model.specs.declared.limits.TheConstants.{MAX_FRAMES}
-use Rattle.ink_model.specs.declared.value.Value.{Value}
-use Rattle.ink_stack.specs.Frames.{FitsIn, Room}
-
--- ---- temporaries
-
--- another value in the row at an index
-abbrev pub value_at : ℕ → Value → Values → Values
-value_at i v [] = []
-value_at zero v (r ∷ rs) = (r.0, v) ∷ rs
-value_at (suc i) v (r ∷ rs) = r ∷ value_at i v rs
-
--- the row at an index holds what it held; where that was nothing it goes
-abbrev pub temps_back : ℕ → Option Value → Values → Values
-temps_back i None rows = remove rows i
-temps_back i (Some v) rows = value_at i v rows
 
 module _ {P : Type 0} where
-  -- ---- frames
-
-  abbrev pub with_fresh : Bool → FrameOf P → FrameOf P
-  with_fresh b f = record f { fresh = b }
-
-  abbrev pub temp_back : ℕ → Option Value → FrameOf P → FrameOf P
-  temp_back i o f = record f { temps = temps_back i o f.temps }
-
   -- a test of a frame that there may be
   abbrev pub holds_of : (FrameOf P → Bool) → Option (FrameOf P) → Bool
   holds_of test None = false
   holds_of test (Some f) = test f
-
-  -- ---- a thread
 
   -- with a change of the frame of a number, which the bottom one has as 1
   abbrev pub with_frame : (FrameOf P → FrameOf P) → ℕ → ThreadOf P → ThreadOf P

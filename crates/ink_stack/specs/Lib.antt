@@ -2,10 +2,6 @@ pub mod Running
 pub mod Threads
 pub mod Outcomes
 pub mod Calls
-pub mod Quiet
-pub mod Rows
 pub mod Saving
 pub mod Cells
 pub mod Undo
-pub mod Temps
-pub mod Frames

@@ -2,7 +2,7 @@
 use Rattle.std.specs.Prelude.{◌≡◌, List, [], reverse}
 use Rattle.ink_model.specs.Flow.Frames.{FrameOf, ThreadOf, ThreadsOf}
 use Rattle.ink_model.specs.Variables.Store.{Values}
-use Rattle.ink_stack.specs.Frames.{Room}
+use Rattle.ink_frames.specs.Frames.{Room}
 
 -- its frames and its previous place, and the room for frames below the top one
 pub record RunningView (P : Type 0) : Type 0 where

@@ -1,10 +1,7 @@
 -- Frames and threads as they are given: the bottom one first.
-use Rattle.std.specs.Prelude.{ℕ, List, [], ◌∷◌, length, reverse, Bool, true, false, not, ◌&&◌, nat_le, if◌then◌else◌, Option, Some, None}
+use Rattle.std.specs.Prelude.{List, [], ◌∷◌, length, reverse, Bool, false, not, ◌&&◌, nat_le, if◌then◌else◌, Option, Some, None}
 use Rattle.std.specs.List.{list_all}
-use Rattle.std.specs.Ordering.{is_lt}
 use Rattle.ink_model.specs.Flow.Frames.{FrameOf, ThreadOf, ThreadsOf}
-use Rattle.ink_model.specs.Variables.Rows.{name_order}
-use Rattle.ink_model.specs.Variables.Store.{Values}
 use Rattle.ink_model.specs.Flow.Threads.{same_kind}
 use Rattle.ink_model.specs.declared.frame.FrameKind.{FrameKind}
 use Rattle.ink_model.specs.declared.frame.FrameKind.TheVariants.{Base}
@@ -37,14 +34,3 @@ module _ {P : Type 0} where
   -- the same of threads of which the bottom one is first, within their limit
   abbrev pub threads_from : List (ThreadOf P) → Option (ThreadsOf P)
   threads_from ts = if nat_le (length ts) MAX_THREADS then threads_with (reverse ts) else None
-
--- ---- rows one after another
-
-abbrev pub is_after : Option (List ℕ) → List ℕ → Bool
-is_after None name = true
-is_after (Some last) name = is_lt (name_order last name)
-
--- each row's name comes after the one before it
-abbrev pub rise_after : Option (List ℕ) → Values → Bool
-rise_after last [] = true
-rise_after last (r ∷ rs) = is_after last r.0 && rise_after (Some r.0) rs

@@ -5,8 +5,9 @@ use Rattle.ink_model.specs.declared.limits.TheConstants.{MAX_THREADS}
 use Rattle.ink_model.specs.declared.value.Value.{Value}
 use Rattle.ink_trail.specs.Stays.{Stays}
 use Rattle.ink_trail.specs.Undo.{TrailView, spare, stood_at, with_pair}
-use Rattle.ink_stack.specs.Cells.{Within, number_back, temp_back, ungone, unpopped, unpushed, with_frame, with_fresh}
-use Rattle.ink_stack.specs.Frames.{MoreRoom, Room}
+use Rattle.ink_frames.specs.Cells.{temp_back, with_fresh}
+use Rattle.ink_stack.specs.Cells.{Within, number_back, ungone, unpopped, unpushed, with_frame}
+use Rattle.ink_frames.specs.Frames.{MoreRoom, Room}
 use Rattle.ink_stack.specs.Running.{threads_in}
 use Rattle.ink_stack.specs.Threads.{ThreadsView}
 use Rattle.ink_stack.specs.declared.undo.ThreadsPair.{ThreadsPair}

@@ -2,8 +2,7 @@
 
 ghost use Rattle.std.specs.Prelude.{◌≡◌, []};
 
-use crate::frames::Frames;
-use crate::temps::Temps;
+use ink_frames::{Frames, Temps};
 use std::alloc::Global;
 use std::marker::Model;
 

@@ -3,20 +3,15 @@
 
 mod fork;
 mod frame;
-mod frames;
-mod listing;
-mod lowest;
 mod running;
 mod saving;
-mod spare;
-mod temp_rows;
-mod temps;
 mod thread;
 mod threads;
 mod undo;
 
 pub use fork::Fork;
-pub use frame::{CallKind, Frame};
+pub use frame::CallKind;
+pub use ink_frames::Frame;
 pub use running::Running;
 pub use thread::Thread;
 pub use threads::Threads;

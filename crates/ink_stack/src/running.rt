@@ -7,18 +7,17 @@ ghost use Rattle.ink_model.specs.Flow.Frames.{FrameOf, base_frame, fresh_depth, 
 ghost use Rattle.ink_model.specs.declared.limits.TheConstants.{MAX_FRAMES};
 ghost use Rattle.ink_model.specs.Flow.Threads.{frame_count, number_in, frame_popped, frame_pushed, same_kind, stale, stale_run, staled, temp_in, with_temp};
 ghost use Rattle.ink_stack.specs.Calls.{frame_kind};
-ghost use Rattle.ink_stack.specs.Cells.{Within, holds_of, number_back, temp_back, ungone, unpopped, unpushed, with_frame, with_fresh};
-ghost use Rattle.ink_stack.specs.Frames.{MoreRoom};
-ghost use Rattle.ink_stack.specs.Quiet.{IsQuiet, Settled};
+ghost use Rattle.ink_frames.specs.Cells.{temp_back, with_fresh};
+ghost use Rattle.ink_stack.specs.Cells.{Within, holds_of, number_back, ungone, unpopped, unpushed, with_frame};
+ghost use Rattle.ink_frames.specs.Frames.{MoreRoom};
+ghost use Rattle.ink_frames.specs.Quiet.{IsQuiet, Settled};
 ghost use Rattle.ink_stack.specs.Running.{IsPlain, fork_of};
-ghost use Rattle.ink_stack.specs.Temps.{text_of};
+ghost use Rattle.ink_frames.specs.Temps.{text_of};
 ghost use Rattle.ink_stack.specs.Outcomes.{Changes, Grows};
 
 use crate::fork::Fork;
-use crate::frame::{CallKind, Frame};
-use crate::frames::Frames;
-use crate::spare::Spare;
-use crate::temps::TempName;
+use crate::frame::CallKind;
+use ink_frames::{Frame, Frames, Spare, TempName};
 use ink_model::{Fault, FrameKind, MAX_FRAMES, Value};
 use std::alloc::{AllocError, Global};
 use std::marker::Model;
@@ -58,7 +57,7 @@ impl<P> Model for Running<P> {
     ghost use Rattle.std.specs.Prelude.{reverse, ◌<◌, length, IfSome};
     ghost use Rattle.ink_model.specs.Flow.Bases.{BaseFirst};
     ghost use Rattle.ink_model.specs.declared.limits.TheConstants.{MAX_FRAMES};
-    ghost use Rattle.ink_stack.specs.Quiet.{IsQuiet, Settled};
+    ghost use Rattle.ink_frames.specs.Quiet.{IsQuiet, Settled};
     ghost use Rattle.ink_stack.specs.Running.{RunningView};
 
     ghost Value = { RunningView P };

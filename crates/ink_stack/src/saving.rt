@@ -1,86 +1,18 @@
-//! Frames and threads as a save lends and gives them.
+//! Threads as a save lends and gives them.
 
-ghost use Rattle.std.specs.Prelude.{◌≡◌, ◌≢◌, ◌<◌, ◌≤◌, [], true, length, option_map, reverse, IfOk, IfSome, OnErr, Some, None, if◌then◌else◌};
+ghost use Rattle.std.specs.Prelude.{◌≡◌, ◌≢◌, ◌<◌, ◌≤◌, [], true, length, option_map, reverse, IfOk, IfSome, OnErr, None};
 ghost use Rattle.std.specs.List.{list_all};
-ghost use Rattle.ink_model.specs.Variables.Rows.{name_order, rows_rise};
 ghost use Rattle.ink_model.specs.declared.limits.TheConstants.{MAX_FRAMES, MAX_THREADS};
-ghost use Rattle.ink_stack.specs.Saving.{base_first, is_after, is_call, rise_after, thread_from, thread_with, threads_from, threads_with};
+ghost use Rattle.ink_stack.specs.Saving.{base_first, is_call, thread_from, thread_with, threads_from, threads_with};
 ghost use Rattle.ink_stack.specs.Undo.{threads_stood};
 
-use crate::frame::{Frame, Header};
-use crate::frames::Frames;
 use crate::running::Running;
-use crate::spare::Spare;
-use crate::temp_rows::Rows;
-use crate::temps::Temps;
 use crate::thread::Thread;
 use crate::threads::Threads;
-use ink_model::{FrameKind, MAX_FRAMES, MAX_THREADS, Shared, Text, Value};
+use ink_frames::{Frame, Frames, Spare};
+use ink_model::{FrameKind, MAX_FRAMES, MAX_THREADS};
 use ink_trail::Trail;
 use std::alloc::{AllocError, Global};
-use std::cmp::Ordering;
-
-impl<P: Copy> Frame<P> {
-    /// The frame that has these, and no number of an Enter; none where the temporaries do not rise by name. Takes no memory.
-    pub fn of(
-        alloc: Global,
-        kind: FrameKind,
-        place: Option<P>,
-        temps: Vec<(Shared<Text>, Value)>,
-        evaluating: bool,
-        fresh: bool,
-        depth: usize,
-    ) -> Option<Frame<P>>
-        ensures { result ≡ (if rows_rise name_order temps.items
-            then Some (record { kind = kind; place = place; temps = temps.items; evaluating = evaluating; fresh = fresh; depth = depth; enter = None })
-            else None) }
-    {
-        let temps = Temps::of(alloc, temps)?;
-        Some(Frame {
-            header: Header {
-                kind,
-                evaluating,
-                fresh,
-                depth,
-                place,
-                enter: None,
-            },
-            temps,
-        })
-    }
-
-    /// The temporaries, in the order of their names.
-    pub fn temps(&self) -> &[(Shared<Text>, Value)]
-        ensures rows { result.now ≡ self.now.temps }
-        ensures rise { rows_rise name_order self.now.temps ≡ true }
-    {
-        self.temps.rows()
-    }
-}
-
-impl Temps {
-    /// Takes rows; none where they do not rise by name.
-    fn of(alloc: Global, rows: Vec<(Shared<Text>, Value)>) -> Option<Temps>
-        ensures { result ≡ (if rows_rise name_order rows.items then Some rows.items else None) }
-    {
-        if rise(rows.as_slice()) {
-            Some(Temps {
-                rows: Rows::Many(rows),
-                alloc,
-            })
-        } else {
-            None
-        }
-    }
-
-    /// The rows, which rise by name.
-    fn rows(&self) -> &[(Shared<Text>, Value)]
-        ensures rows { result.now ≡ self.now }
-        ensures rise { rows_rise name_order self.now ≡ true }
-    {
-        self.rows.as_slice()
-    }
-}
 
 impl<P: Copy> Thread<P> {
     /// The thread of these frames, the bottom one first, and the place from which it last moved; none where there is no frame,
@@ -199,37 +131,6 @@ impl<P: Copy> Threads<P> {
         ensures { reverse result.now ≡ self.now.threads.below }
     {
         self.below.as_slice()
-    }
-}
-
-// Whether rows rise by name.
-fn rise(rows: &[(Shared<Text>, Value)]) -> bool
-    ensures { result ≡ rows_rise name_order rows.now }
-{
-    each_after(rows)
-}
-
-// Whether each row comes after the one before it.
-fn each_after(rows: &[(Shared<Text>, Value)]) -> bool
-    ensures { result ≡ rise_after None rows.now }
-{
-    let mut last: Option<&str> = None;
-    for row in rows {
-        let name = row.0.as_str();
-        if !is_after(last, name) {
-            return false;
-        }
-        last = Some(name);
-    }
-    true
-}
-
-fn is_after(last: Option<&str>, name: &str) -> bool
-    ensures { result ≡ is_after (option_map (λ n. n.now) last.entry) name.now }
-{
-    match last {
-        Some(last) => matches!(last.cmp(name), Ordering::Less),
-        None => true,
     }
 }
 

@@ -9,10 +9,10 @@ ghost use Rattle.ink_stack.specs.Undo.{HasGone, HasMode, Held, More, StaysHeld, 
 ghost use Rattle.ink_trail.specs.Parts.{PutsBack};
 ghost use Rattle.ink_trail.specs.Undo.{Trails, spare, trail_of, writes_of};
 
-use crate::frame::Frame;
 use crate::running::Running;
 use crate::thread::Thread;
 use crate::threads::Threads;
+use ink_frames::Frame;
 use ink_model::Value;
 use ink_trail::{Trail, Undo};
 use std::alloc::AllocError;

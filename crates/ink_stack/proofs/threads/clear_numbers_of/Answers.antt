@@ -1,7 +1,7 @@
 use Rattle.std.proofs.Common.{◌∙◌, ◌<◌, arith, length, refl}
 use borrow.Author.Rules.{scaled_Fits}
 use Rattle.ink_model.specs.Flow.Frames.{unnumbered_thread}
-use Rattle.ink_stack.proofs.Mapping.{map_step, map_done}
+use Rattle.ink_frames.proofs.Mapping.{map_step, map_done}
 use Rattle.ink_stack.proofs.threads.clear_numbers_of.Goals as goal
 
 pub loop-thread-preserved : goal.loop-thread-preserved

@@ -1,4 +1,4 @@
-use Rattle.std.proofs.Common.{◌≤◌, if◌then◌else◌, ◌<◌, ◌∙◌, subst}
+use Rattle.std.proofs.Common.{◌≤◌, ◌<◌, ◌∙◌, subst}
 use Rattle.ink_model.specs.declared.limits.TheConstants.{MAX_CHOICES}
 use Rattle.ink_choice.proofs.Lists.{not_too_many, too_many}
 use Rattle.ink_choice.proofs.choices.Choices.from_vec.Goals as goal

@@ -1,0 +1,12 @@
+pub mod Common
+pub mod Mapping
+pub mod Rows
+pub mod Rises
+pub mod Settling
+pub mod Rising
+pub mod Searching
+pub mod Cells
+pub mod Flat
+pub mod Sharing
+pub mod Bounding
+pub mod Lengths

@@ -1,6 +1,0 @@
-use Rattle.ink_stack.specs.Frames.{unnumbered}
-use Rattle.ink_stack.proofs.Mapping.{map_end}
-use Rattle.ink_stack.proofs.frames.clear_numbers_from.Goals as goal
-
-pub returns : goal.returns
-returns g c = map_end unnumbered c.args.headers.now c.clear_numbers_of.new.headers c.args.from c.requires c.clear_numbers_of.ensures

@@ -1,7 +1,0 @@
-use Rattle.std.proofs.Common.{take}
-use Rattle.ink_stack.specs.Frames.{items_of}
-use Rattle.ink_stack.proofs.Sharing.{unnumbered_seen}
-use Rattle.ink_stack.proofs.lowest.Lowest.clear_numbers.Goals as goal
-
-pub returns : goal.returns
-returns g c = rw (← c.self.view_is) (unnumbered_seen c.self.inside.unnumbered (take c.self.inside.count (items_of c.self.inside.shared)))
