@@ -31,11 +31,12 @@ pub(crate) enum Kind {
     Tag,
 }
 
-/// A string or a tag that is open. A contract sees its kind and its marks, the oldest first.
+/// A string or a tag that is open. A contract sees its kind and its marks, the oldest first. The section stands in a box, so that
+/// opening and closing move two words and not the section.
 #[derive(Drop)]
 pub struct Opened {
     kind: Kind,
-    marks: Section,
+    marks: Box<Section>,
 }
 
 impl Model for Opened {
@@ -45,32 +46,37 @@ impl Model for Opened {
 
     ghost Value = { Section };
 
-    ghost view = { λ o. record { kind = section_kind o.kind; marks = o.marks } };
+    ghost view = { λ o. record { kind = section_kind o.kind; marks = o.marks.value } };
 }
 
 impl Opened {
-    /// With no marks, which takes no memory; one that was closed is used again.
-    pub(crate) fn again(closed: Option<Opened>, alloc: Global, kind: Kind) -> Opened
-        ensures { result ≡ record { kind = section_kind kind; marks = [] } }
+    /// With no marks; one that was closed is used again. The one error is a refused request for memory, where none was.
+    #[inline(always)]
+    pub(crate) fn again(
+        closed: Option<Opened>,
+        alloc: Global,
+        kind: Kind,
+    ) -> Result<Opened, AllocError>
+        ensures { IfOk result (λ opened. opened ≡ record { kind = section_kind kind; marks = [] }) }
     {
         match closed {
             Some(mut opened) => {
                 opened.kind = kind;
                 opened.marks.clear();
-                opened
+                Ok(opened)
             }
             None => Opened::new(alloc, kind),
         }
     }
 
-    /// With no marks, which takes no memory.
-    fn new(alloc: Global, kind: Kind) -> Opened
-        ensures { result ≡ record { kind = section_kind kind; marks = [] } }
+    /// With no marks. The one error is a refused request for memory.
+    #[cold]
+    #[inline(never)]
+    fn new(alloc: Global, kind: Kind) -> Result<Opened, AllocError>
+        ensures { IfOk result (λ opened. opened ≡ record { kind = section_kind kind; marks = [] }) }
     {
-        Opened {
-            kind,
-            marks: Section::new(alloc),
-        }
+        let marks = Box::new(alloc, Section::new(alloc))?;
+        Ok(Opened { kind, marks })
     }
 
     #[inline(always)]

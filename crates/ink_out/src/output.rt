@@ -31,7 +31,7 @@ use crate::opened::{Kind, Opened, note, note_all, note_below, note_in, open_stat
 use crate::rooms::Rooms;
 use crate::section::Section;
 use crate::spares::Spares;
-use crate::undo::{OutputPair, let_go, note_number, put_one_back, unwrite};
+use crate::undo::{OutputPair, let_go, note_began, note_number, put_one_back, unwrite};
 use ink_model::{Fault, MAX_SECTIONS, MAX_TEXT, Seq, Shared, Text, Value};
 use ink_trail::{Trail, Undo};
 use smallvec::SmallVec;
@@ -290,9 +290,9 @@ impl Output {
             return Err(Fault::TooDeep);
         }
         self.spares.make_room()?;
+        let opened = Opened::again(self.spares.take(), self.alloc, kind)?;
         self.sections.reserve(1)?;
-        self.trail.add(OutputPair::Began, 1)?;
-        let opened = Opened::again(self.spares.take(), self.alloc, kind);
+        note_began(&mut self.trail)?;
         self.sections.push_reserved(opened);
         Ok(())
     }

@@ -1,16 +1,17 @@
 //! How changes of the text being written are put back.
 
-ghost use Rattle.std.specs.Prelude.{ℕ, ◌≡◌, ◌≤◌, ◌+◌, vec_capacity};
+ghost use Rattle.std.specs.Prelude.{ℕ, ◌≡◌, ◌≤◌, ◌+◌, OnErr, OnOk, vec_capacity};
 ghost use Rattle.ink_out.specs.Stands.{IsStateOf};
 ghost use Rattle.ink_out.specs.Undo.{Held, KeepsState, open_marks, output_back, room_of, with_open};
 ghost use Rattle.ink_out.specs.Writing.{page_of};
-ghost use Rattle.ink_trail.specs.Undo.{Ends, but_last, spare, with_pair};
+ghost use Rattle.ink_trail.specs.Undo.{Ends, KeepsTrail, but_last, spare, with_pair};
 
 use crate::opened::Opened;
 use crate::section::Section;
 use crate::spares::Spares;
 use crate::state::State;
 use ink_trail::Trail;
+use std::alloc::AllocError;
 
 /// A cell of the text, and what it held: a mark was written into what is open, where this was known before it; a section was
 /// opened, or closed; there was another next number; or the line went with its next number, or all sections.
@@ -34,6 +35,21 @@ pub(crate) fn note_number(trail: &mut Trail<OutputPair>, number: u64)
     if trail.is_marked() {
         trail.note(OutputPair::Numbered(number), 1);
     }
+}
+
+/// Notes that a section was opened, and makes room for that. Where no mark stands no pair is made. The one error is a refused request
+/// for memory, which is made only where a mark stands; nothing has changed then.
+#[inline(always)]
+pub(crate) fn note_began(trail: &mut Trail<OutputPair>) -> Result<(), AllocError>
+    ensures ok { OnOk result (trail.new.undo ≡ with_pair OutputPair.Began 1 trail.old.undo) }
+    ensures room { trail.old.room ≤ trail.new.room + 1 }
+    ensures spare { spare trail.old ≤ spare trail.new + 1 }
+    ensures err { OnErr result (KeepsTrail trail.old trail.new) }
+{
+    if trail.is_marked() {
+        return trail.add(OutputPair::Began, 1);
+    }
+    Ok(())
 }
 
 /// Puts a pair back. A section that is taken away is kept, to be opened again.
