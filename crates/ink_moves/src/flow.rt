@@ -122,6 +122,33 @@ fn move_out(
     }
 }
 
+/// The same where it is known that no place comes after, which is not asked again. Mostly a function ends, and flow goes on after
+/// its call.
+#[inline(always)]
+pub fn move_off(
+    tree: &Tree,
+    threads: &mut Threads<Spot>,
+    stack: &mut EvalStack,
+    output: &mut Output,
+) -> Result<StepEnd, Fault>
+    requires last { let s = story_tree tree.now in option_and_then (next_place s) (place_in (map_threads (place_of s) threads.old.threads)) ≡ None }
+    requires room { MOVING ≤ threads_spare threads.old }
+    ensures flow { let s = story_tree tree.now in let ts = map_threads (place_of s) threads.old.threads in let w = written stack.old output.old in
+        ReachesAs (moved_asks (next_place s) ts w) (moved_on (next_place s) ts w) (map_threads (place_of s) threads.new.threads) (written stack.new output.new) result }
+    ensures threads_mark { threads_stood threads.new ≡ threads_stood threads.old }
+    ensures stack_mark { stack_stood stack.new ≡ stack_stood stack.old }
+    ensures output_mark { output_stood output.new ≡ output_stood output.old }
+    ensures enough { 6 ≤ threads_spare threads.new }
+{
+    match threads.top().kind() {
+        FrameKind::Function => {
+            end_function(threads, stack, output)?;
+            move_on(tree, threads, stack, output)
+        }
+        FrameKind::Base | FrameKind::Tunnel => move_out(tree, threads, stack, output),
+    }
+}
+
 /// Flow goes to a place. Takes no memory.
 #[inline(always)]
 pub fn land(threads: &mut Threads<Spot>, place: Spot) -> StepEnd

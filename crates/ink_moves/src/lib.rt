@@ -4,5 +4,5 @@
 mod flow;
 
 pub use flow::{
-    MOVING, StepEnd, call, done, end, fork, land, move_on, move_to, next_of, return_frame,
+    MOVING, StepEnd, call, done, end, fork, land, move_off, move_on, move_to, next_of, return_frame,
 };

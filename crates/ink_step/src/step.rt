@@ -2,7 +2,7 @@
 
 ghost use Rattle.ink_value.specs.Undo.{stack_spare, stack_stood};
 ghost use Rattle.ink_stack.specs.Undo.{threads_spare};
-ghost use Rattle.std.specs.Prelude.{◌≡◌, ◌⊎◌, ◌||◌, Bool, List, true, false, Some, Ok, IfSome, OnOk, nat_lt, option_and_then, option_map, ◌≤◌, ◌+◌, IfErr, OnErr, length, ◌&&◌, is_some};
+ghost use Rattle.std.specs.Prelude.{◌≡◌, ◌⊎◌, ◌||◌, Bool, List, true, false, Some, Ok, IfSome, OnOk, nat_lt, option_and_then, option_map, ◌≤◌, ◌+◌, IfErr, OnErr, length, ◌&&◌, is_some, MatchOption, None};
 ghost use Rattle.ink_check.specs.Standing.{story_tree};
 ghost use Rattle.ink_host.specs.Desk.{Grew, bound_by};
 ghost use Rattle.ink_host.specs.Telling.{log_of};
@@ -53,7 +53,9 @@ use ink_effects::{
 };
 use ink_host::{Desk, PureFn, TurnFn, Watcher};
 use ink_model::{Control, Destination, Fault, FrameKind, Leaf, Shared, Text, Value};
-use ink_moves::{MOVING, StepEnd, done, end, fork, land, move_on, move_to, next_of, return_frame};
+use ink_moves::{
+    MOVING, StepEnd, done, end, fork, land, move_off, move_on, move_to, next_of, return_frame,
+};
 use ink_stack::CallKind;
 use ink_trail::Undo;
 use ink_tree::Spot;
@@ -653,7 +655,7 @@ impl Machine {
         ensures mark { stood_of self.new ≡ stood_of self.old }
     {
         let Some(next) = self.place_after(story, here) else {
-            return self.finish_next(story);
+            return self.finish_last(story);
         };
         self.go_to_next(story, next);
         Ok(StepEnd::Went)
@@ -663,8 +665,8 @@ impl Machine {
     #[inline(always)]
     fn place_after(&self, story: &Story, here: Spot) -> Option<Spot>
         requires at { self.now.flow.threads.threads.thread.frame.place ≡ Some here }
-        ensures { let s = story_tree story.now in
-            IfSome result (λ next. option_and_then (next_place s) (place_in (map_threads (place_of s) self.now.flow.threads.threads)) ≡ Some (place_of s next)) }
+        ensures { let s = story_tree story.now in let after = option_and_then (next_place s) (place_in (map_threads (place_of s) self.now.flow.threads.threads)) in
+            MatchOption result (after ≡ None) (λ next. after ≡ Some (place_of s next)) }
     {
         story.tree().next(here)
     }
@@ -802,6 +804,21 @@ impl Machine {
         self.finish_by(story, &mut transfer)
     }
 
+    // The same where it is known that no place comes after, which is not asked again.
+    #[inline(never)]
+    fn finish_last(&mut self, story: &Story) -> Result<StepEnd, Fault>
+        requires last { let s = story_tree story.now in option_and_then (next_place s) (place_in (map_threads (place_of s) self.old.flow.threads.threads)) ≡ None }
+        requires room { MOVING + 4 ≤ threads_spare self.old.flow.threads }
+        ensures ends { Finishes (story_tree story.now) self.old Transfer.Next self.new result }
+        ensures start { start_of self.new ≡ start_of self.old }
+        ensures own { NotesOwn 1 self.old.trail self.new.trail }
+        ensures aside { aside_in self.new ≡ aside_in self.old }
+        ensures mark { stood_of self.new ≡ stood_of self.old }
+    {
+        let mut transfer = Transfer::Next;
+        self.finish_where(story, &mut transfer, true)
+    }
+
     // The same where a thread forks.
     #[inline(never)]
     fn finish_fork(&mut self, story: &Story) -> Result<StepEnd, Fault>
@@ -852,13 +869,34 @@ impl Machine {
         ensures aside { aside_in self.new ≡ aside_in self.old }
         ensures mark { stood_of self.new ≡ stood_of self.old }
     {
-        let end = self.go(story, transfer)?;
+        self.finish_where(story, transfer, false)
+    }
+
+    /// The same, and `last` says that no place comes after, where that is known.
+    #[inline(always)]
+    fn finish_where(
+        &mut self,
+        story: &Story,
+        transfer: &mut Transfer<'_>,
+        last: bool,
+    ) -> Result<StepEnd, Fault>
+        requires last { let s = story_tree story.now in last ≡ true → option_and_then (next_place s) (place_in (map_threads (place_of s) self.old.flow.threads.threads)) ≡ None }
+        requires room { MOVING + 4 ≤ threads_spare self.old.flow.threads }
+        ensures ends { Finishes (story_tree story.now) self.old transfer.old self.new result }
+        ensures start { start_of self.new ≡ start_of self.old }
+        ensures own { NotesOwn 1 self.old.trail self.new.trail }
+        ensures aside { aside_in self.new ≡ aside_in self.old }
+        ensures mark { stood_of self.new ≡ stood_of self.old }
+    {
+        let end = self.go(story, transfer, last)?;
         self.store(transfer, end)
     }
 
-    /// Flow goes where a content sends it; where it stops it may follow a choice. No global is stored yet.
+    /// Flow goes where a content sends it; where it stops it may follow a choice. No global is stored yet. `last` says that no place
+    /// comes after, where that is known.
     #[inline(always)]
-    fn go(&mut self, story: &Story, transfer: &Transfer<'_>) -> Result<StepEnd, Fault>
+    fn go(&mut self, story: &Story, transfer: &Transfer<'_>, last: bool) -> Result<StepEnd, Fault>
+        requires last { let s = story_tree story.now in last ≡ true → option_and_then (next_place s) (place_in (map_threads (place_of s) self.old.flow.threads.threads)) ≡ None }
         requires room { MOVING + 4 ≤ threads_spare self.old.flow.threads }
         ensures ends { let s = story_tree story.now in (asks : Bool) (e : Effect) → Performs s asks e (fields_of (config_of s self.old)) (Ok transfer.now) → KeepsThreads s e self.old.flow.threads.threads self.old.flow.threads.threads → KeepsChoices s e self.old.flow.choices.items self.old.flow.choices.items
             → let o = moved s (unstored self.old.shared.globals.rows e) (config_of s self.old) in
@@ -869,7 +907,7 @@ impl Machine {
         ensures aside { aside_in self.new ≡ aside_in self.old }
         ensures mark { stood_of self.new ≡ stood_of self.old }
     {
-        match self.follow(story, transfer)? {
+        match self.follow(story, transfer, last)? {
             StepEnd::Stopped => self.follow_default(story),
             StepEnd::Went => Ok(StepEnd::Went),
             StepEnd::WantsCall => Ok(StepEnd::WantsCall),
@@ -940,9 +978,15 @@ impl Machine {
     }
 
     /// Flow goes where a content sends it. Temporaries that the content stores are set already, and what it offers is offered; a
-    /// global is stored after that.
+    /// global is stored after that. `last` says that no place comes after, where that is known.
     #[inline(always)]
-    fn follow(&mut self, story: &Story, transfer: &Transfer<'_>) -> Result<StepEnd, Fault>
+    fn follow(
+        &mut self,
+        story: &Story,
+        transfer: &Transfer<'_>,
+        last: bool,
+    ) -> Result<StepEnd, Fault>
+        requires last { let s = story_tree story.now in last ≡ true → option_and_then (next_place s) (place_in (map_threads (place_of s) self.old.flow.threads.threads)) ≡ None }
         requires room { MOVING + 4 ≤ threads_spare self.old.flow.threads }
         ensures ends { let s = story_tree story.now in (asks : Bool) (e : Effect) → Performs s asks e (fields_of (config_of s self.old)) (Ok transfer.now) → KeepsThreads s e self.old.flow.threads.threads self.old.flow.threads.threads → KeepsChoices s e self.old.flow.choices.items self.old.flow.choices.items
             → StepEnds (pressed s self.new || (asks || move_asks s e (config_of s self.old))) (moved s (unstored self.old.shared.globals.rows e) (config_of s self.old)) self.old.shared.globals.rows (config_of s self.new) result }
@@ -954,7 +998,12 @@ impl Machine {
         ensures enough { OnOk result (2 ≤ threads_spare self.new.flow.threads) }
     {
         match transfer {
-            Transfer::Next => self.go_on(story),
+            Transfer::Next => {
+                if last {
+                    return self.go_off(story);
+                }
+                self.go_on(story)
+            }
             Transfer::Wrote => {
                 self.end_freshness()?;
                 self.go_on(story)
@@ -1105,6 +1154,28 @@ impl Machine {
         ensures enough { 6 ≤ threads_spare self.new.flow.threads }
     {
         move_on(
+            story.tree(),
+            &mut self.flow.threads,
+            &mut self.flow.stack,
+            &mut self.output,
+        )
+    }
+
+    /// The same where no place comes after it.
+    #[inline(always)]
+    fn go_off(&mut self, story: &Story) -> Result<StepEnd, Fault>
+        requires last { let s = story_tree story.now in option_and_then (next_place s) (place_in (map_threads (place_of s) self.old.flow.threads.threads)) ≡ None }
+        requires room { MOVING ≤ threads_spare self.old.flow.threads }
+        ensures ends { let s = story_tree story.now in let c = config_of s self.old in
+            StepEnds (moved_asks (next_place s) c.flow.threads (written_in c)) (going (moved_on (next_place s)) c) self.old.shared.globals.rows (config_of s self.new) result }
+        ensures globals { self.new.shared.globals.rows ≡ self.old.shared.globals.rows }
+        ensures start { start_of self.new ≡ start_of self.old }
+        ensures own { self.new.trail ≡ self.old.trail }
+        ensures aside { aside_in self.new ≡ aside_in self.old }
+        ensures mark { stood_of self.new ≡ stood_of self.old }
+        ensures enough { 6 ≤ threads_spare self.new.flow.threads }
+    {
+        move_off(
             story.tree(),
             &mut self.flow.threads,
             &mut self.flow.stack,

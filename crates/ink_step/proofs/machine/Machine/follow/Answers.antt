@@ -14,13 +14,21 @@ use Rattle.ink_model.proofs.Maps.{is_last_map, staled_map}
 use Rattle.ink_step.proofs.Owned.{own_same}
 use Rattle.ink_step.proofs.machine.Machine.follow.Goals as goal
 
-pub returns-in-Next-clause-ends : goal.returns-in-Next-clause-ends
-returns-in-Next-clause-ends c asks e h has offers =
+pub returns-else-last-clause-ends : goal.returns-else-last-clause-ends
+returns-else-last-clause-ends c asks e h has offers =
     let s = story_tree c.args.story.now in
     let old = config_of s c.args.self.now in
     let new = config_of s c.go_on.new.self in
     goes_on s (pressed s c.go_on.new.self) asks old new c.go_on.result e (subst (λ t. Performs s asks e (fields_of old) (Ok t)) c.in-Next.is h) has offers
     (ends_more (pressed s c.go_on.new.self) _ (going (moved_on (next_place s)) old) _ new c.go_on.result (ends_more asks _ (going (moved_on (next_place s)) old) _ new c.go_on.result c.go_on.ensures.ends))
+
+pub returns-then-last-clause-ends : goal.returns-then-last-clause-ends
+returns-then-last-clause-ends c asks e h has offers =
+    let s = story_tree c.args.story.now in
+    let old = config_of s c.args.self.now in
+    let new = config_of s c.go_off.new.self in
+    goes_on s (pressed s c.go_off.new.self) asks old new c.go_off.result e (subst (λ t. Performs s asks e (fields_of old) (Ok t)) c.in-Next.is h) has offers
+    (ends_more (pressed s c.go_off.new.self) _ (going (moved_on (next_place s)) old) _ new c.go_off.result (ends_more asks _ (going (moved_on (next_place s)) old) _ new c.go_off.result c.go_off.ensures.ends))
 
 -- memory was refused for what a mark wants
 falls_short : (s : StoryTree) (old left : Machine) (f : Fault) (r : Result StepEnd Fault) (asks : Bool) (e : Effect) → r ≡ Err f → f ≡ OutOfMemory → pressed s left ≡ true → left.shared.globals.rows ≡ old.shared.globals.rows
@@ -205,8 +213,8 @@ returns-in_ok-change_safe-in-Done-clause-mark c =
 
 -- ---- room that is left
 
-pub returns-in-Next-clause-enough : goal.returns-in-Next-clause-enough
-returns-in-Next-clause-enough c = when_ok c.go_on.result (2 ≤ threads_spare c.go_on.new.self.flow.threads) (omega (arith, c.go_on.ensures.enough))
+pub returns-else-last-clause-enough : goal.returns-else-last-clause-enough
+returns-else-last-clause-enough c = when_ok c.go_on.result (2 ≤ threads_spare c.go_on.new.self.flow.threads) (omega (arith, c.go_on.ensures.enough))
 
 pub returns-in-Store-clause-enough : goal.returns-in-Store-clause-enough
 returns-in-Store-clause-enough c = when_ok c.go_on-in-Store.result (2 ≤ threads_spare c.go_on-in-Store.new.self.flow.threads) (omega (arith, c.go_on-in-Store.ensures.enough))
@@ -241,8 +249,11 @@ returns-in-Fork-clause-mark c = rw (c.fork.ensures.threads_mark, c.fork.ensures.
 
 -- ---- the own fields
 
-pub returns-in-Next-clause-own : goal.returns-in-Next-clause-own
-returns-in-Next-clause-own c = own_same 1 _ _ c.go_on.ensures.own
+pub returns-then-last-clause-own : goal.returns-then-last-clause-own
+returns-then-last-clause-own c = own_same 1 _ _ c.go_off.ensures.own
+
+pub returns-else-last-clause-own : goal.returns-else-last-clause-own
+returns-else-last-clause-own c = own_same 1 _ _ c.go_on.ensures.own
 
 pub returns-in_err-end_freshness-in-Wrote-clause-own : goal.returns-in_err-end_freshness-in-Wrote-clause-own
 returns-in_err-end_freshness-in-Wrote-clause-own c = own_same 1 _ _ (ap (λ (m : Machine). m.trail) c.end_freshness.ensures.same)

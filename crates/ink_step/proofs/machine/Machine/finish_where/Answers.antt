@@ -3,7 +3,7 @@ use Rattle.ink_step.proofs.Common.{story_tree, following, following_asks, fields
 use Rattle.ink_step.proofs.Follows.{ends_after, ends_any, kept_stays, offered_stay, or_assoc, or_whole}
 use Rattle.ink_step.proofs.Stopping.{broke_storing, ends_stored}
 use Rattle.ink_step.proofs.Owned.{own_behind}
-use Rattle.ink_step.proofs.machine.Machine.finish_by.Goals as goal
+use Rattle.ink_step.proofs.machine.Machine.finish_where.Goals as goal
 
 pub returns-in_err-end-clause-ends : goal.returns-in_err-end-clause-ends
 returns-in_err-end-clause-ends c old asking e performs keeps offers safely counted turned kept stores =
