@@ -1,2 +1,3 @@
 pub mod Scripts
+pub mod Simple
 pub mod Tables

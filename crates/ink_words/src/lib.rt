@@ -5,6 +5,7 @@
 mod binding;
 mod objects;
 mod options;
+mod simple;
 mod start;
 
 pub use binding::{PlayDesk, bind_words, read_words};

@@ -1,16 +1,26 @@
-use Rattle.std.proofs.Common.{◌∙◌, ap, option_map, sym, Some}
-use Rattle.ink_words.proofs.Scripted.{next_gift, scripted-more, scripted-or}
+use Rattle.std.proofs.Common.{◌≡◌, ◌∙◌, ◌∷◌, ◌++◌, [], refl, sym, Some}
+use Rattle.ink_words.specs.Scripts.{noted}
+use Rattle.ink_words.proofs.Scripted.{always_scripted, noted_after, of_answer, whole_after}
 use Rattle.ink_words.proofs.objects.ScriptTurnFn.call.Goals as goal
-
-pub invariant_of-self-in_default : goal.invariant_of-self-in_default
-invariant_of-self-in_default c =
-    let s = c.args.self.now in
-    let next = next_gift s.answers.items c.deref.result.now s.noted.log c.calls-turn.result.now c.get.result c.get.ensures.lookup c.deref.ensures.value c.calls-turn.ensures in
-    record { scripted = scripted-more s.answers.items s.noted.log c.open.new.self.log c.refuse.new.self.log _ c.open.ensures.log (ap (option_map (λ x. x.now)) (sym c.in_default.is) ∙ next) s.scripted c.refuse.ensures.noted }
 
 pub invariant_of-self-2 : goal.invariant_of-self-2
 invariant_of-self-2 c =
     let s = c.args.self.now in
-    let next = next_gift s.answers.items c.deref.result.now s.noted.log c.calls-turn.result.now c.get.result c.get.ensures.lookup c.deref.ensures.value c.calls-turn.ensures in
-    let gave = ap (λ g. Some g) c.in-Ok.ensures.copy ∙ ap (option_map (λ x. x.now)) (sym c.in-Some.is) ∙ next in
-    record { scripted = scripted-or s.answers.items s.noted.log c.open.new.self.log c.answer.new.self.log _ c.open.ensures.log gave s.scripted c.answer.result c.answer.ensures.noted c.answer.ensures.lost }
+    record {
+      whole = whole_after s.arguments.items c.add_copies.new.copies.items c.args.arguments.now s.turns.items c.reserve.new.self.items c.push_reserved.new.self.items _
+          s.whole refl c.in-Ok-add_copies.ensures.ok c.reserve.ensures.items c.push_reserved.ensures.items;
+      scripted = always_scripted s.answers.items c.add_copies.new.copies.items c.push_reserved.new.self.items;
+    }
+
+pub returns-in-Some-clause-answer : goal.returns-in-Some-clause-answer
+returns-in-Some-clause-answer c g is =
+    let s = c.args.self.now in
+    of_answer (λ a. noted s.answers.items c.add_copies.new.copies.items c.push_reserved.new.self.items ≡ noted s.answers.items s.arguments.items s.turns.items ++ record { stamp = c.args.stamp; arguments = c.args.arguments.now; gave = Some a } ∷ []) c.in-Some.given g is
+    (noted_after s.answers.items c.deref.result.now s.arguments.items c.add_copies.new.copies.items c.args.arguments.now s.turns.items c.reserve.new.self.items c.push_reserved.new.self.items _ c.len-turn.result c.get.result _
+    s.whole refl c.in-Ok-add_copies.ensures.ok c.reserve.ensures.items c.push_reserved.ensures.items c.get.ensures.lookup c.deref.ensures.value (c.len-turn.ensures ∙ s.turns.ok.0) (sym c.in-Some.is ∙ c.in-Ok.ensures))
+
+pub returns-in-None-clause-refused : goal.returns-in-None-clause-refused
+returns-in-None-clause-refused c is =
+    let s = c.args.self.now in
+    noted_after s.answers.items c.deref.result.now s.arguments.items c.add_copies.new.copies.items c.args.arguments.now s.turns.items c.reserve.new.self.items c.push_reserved.new.self.items _ c.len-turn.result c.get.result _
+    s.whole refl c.in-Ok-add_copies.ensures.ok c.reserve.ensures.items c.push_reserved.ensures.items c.get.ensures.lookup c.deref.ensures.value (c.len-turn.ensures ∙ s.turns.ok.0) (sym c.in-None.is ∙ c.in-Ok.ensures)
